@@ -1,0 +1,11 @@
+pub mod StopLemmas
+pub mod ReadingLemmas
+pub mod WordLemmas
+pub mod NumberLemmas
+pub mod TextLemmas
+pub mod Commands
+pub mod Texts
+pub mod Responses
+pub mod IdLemmas
+pub mod ReadingLaws
+pub mod Printing

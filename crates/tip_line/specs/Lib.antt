@@ -1,0 +1,11 @@
+pub mod Octets
+pub mod Stops
+pub mod Reading
+pub mod Buffered
+pub mod Words
+pub mod Ids
+pub mod Texts
+pub mod Version
+pub mod Command
+pub mod Response
+pub mod Refusal

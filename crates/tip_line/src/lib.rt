@@ -1,0 +1,29 @@
+//! The words of the Transaction Internet Protocol, version 3.0 (RFC 2371, sections 5, 11 and 13).
+#![tactic(auto)]
+
+mod buffer;
+mod command;
+mod fault;
+mod id;
+pub mod laws;
+mod lines;
+mod octets;
+mod parameters;
+mod realm;
+mod refusal;
+mod response;
+mod version;
+mod word;
+mod words;
+
+pub use command::{Command, CommandName};
+pub use fault::{ParseFault, WordFault};
+pub use id::{Id, IdParts};
+pub use lines::{Cause, Line, Lines};
+pub use realm::Realm;
+pub use refusal::Refusal;
+pub use response::{Response, ResponseName};
+pub use word::{Address, Word};
+
+#[cfg(test)]
+mod tests;
