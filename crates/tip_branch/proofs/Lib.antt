@@ -1,0 +1,5 @@
+pub mod Walks
+pub mod Accounting
+pub mod Places
+pub mod Keeping
+pub mod Enrolling

@@ -1,0 +1,15 @@
+use Rattle.std.proofs.Common.{◌≡◌, ◌≤◌, reverse, length, take, drop, vec_len, vec_capacity}
+use Rattle.tip_branch.specs.Members.{fresh_members}
+use Rattle.tip_branch.proofs.boxes.take_first.Given as goal
+
+abbrev pub invariant-loop-i : goal.invariant-loop-i
+invariant-loop-i g l = record {
+  noted : l.roll ≡ fresh_members 1 (take l.i (reverse l.initial.plans.items));
+  plans_left : reverse l.plans.items ≡ drop l.i (reverse l.initial.plans.items);
+  taken : l.into.items ≡ take l.i (reverse l.initial.from.items);
+  left : reverse l.from.items ≡ drop l.i (reverse l.initial.from.items);
+  counted : vec_len l.from ≡ vec_len l.plans;
+  enrolled : length l.roll ≡ l.i;
+  filled : vec_len l.into ≡ l.i;
+  room : l.count ≤ vec_capacity l.into;
+}

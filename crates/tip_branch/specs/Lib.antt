@@ -1,0 +1,9 @@
+pub mod Always
+pub mod Plans
+pub mod Standings
+pub mod Members
+pub mod Errands
+pub mod Accounts
+pub mod Notes
+pub mod Parties
+pub mod Lots

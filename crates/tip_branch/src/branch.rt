@@ -1,0 +1,114 @@
+//! What a branch is, what it may be told, and what its plan promises.
+
+ghost use Rattle.std.specs.Prelude.{◌≡◌, ◌≢◌};
+ghost use Rattle.tip_branch.specs.Plans.{planned_vote, planned_answer};
+ghost use Rattle.tip_branch.specs.Standings.{IsVoted, IsCommitted, aborted};
+ghost use Rattle.tip_branch.specs.declared.branch.Phase.TheVariants.{Active, Ready, Ended};
+
+/// What a branch answers when it is asked.
+#[derive(Clone, Copy, Debug, PartialEq, Eq, Drop)]
+pub enum Vote {
+    Yes,
+    No,
+    ReadOnly,
+}
+
+/// What a branch answers to a commit.
+#[derive(Clone, Copy, Debug, PartialEq, Eq, Drop)]
+pub enum Settled {
+    Done,
+    /// It stays ready, and is to be told again.
+    Later,
+}
+
+/// How far a branch has come.
+#[derive(Clone, Copy, Debug, PartialEq, Eq, Drop)]
+pub enum Phase {
+    Active,
+    /// It voted yes, and waits for the outcome.
+    Ready,
+    Ended,
+}
+
+/// How a branch promises to answer. Its plan never changes.
+#[derive(Clone, Copy, Debug, PartialEq, Eq, Drop)]
+pub enum Plan {
+    /// No promise.
+    Open,
+    Yes,
+    No,
+    ReadOnly,
+    /// It votes yes; its first commit is answered Later, the others Done.
+    Late,
+}
+
+impl Plan {
+    /// The vote that it promises.
+    pub fn vote(self) -> Option<Vote>
+        ensures { result ≡ planned_vote self }
+    {
+        match self {
+            Plan::Open => None,
+            Plan::Yes | Plan::Late => Some(Vote::Yes),
+            Plan::No => Some(Vote::No),
+            Plan::ReadOnly => Some(Vote::ReadOnly),
+        }
+    }
+
+    /// The answer that it promises to a commit before which there were so many others.
+    pub fn answer(self, commits: u64) -> Option<Settled>
+        ensures { result ≡ planned_answer self commits }
+    {
+        match self {
+            Plan::Open => None,
+            Plan::Late if commits == 0 => Some(Settled::Later),
+            Plan::Yes | Plan::No | Plan::ReadOnly | Plan::Late => Some(Settled::Done),
+        }
+    }
+}
+
+/// What a branch was told.
+#[derive(Clone, Copy, Debug, PartialEq, Eq, Drop)]
+pub struct Told {
+    pub asked: bool,
+    pub aborted: bool,
+    /// How often it was told to commit. At its greatest value it stays.
+    pub commits: u64,
+}
+
+/// What a branch stands for.
+#[derive(Clone, Copy, Debug, PartialEq, Eq, Drop)]
+pub struct Standing {
+    pub plan: Plan,
+    pub phase: Phase,
+    pub told: Told,
+}
+
+/// One resource manager's part of a transaction.
+pub trait Branch: Drop {
+    ghost use Rattle.tip_branch.specs.declared.branch.Standing.{Standing};
+
+    /// Its plan, its phase, and what it was told.
+    ghost standing: { Self → Standing };
+
+    /// Asks it for its vote.
+    fn vote(&mut self) -> Vote
+        requires { (standing self.old).phase ≡ Active }
+        ensures { IsVoted (standing self.old) result (standing self.new) };
+
+    /// Tells it to commit.
+    fn commit(&mut self) -> Settled
+        requires { (standing self.old).phase ≡ Ready }
+        ensures { IsCommitted (standing self.old) result (standing self.new) };
+
+    /// Tells it to abort.
+    fn abort(&mut self)
+        requires { (standing self.old).phase ≢ Ended }
+        ensures { standing self.new ≡ aborted (standing self.old) };
+
+    fn phase(&self) -> Phase
+        ensures { result ≡ (standing self.now).phase };
+
+    fn plan(&self) -> Plan
+        ensures { result ≡ (standing self.now).plan };
+}

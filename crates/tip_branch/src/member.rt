@@ -1,0 +1,152 @@
+//! What a party notes of each of its branches.
+
+ghost use Rattle.std.specs.Prelude.{◌≡◌};
+
+use crate::branch::{Phase, Plan, Settled, Standing, Told, Vote};
+
+/// What a party is to do while its transaction's lock is free.
+#[derive(Clone, Copy, Debug, PartialEq, Eq, Drop)]
+pub enum Errand {
+    /// Nothing.
+    Idle,
+    /// Ask for the votes.
+    Vote,
+    /// Tell the outcome, which is commit.
+    Commit,
+    /// Tell the outcome, which is abort.
+    Abort,
+}
+
+/// A call that was made on a branch, with its answer.
+#[derive(Clone, Copy, Debug, PartialEq, Eq, Drop)]
+pub enum Call {
+    Vote(Vote),
+    Commit(Settled),
+    Abort,
+}
+
+/// What is noted of one branch of a party.
+#[derive(Clone, Copy, Debug, PartialEq, Eq, Drop)]
+pub struct Member {
+    /// Its number in its transaction, 1 to 8.
+    pub number: u8,
+    /// Its plan, its phase, and what this party told it.
+    pub standing: Standing,
+    /// What it voted in this party, where it was asked.
+    pub vote: Option<Vote>,
+    /// The call that was made since the errand was given.
+    pub call: Option<Call>,
+}
+
+impl Member {
+    ghost use Rattle.tip_branch.specs.Members.{new_member, voting, committing, aborting, forgetting, promised_answer, is_active, is_ready, is_no, is_yes};
+    ghost use Rattle.tip_branch.specs.Errands.{is_vote_of_no};
+
+    /// A branch of this plan and phase, which was told nothing by its party.
+    pub(crate) fn new(number: u8, plan: Plan, phase: Phase) -> Member
+        ensures { result ≡ new_member number plan phase }
+    {
+        let told = Told {
+            asked: false,
+            aborted: false,
+            commits: 0,
+        };
+        Member {
+            number,
+            standing: Standing { plan, phase, told },
+            vote: None,
+            call: None,
+        }
+    }
+
+    /// The member once it was asked and voted.
+    pub(crate) fn voting(mut self, vote: Vote) -> Member
+        ensures { result ≡ voting self vote }
+    {
+        self.standing.phase = match vote {
+            Vote::Yes => Phase::Ready,
+            Vote::No | Vote::ReadOnly => Phase::Ended,
+        };
+        self.standing.told.asked = true;
+        self.vote = Some(vote);
+        self.call = Some(Call::Vote(vote));
+        self
+    }
+
+    /// The member once it was told to commit and answered.
+    pub(crate) fn committing(mut self, answer: Settled) -> Member
+        ensures { result ≡ committing self answer }
+    {
+        self.standing.phase = match answer {
+            Settled::Done => Phase::Ended,
+            Settled::Later => Phase::Ready,
+        };
+        if self.standing.told.commits < u64::MAX {
+            self.standing.told.commits += 1;
+        }
+        self.call = Some(Call::Commit(answer));
+        self
+    }
+
+    /// The member once it was told to abort.
+    pub(crate) fn aborting(mut self) -> Member
+        ensures { result ≡ aborting self }
+    {
+        self.standing.phase = Phase::Ended;
+        self.standing.told.aborted = true;
+        self.call = Some(Call::Abort);
+        self
+    }
+
+    /// The member without its new call.
+    pub(crate) fn forgetting(mut self) -> Member
+        ensures { result ≡ forgetting self }
+    {
+        self.call = None;
+        self
+    }
+
+    /// The answer to a commit that it promises.
+    pub(crate) fn promised_answer(self) -> Option<Settled>
+        ensures { result ≡ promised_answer self }
+    {
+        let commits = self.standing.told.commits;
+        if self.standing.plan == Plan::Late && commits == 0 && self.vote.is_none() {
+            return None;
+        }
+        self.standing.plan.answer(commits)
+    }
+
+    pub fn is_active(&self) -> bool
+        ensures { result ≡ is_active self.now }
+    {
+        self.standing.phase == Phase::Active
+    }
+
+    pub fn is_ready(&self) -> bool
+        ensures { result ≡ is_ready self.now }
+    {
+        self.standing.phase == Phase::Ready
+    }
+
+    /// Whether it voted no in its party.
+    pub(crate) fn voted_no(&self) -> bool
+        ensures { result ≡ is_no self.now.vote }
+    {
+        self.vote == Some(Vote::No)
+    }
+
+    /// Whether it voted yes in its party.
+    pub(crate) fn voted_yes(&self) -> bool
+        ensures { result ≡ is_yes self.now.vote }
+    {
+        self.vote == Some(Vote::Yes)
+    }
+
+    /// Whether its new call is a vote of no.
+    pub(crate) fn said_no(&self) -> bool
+        ensures { result ≡ is_vote_of_no self.now.call }
+    {
+        matches!(self.call, Some(Call::Vote(Vote::No)))
+    }
+}

@@ -1,0 +1,265 @@
+//! The branches of one transaction, with what they are to do and what is noted of them.
+
+ghost use Rattle.std.specs.Prelude.{◌≡◌, ◌≢◌, ◌⊎◌, IsTrue, None, length, map, vec_len};
+ghost use Rattle.std.specs.List.{All, list_any};
+ghost use Rattle.tip_branch.specs.Always.{Always};
+ghost use Rattle.tip_branch.specs.declared.member.Errand.TheVariants.{Idle};
+ghost use Rattle.tip_branch.specs.Members.{are_numbers, numbers_of, is_no, is_yes, is_ready, tally, outcome, member_of, phase_of, vote_of, call_of};
+
+use crate::branch::{Branch, Phase, Settled, Vote};
+use crate::member::{Call, Errand, Member};
+use crate::roll::Roll;
+use crate::{boxes, telling};
+use tip_line::{Id, Realm};
+
+/// The boxed branches of one transaction. A party that is dropped is spent.
+///
+/// Beside each box the party keeps a note of it, its `Member`. What the calls below say of the notes
+/// holds of every party. That they are the branches' own account is `IsTrueToBoxes`: `new` makes it so,
+/// and every call keeps it.
+pub struct Party {
+    realm: Realm,
+    epoch: u32,
+    id: Id,
+    errand: Errand,
+    roll: Roll,
+    boxes: Vec<Box<dyn Branch + Send>>,
+    ghost counted: { vec_len boxes ≡ length roll },
+    ghost numbered: { IsTrue (are_numbers (numbers_of roll)) },
+    ghost unanswered: { errand ≢ Idle → All (λ m. m.call ≡ None) roll },
+}
+
+impl Party {
+    ghost use Rattle.tip_branch.specs.Standings.{let_go};
+    ghost use Rattle.tip_branch.specs.Notes.{new_party, idle_party, given, ComesBack};
+    ghost use Rattle.tip_branch.specs.Parties.{noted, accounts, IsTrueToBoxes, AreCalledAsNoted};
+
+    /// The party of these branches, which have these numbers in its transaction.
+    pub fn new(
+        realm: Realm,
+        epoch: u32,
+        id: Id,
+        numbers: Vec<u8>,
+        boxes: Vec<Box<dyn Branch + Send>>,
+    ) -> Party
+        requires counted { vec_len numbers ≡ vec_len boxes }
+        requires rising { IsTrue (are_numbers numbers.items) }
+        ensures noted { noted result ≡ new_party realm epoch id numbers.items (map standing boxes.items) }
+        ensures own { accounts standing result ≡ map standing boxes.items }
+        ensures agrees { IsTrueToBoxes standing result }
+    {
+        let roll = boxes::enrol(&numbers, &boxes);
+        Party {
+            realm,
+            epoch,
+            id,
+            errand: Errand::Idle,
+            roll,
+            boxes,
+        }
+    }
+
+    /// The party of these boxes with these notes.
+    pub(crate) fn with_roll(
+        realm: Realm,
+        epoch: u32,
+        id: Id,
+        roll: Roll,
+        boxes: Vec<Box<dyn Branch + Send>>,
+    ) -> Party
+        requires counted { vec_len boxes ≡ length roll }
+        requires rising { IsTrue (are_numbers (numbers_of roll)) }
+        requires forgotten { All (λ m. m.call ≡ None) roll }
+        ensures noted { noted result ≡ idle_party realm epoch id roll }
+        ensures own { accounts standing result ≡ map standing boxes.items }
+    {
+        Party {
+            realm,
+            epoch,
+            id,
+            errand: Errand::Idle,
+            roll,
+            boxes,
+        }
+    }
+
+    pub fn realm(&self) -> &Realm
+        ensures { result.now ≡ (noted self.now).realm }
+    {
+        &self.realm
+    }
+
+    /// The epoch of the start that the party belongs to.
+    pub fn epoch(&self) -> u32
+        ensures { result ≡ (noted self.now).epoch }
+    {
+        self.epoch
+    }
+
+    pub fn id(&self) -> &Id
+        ensures { result.now ≡ (noted self.now).id }
+    {
+        &self.id
+    }
+
+    pub fn errand(&self) -> Errand
+        ensures { result ≡ (noted self.now).errand }
+    {
+        self.errand
+    }
+
+    /// What is noted of its branches, in order of their numbers.
+    pub fn members(&self) -> &[Member]
+        ensures same { result.now ≡ (noted self.now).members }
+        ensures rising { IsTrue (are_numbers (numbers_of (noted self.now).members)) }
+    {
+        self.roll.as_slice()
+    }
+
+    /// Gives it an errand, and forgets the new calls.
+    pub fn give(&mut self, errand: Errand)
+        requires { Always }
+        ensures given { noted self.new ≡ given (noted self.old) errand }
+        ensures own { accounts standing self.new ≡ accounts standing self.old }
+        ensures agrees { IsTrueToBoxes standing self.old → IsTrueToBoxes standing self.new }
+    {
+        self.roll.forget_calls();
+        self.errand = errand;
+    }
+
+    /// Asks the active members in order, up to the first that says no.
+    pub fn vote_all(&mut self) -> Vote
+        requires { (noted self.old).errand ≡ Errand.Vote }
+        ensures told { ComesBack (noted self.old) (noted self.new) }
+        ensures answer { result ≡ tally (noted self.new).members }
+        ensures own { IsTrueToBoxes standing self.old → AreCalledAsNoted standing self.old self.new }
+        ensures agrees { IsTrueToBoxes standing self.old → IsTrueToBoxes standing self.new }
+    {
+        self.carry_out();
+        tally(self.roll.as_slice())
+    }
+
+    /// Tells each ready member the outcome.
+    pub fn settle(&mut self) -> Settled
+        requires { ((noted self.old).errand ≡ Errand.Commit) ⊎ ((noted self.old).errand ≡ Errand.Abort) }
+        ensures told { ComesBack (noted self.old) (noted self.new) }
+        ensures answer { result ≡ outcome (noted self.new).members }
+        ensures own { IsTrueToBoxes standing self.old → AreCalledAsNoted standing self.old self.new }
+        ensures agrees { IsTrueToBoxes standing self.old → IsTrueToBoxes standing self.new }
+    {
+        self.carry_out();
+        if one_is_ready(self.roll.as_slice()) {
+            Settled::Later
+        } else {
+            Settled::Done
+        }
+    }
+
+    /// Makes the errand's calls.
+    fn carry_out(&mut self)
+        requires { (noted self.old).errand ≢ Errand.Idle }
+        ensures told { ComesBack (noted self.old) (noted self.new) }
+        ensures own { IsTrueToBoxes standing self.old → AreCalledAsNoted standing self.old self.new }
+        ensures agrees { IsTrueToBoxes standing self.old → IsTrueToBoxes standing self.new }
+    {
+        telling::tell_all(self.errand, &mut self.boxes, &mut self.roll);
+        self.errand = Errand::Idle;
+    }
+
+    /// The phase of the member of this number.
+    pub fn phase_of(&self, number: u8) -> Option<Phase>
+        ensures { result ≡ phase_of number (noted self.now).members }
+    {
+        Some(self.roll.find(number)?.standing.phase)
+    }
+
+    /// What the member of this number voted in this party.
+    pub fn vote_of(&self, number: u8) -> Option<Vote>
+        ensures { result ≡ vote_of number (noted self.now).members }
+    {
+        self.roll.find(number)?.vote
+    }
+
+    /// The call that was made on the member of this number since the errand was given.
+    pub fn call_of(&self, number: u8) -> Option<Call>
+        ensures { result ≡ call_of number (noted self.now).members }
+    {
+        self.roll.find(number)?.call
+    }
+
+    /// Aborts each active member, leaves each ready one, and gives the boxes.
+    pub fn spend(self) -> Vec<Box<dyn Branch + Send>>
+        requires { Always }
+        ensures { map standing result.items ≡ map let_go (accounts standing self) }
+    {
+        let Party {
+            realm: _,
+            epoch: _,
+            id: _,
+            errand: _,
+            roll: _,
+            mut boxes,
+        } = self;
+        boxes::release_all(&mut boxes);
+        boxes
+    }
+}
+
+impl Drop for Party {
+    fn drop(self) {
+        let Party {
+            realm: _,
+            epoch: _,
+            id: _,
+            errand: _,
+            roll: _,
+            mut boxes,
+        } = self;
+        boxes::release_all(&mut boxes);
+    }
+}
+
+/// Whether these may be the numbers of members: 1 to 8, rising.
+pub fn are_numbers(numbers: &[u8]) -> bool
+    ensures { result ≡ are_numbers numbers.now }
+{
+    let mut last = 0;
+    for number in numbers {
+        if *number <= last || *number > 8 {
+            return false;
+        }
+        last = *number;
+    }
+    true
+}
+
+/// No where one voted no, else yes where one voted yes, else read-only.
+fn tally(members: &[Member]) -> Vote
+    ensures { result ≡ tally members.now }
+{
+    if one_voted_no(members) {
+        Vote::No
+    } else if one_voted_yes(members) {
+        Vote::Yes
+    } else {
+        Vote::ReadOnly
+    }
+}
+
+fn one_voted_no(members: &[Member]) -> bool
+    ensures { result ≡ list_any (λ m. is_no m.vote) members.now }
+{
+    members.iter().any(|member| member.voted_no())
+}
+
+fn one_voted_yes(members: &[Member]) -> bool
+    ensures { result ≡ list_any (λ m. is_yes m.vote) members.now }
+{
+    members.iter().any(|member| member.voted_yes())
+}
+
+fn one_is_ready(members: &[Member]) -> bool
+    ensures { result ≡ list_any is_ready members.now }
+{
+    members.iter().any(|member| member.is_ready())
+}
