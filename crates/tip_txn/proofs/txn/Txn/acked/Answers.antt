@@ -1,0 +1,13 @@
+use Rattle.std.proofs.Common.{◌<◌, ◌∷◌, ◌-◌, length, List, ap, arith, vec_capacity, vec_len}
+use Rattle.tip_txn.specs.Parts.{acknowledged}
+use Rattle.tip_txn.specs.Transactions.{Transaction}
+use Rattle.tip_txn.specs.declared.part.Participant.{Participant}
+use Rattle.tip_txn.proofs.PartLemmas.{changed_at-behind}
+use Rattle.tip_txn.proofs.txn.Txn.acked.Goals as goal
+
+pub returns-in_default : goal.returns-in_default
+returns-in_default c =
+    let t = c.self.inside in
+    let there : c.args.part < length (t.local ∷ t.others.items) = rw (← c.self.view_is) at c.requires in
+    let parts = changed_at-behind t.local t.others.items c.place.result acknowledged c.index_mut.result.now (omega arith) (omega arith) c.index_mut.ensures.value in
+    rw (← c.self.view_is, ← c.place.ensures) (ap (λ (ps : List Participant). let seen : Transaction = record { id = t.id; phase = t.phase; parts = ps; spare = vec_capacity t.others - vec_len t.others } in seen) parts)

@@ -1,0 +1,36 @@
+-- What is seen of a transaction.
+use Rattle.std.specs.Prelude.{ℕ, List, [], ◌∷◌, map, Bool, true, false, Some, None}
+use Rattle.tip_txn.specs.declared.answer.Answer.TheVariants.{Yes}
+use Rattle.tip_txn.specs.declared.answer.Phase.{Phase}
+use Rattle.tip_txn.specs.declared.answer.Phase.TheVariants.{Active, Asking, Prepared, Committed, Aborted}
+use Rattle.tip_txn.specs.declared.part.Participant.{Participant}
+
+-- the parts are in the order enlisted, the local party first; `spare` is how many more there is room for
+pub record Transaction : Type 0 where
+  pub id : List ℕ
+  pub phase : Phase
+  pub parts : List Participant
+  pub spare : ℕ
+
+-- the local party of a transaction that has just begun
+abbrev pub local_party : Participant
+local_party = record { address = None; id = None; answer = None; acknowledged = false }
+
+abbrev pub fresh : List ℕ → Transaction
+fresh id = record { id = id; phase = Active; parts = local_party ∷ []; spare = 0 }
+
+-- a subordinate of a stored row, which had said yes
+abbrev pub willing : List ℕ × List ℕ → Participant
+willing subordinate = record { address = Some subordinate.0; id = Some subordinate.1; answer = Some Yes; acknowledged = false }
+
+-- the transaction of a stored row
+abbrev pub recovered : List ℕ → Phase → List (List ℕ × List ℕ) → Transaction
+recovered id phase subordinates = record { id = id; phase = phase; parts = record local_party { answer = Some Yes } ∷ map willing subordinates; spare = 0 }
+
+-- an aborted transaction is none, as one that never was
+abbrev pub exists_in : Phase → Bool
+exists_in Active = true
+exists_in Asking = true
+exists_in Prepared = true
+exists_in Committed = true
+exists_in Aborted = false

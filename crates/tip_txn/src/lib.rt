@@ -1,0 +1,12 @@
+//! One transaction of two-phase commit: its parts, their answers, and what they decide (RFC 2371, sections 8 and 13).
+#![tactic(auto)]
+
+mod answer;
+mod part;
+#[cfg(test)]
+mod tests;
+mod txn;
+
+pub use answer::{Answer, Decision, Phase};
+pub use part::{Part, Participant};
+pub use txn::{EnlistFault, Txn};

@@ -1,0 +1,75 @@
+//! One transaction on its happy path.
+ghost use Rattle.std.specs.Prelude.{◌≡◌, ◌∷◌, [], codes, Some, IfOk};
+ghost use Rattle.tip_txn.specs.Parts.{enlisted};
+ghost use Rattle.tip_txn.specs.Transactions.{local_party};
+ghost use Rattle.tip_txn.specs.declared.answer.Phase.TheVariants.{Active};
+
+use crate::{Answer, Decision, EnlistFault, Part, Phase, Txn};
+use std::alloc::Global;
+use std::test::Fail;
+use tip_line::{Address, Id};
+
+/// An active transaction with one subordinate.
+fn begun(alloc: Global) -> Result<Txn, Fail>
+    ensures { IfOk result (λ txn. txn.parts ≡ local_party ∷ enlisted (codes "p.x") (Some (codes "p7")) ∷ []) }
+{
+    let mut txn = Txn::new(alloc, Id::new(alloc, b"north-1-1-1")?);
+    txn.reserve()?;
+    let address = Address::new(alloc, b"p.x")?;
+    let id = Id::new(alloc, b"p7")?;
+    match txn.enlist(address, Some(id)) {
+        Ok(_) => Ok(txn),
+        Err(_) => unreachable!(),
+    }
+}
+
+#[test]
+fn commits_where_one_said_yes(rt: HostRuntime) -> Result<(), Fail> {
+    let mut txn = begun(rt.alloc())?;
+    assert_eq!(rt; txn.phase(), Phase::Active);
+    txn.ask();
+    txn.answer(Part::local(), Answer::ReadOnly);
+    assert_eq!(rt; txn.decide(), Decision::Wait);
+    txn.answer(Part::at(1), Answer::Yes);
+    assert_eq!(rt; txn.decide(), Decision::Commit);
+    txn.enter(Phase::Committed);
+    txn.acked(Part::at(1));
+    assert!(rt; txn.part(Part::at(1)).is_some_and(|part| part.acknowledged));
+    Ok(())
+}
+
+#[test]
+fn aborts_where_one_is_lost(rt: HostRuntime) -> Result<(), Fail> {
+    let mut txn = begun(rt.alloc())?;
+    assert!(rt; !txn.answered(Part::local()));
+    txn.answer(Part::at(1), Answer::Lost);
+    assert_eq!(rt; txn.decide(), Decision::Abort);
+    txn.enter(Phase::Aborted);
+    assert!(rt; !txn.exists());
+    Ok(())
+}
+
+#[test]
+fn enlists_a_named_pair_once(rt: HostRuntime) -> Result<(), Fail> {
+    let alloc = rt.alloc();
+    let mut txn = begun(alloc)?;
+    txn.reserve()?;
+    let again = txn.enlist(Address::new(alloc, b"p.x")?, Some(Id::new(alloc, b"p7")?));
+    assert_eq!(rt; again, Err(EnlistFault::Twice));
+    txn.reserve()?;
+    txn.ask();
+    let late = txn.enlist(Address::new(alloc, b"q.x")?, None);
+    assert_eq!(rt; late, Err(EnlistFault::NotActive));
+    Ok(())
+}
+
+#[test]
+fn a_row_makes_a_transaction_of_yeses(rt: HostRuntime) -> Result<(), Fail> {
+    let alloc = rt.alloc();
+    let subordinate = (Address::new(alloc, b"p.x")?, Id::new(alloc, b"p7")?);
+    let id = Id::new(alloc, b"north-1-1-1")?;
+    let txn = Txn::of(alloc, id, Phase::Committed, &[subordinate])?;
+    assert_eq!(rt; txn.id().as_str(), "north-1-1-1");
+    assert_eq!(rt; txn.decide(), Decision::Commit);
+    Ok(())
+}

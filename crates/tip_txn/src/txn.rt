@@ -1,0 +1,292 @@
+//! A transaction: its phase, its parts and what they answered.
+ghost use Rattle.std.specs.Prelude.{◌≡◌, ◌≢◌, ◌+◌, ◌-◌, ◌<◌, ◌≤◌, ◌↔◌, false, [], ◌∷◌, ◌++◌, length, IsTrue, IsOk, OnOk, OnErr, IfOk, Some, None, is_some, slice_get};
+ghost use Rattle.std.specs.List.{list_any};
+ghost use Rattle.std.specs.Option.{option_copied};
+ghost use Rattle.tip_txn.specs.Parts.{answers_of, answer_at, is_pair, is_enlisted, changed_at, named, answered, acknowledged, enlisted};
+ghost use Rattle.tip_txn.specs.Decisions.{Decides, Says};
+ghost use Rattle.tip_txn.specs.Transactions.{fresh, recovered, exists_in};
+ghost use Rattle.tip_txn.specs.declared.answer.Phase.TheVariants.{Active, Asking};
+ghost use Rattle.tip_txn.specs.declared.txn.EnlistFault.TheVariants.{NotActive, Twice};
+
+use crate::answer::{Answer, Decision, Phase};
+use crate::part::{Part, Participant};
+use std::alloc::{AllocError, Global};
+use std::marker::Model;
+use thiserror::Error;
+use tip_line::{Address, Id};
+
+/// Why a part was not enlisted.
+#[derive(Clone, Copy, Debug, PartialEq, Eq, Error)]
+pub enum EnlistFault {
+    #[error("the transaction is not active")]
+    NotActive,
+    #[error("the subordinate is a part already")]
+    Twice,
+}
+
+/// One transaction. It knows no connection: whoever holds it says what its parts answered.
+#[derive(Debug, Drop)]
+pub struct Txn {
+    id: Id,
+    phase: Phase,
+    local: Participant,
+    others: Vec<Participant>,
+}
+
+impl Model for Txn {
+    ghost use Rattle.std.specs.Prelude.{◌∷◌, ◌-◌, vec_len, vec_capacity};
+    ghost use Rattle.tip_txn.specs.Transactions.{Transaction};
+
+    ghost Value = { Transaction };
+
+    ghost view = { λ t. record { id = t.id; phase = t.phase; parts = t.local ∷ t.others.items; spare = vec_capacity t.others - vec_len t.others } };
+}
+
+impl Txn {
+    /// A transaction that has just begun, with the local party as its only part.
+    pub fn new(alloc: Global, id: Id) -> Txn
+        ensures { result ≡ fresh id }
+    {
+        Txn {
+            id,
+            phase: Phase::Active,
+            local: unanswered(None, None),
+            others: Vec::new(alloc),
+        }
+    }
+
+    /// The transaction of a stored row: each party said yes, and no subordinate has acknowledged.
+    pub fn of(
+        alloc: Global,
+        id: Id,
+        phase: Phase,
+        subordinates: &[(Address, Id)],
+    ) -> Result<Txn, AllocError>
+        ensures { IfOk result (λ txn. txn ≡ recovered id phase subordinates.now) }
+    {
+        let mut others = Vec::with_capacity(alloc, subordinates.len())?;
+        for (address, id) in subordinates {
+            others.push_reserved(willing(Some(address.copy()?), Some(id.copy()?)));
+        }
+        Ok(Txn {
+            id,
+            phase,
+            local: willing(None, None),
+            others,
+        })
+    }
+
+    /// Its identifier.
+    pub fn id(&self) -> &Id
+        ensures { result.now ≡ self.now.id }
+    {
+        &self.id
+    }
+
+    /// Makes room for one part more.
+    pub fn reserve(&mut self) -> Result<(), AllocError>
+        ensures ok { OnOk result (0 < self.new.spare) }
+        ensures room_is_kept { self.old.spare ≤ self.new.spare }
+        ensures has_room { 0 < self.old.spare → IsOk result }
+        ensures same { self.new ≡ record self.old { spare = self.new.spare } }
+        ensures err { OnErr result (self.new ≡ self.old) }
+    {
+        self.others.reserve(1)
+    }
+
+    /// Makes a subordinate the last part. It takes the room that `reserve` made.
+    pub fn enlist(&mut self, address: Address, id: Option<Id>) -> Result<Part, EnlistFault>
+        requires { 0 < self.old.spare }
+        ensures not_active { (result ≡ Err NotActive) ↔ (self.old.phase ≢ Active) }
+        ensures twice { (result ≡ Err Twice) ↔ ((self.old.phase ≡ Active) × IsTrue (is_enlisted self.old.parts address id)) }
+        ensures ok { OnOk result ((self.old.phase ≡ Active) × (is_enlisted self.old.parts address id ≡ false)) }
+        ensures part { IfOk result (λ part. part ≡ length self.old.parts) }
+        ensures enlisted { OnOk result (self.new ≡ record self.old { parts = self.old.parts ++ enlisted address id ∷ []; spare = self.old.spare - 1 }) }
+        ensures err { OnErr result (self.new ≡ self.old) }
+    {
+        if self.phase != Phase::Active {
+            return Err(EnlistFault::NotActive);
+        }
+        if let Some(id) = &id
+            && self.is_enlisted(&address, id)
+        {
+            return Err(EnlistFault::Twice);
+        }
+        self.others.push_reserved(unanswered(Some(address), id));
+        Ok(Part::at(self.others.len()))
+    }
+
+    /// Gives a part the identifier that its subordinate said.
+    pub fn named(&mut self, part: Part, id: Id)
+        requires { part < length self.old.parts }
+        ensures { self.new ≡ record self.old { parts = changed_at part (named id) self.old.parts } }
+    {
+        match part.place() {
+            0 => name(&mut self.local, id),
+            place => name(&mut self.others[place - 1], id),
+        }
+    }
+
+    /// Its parties are asked.
+    pub fn ask(&mut self)
+        ensures { self.new ≡ record self.old { phase = Phase.Asking } }
+    {
+        self.phase = Phase::Asking;
+    }
+
+    /// A part's answer, of which each part gives one.
+    pub fn answer(&mut self, part: Part, answer: Answer)
+        requires there { part < length self.old.parts }
+        requires open { answer_at self.old.parts part ≡ None }
+        ensures { self.new ≡ record self.old { parts = changed_at part (answered answer) self.old.parts } }
+    {
+        match part.place() {
+            0 => self.local.answer = Some(answer),
+            place => self.others[place - 1].answer = Some(answer),
+        }
+    }
+
+    /// Whether a part has answered.
+    pub fn answered(&self, part: Part) -> bool
+        requires { part < length self.now.parts }
+        ensures { result ≡ is_some (answer_at self.now.parts part) }
+    {
+        match part.place() {
+            0 => self.local.answer.is_some(),
+            place => self.others[place - 1].answer.is_some(),
+        }
+    }
+
+    /// What the answers so far decide.
+    pub fn decide(&self) -> Decision
+        ensures { Decides (answers_of self.now.parts) result }
+    {
+        if self.has(Some(Answer::No)) || self.has(Some(Answer::Lost)) {
+            Decision::Abort
+        } else if self.has(None) {
+            Decision::Wait
+        } else if self.has(Some(Answer::Yes)) {
+            Decision::Commit
+        } else {
+            Decision::ReadOnly
+        }
+    }
+
+    /// Enters the phase that an outcome leads to.
+    pub fn enter(&mut self, phase: Phase)
+        ensures { self.new ≡ record self.old { phase = phase } }
+    {
+        self.phase = phase;
+    }
+
+    /// A part has acknowledged the commit.
+    pub fn acked(&mut self, part: Part)
+        requires { part < length self.old.parts }
+        ensures { self.new ≡ record self.old { parts = changed_at part acknowledged self.old.parts } }
+    {
+        match part.place() {
+            0 => self.local.acknowledged = true,
+            place => self.others[place - 1].acknowledged = true,
+        }
+    }
+
+    /// How far it has come.
+    pub fn phase(&self) -> Phase
+        ensures { result ≡ self.now.phase }
+    {
+        self.phase
+    }
+
+    /// What is kept of a part; None for no such part.
+    pub fn part(&self, part: Part) -> Option<&Participant>
+        ensures { option_copied result ≡ slice_get self.now.parts part }
+    {
+        match part.place() {
+            0 => Some(&self.local),
+            place => self.others.get(place - 1),
+        }
+    }
+
+    /// Whether a peer that asks for it is told that it exists.
+    pub fn exists(&self) -> bool
+        ensures { result ≡ exists_in self.now.phase }
+    {
+        self.phase != Phase::Aborted
+    }
+
+    /// Whether some party has this answer, or none where it is None.
+    fn has(&self, answer: Option<Answer>) -> bool
+        ensures { IsTrue result ↔ Says (answers_of self.now.parts) answer }
+    {
+        says(&self.local, answer) || have(&self.others, answer)
+    }
+
+    /// Whether a part has this address and identifier.
+    fn is_enlisted(&self, address: &Address, id: &Id) -> bool
+        ensures { result ≡ is_enlisted self.now.parts address.now (Some id.now) }
+    {
+        is_pair(&self.local, address, id) || have_pair(&self.others, address, id)
+    }
+}
+
+/// Gives a part an identifier.
+fn name(participant: &mut Participant, id: Id)
+    ensures { participant.new ≡ named id participant.old }
+{
+    participant.id = Some(id);
+}
+
+/// Whether a part has this answer, or none where it is None.
+fn says(part: &Participant, answer: Option<Answer>) -> bool
+    ensures { IsTrue result ↔ (part.now.answer ≡ answer) }
+{
+    part.answer == answer
+}
+
+/// Whether one of the parts has this answer, or none where it is None.
+fn have(parts: &[Participant], answer: Option<Answer>) -> bool
+    ensures { IsTrue result ↔ Says (answers_of parts.now) answer }
+{
+    parts.iter().any(|part| part.answer == answer)
+}
+
+/// Whether one of the parts has this address and identifier.
+fn have_pair(parts: &[Participant], address: &Address, id: &Id) -> bool
+    ensures { result ≡ list_any (is_pair address.now id.now) parts.now }
+{
+    parts.iter().any(|part| is_pair(part, address, id))
+}
+
+/// Whether a part has this address and identifier.
+fn is_pair(participant: &Participant, address: &Address, id: &Id) -> bool
+    ensures { result ≡ is_pair address.now id.now participant.now }
+{
+    match (&participant.address, &participant.id) {
+        (Some(other), Some(name)) => other == address && name == id,
+        _ => false,
+    }
+}
+
+/// A part that has not answered.
+fn unanswered(address: Option<Address>, id: Option<Id>) -> Participant
+    ensures { result ≡ record { address = address; id = id; answer = None; acknowledged = false } }
+{
+    Participant {
+        address,
+        id,
+        answer: None,
+        acknowledged: false,
+    }
+}
+
+/// A part that said yes.
+fn willing(address: Option<Address>, id: Option<Id>) -> Participant
+    ensures { result ≡ record { address = address; id = id; answer = Some Answer.Yes; acknowledged = false } }
+{
+    Participant {
+        address,
+        id,
+        answer: Some(Answer::Yes),
+        acknowledged: false,
+    }
+}
