@@ -1,0 +1,10 @@
+pub mod LabelLemmas
+pub mod PartLemmas
+pub mod MemoryLemmas
+pub mod OrderLemmas
+pub mod NameLemmas
+pub mod WrittenLemmas
+pub mod PartsLemmas
+pub mod Readings
+pub mod Spellings
+pub mod Joins

@@ -1,0 +1,136 @@
+//! What keeps rows: a finite map from realm and key to rows, and from realm to epoch.
+ghost use Rattle.std.specs.Prelude.{◌≡◌, ◌≢◌, ◌↔◌, ℕ, List, Bool, IsTrue, IfOk, OnOk, IsErrOf, IsErr, is_err};
+ghost use Rattle.tip_rows.specs.Logs.{Log, with_row, without_row, with_known, with_all_raised, with_raised, IsAtEnd, IsSpoiled, IsPart, AreNames, HasBadName, counted, is_refused_load, is_refused_raise, Stands, LeavesOne, LeavesChanged, LeavesSame, IsSpent};
+
+use crate::key::Key;
+use crate::row::Row;
+use thiserror::Error;
+use tip_line::Realm;
+
+/// The store refused, and its rows and epochs are as they were.
+#[derive(Clone, Copy, Debug, PartialEq, Eq, Error)]
+#[error("the store refused")]
+pub struct Refused;
+
+/// Why epochs did not rise. They are as they were.
+#[derive(Clone, Copy, Debug, PartialEq, Eq, Error)]
+pub enum RaiseFault {
+    #[error("the store refused")]
+    Refused,
+    #[error("an epoch is at its end")]
+    EpochEnd,
+}
+
+/// Why what is stored was not read.
+#[derive(Clone, Copy, Debug, PartialEq, Eq, Error)]
+pub enum LoadFault {
+    #[error("the store refused")]
+    Refused,
+    #[error("what is stored is no row")]
+    BadRow,
+    #[error("out of memory")]
+    Memory,
+}
+
+/// What is stored of one realm.
+#[derive(Debug, Drop)]
+pub struct Loaded {
+    /// 0 for a realm that is not known.
+    pub epoch: u32,
+    /// By strictly rising key.
+    pub rows: Vec<(Key, Row)>,
+}
+
+/// A log of rows. A call that is refused, for want of memory in a change too, leaves all rows and epochs.
+pub trait RowLog {
+    /// It shows this log, as long as `is_true`. One that can't be asked any more shows every log, and refuses each call.
+    ghost stands: { Self → Log → Type 0 };
+
+    /// How many calls it refused; after the greatest value comes 0.
+    ghost faults: { Self → ℕ };
+
+    /// So far what it keeps its rows in has returned what was written.
+    ghost is_true: { Self → Type 0 };
+
+    /// What a stop at this moment may leave.
+    ghost may_leave: { Self → Log → Type 0 };
+
+    /// That the next change of a realm will be refused.
+    ghost is_due: { Self → List ℕ → Bool };
+
+    /// Makes a realm known, with epoch 0 where it was not.
+    fn know(&mut self, realm: &Realm) -> Result<(), Refused>
+        ensures stands { Stands stands (with_known realm.now) self.old self.new result }
+        ensures counts { faults self.new ≡ counted (is_err result) (faults self.old) }
+        ensures truth { is_true self.new → is_true self.old }
+        ensures stop { LeavesOne stands is_true may_leave (with_known realm.now) self.old self.new }
+        ensures kept { LeavesChanged stands is_true may_leave (with_known realm.now) self.old self.new result }
+        ensures due { (log : Log) → stands self.old log → (r : List ℕ) → is_due self.new r ≡ is_due self.old r };
+
+    /// Raises the epoch of every known realm by one, in one change.
+    fn raise_epochs(&mut self) -> Result<(), RaiseFault>
+        ensures stands { Stands stands with_all_raised self.old self.new result }
+        ensures end { (log : Log) → stands self.old log → is_true self.new → result ≡ Err RaiseFault.EpochEnd → (realm : List ℕ) × IsAtEnd log realm }
+        ensures no_end { (log : Log) → stands self.old log → is_true self.new → OnOk result ((realm : List ℕ) → ¬ IsAtEnd log realm) }
+        ensures counts { faults self.new ≡ counted (is_refused_raise result) (faults self.old) }
+        ensures truth { is_true self.new → is_true self.old }
+        ensures stop { LeavesOne stands is_true may_leave with_all_raised self.old self.new }
+        ensures kept { LeavesChanged stands is_true may_leave with_all_raised self.old self.new result }
+        ensures due { (r : List ℕ) → is_due self.new r ≡ is_due self.old r };
+
+    /// Raises the epoch of one realm by one; nothing changes where it is not known.
+    fn raise_epoch(&mut self, realm: &Realm) -> Result<(), RaiseFault>
+        ensures stands { Stands stands (with_raised realm.now) self.old self.new result }
+        ensures end { (log : Log) → stands self.old log → is_true self.new → result ≡ Err RaiseFault.EpochEnd → IsAtEnd log realm.now }
+        ensures no_end { (log : Log) → stands self.old log → is_true self.new → OnOk result (¬ IsAtEnd log realm.now) }
+        ensures counts { faults self.new ≡ counted (is_refused_raise result) (faults self.old) }
+        ensures truth { is_true self.new → is_true self.old }
+        ensures stop { LeavesOne stands is_true may_leave (with_raised realm.now) self.old self.new }
+        ensures kept { LeavesChanged stands is_true may_leave (with_raised realm.now) self.old self.new result }
+        ensures due { IsTrue (is_due self.old realm.now) → result ≡ Err RaiseFault.Refused }
+        ensures spent { IsSpent (is_due self.old) (is_due self.new) realm.now };
+
+    /// Adds or replaces a row.
+    fn put(&mut self, realm: &Realm, key: Key, row: &Row) -> Result<(), Refused>
+        ensures stands { Stands stands (with_row realm.now key row.now) self.old self.new result }
+        ensures counts { faults self.new ≡ counted (is_err result) (faults self.old) }
+        ensures truth { is_true self.new → is_true self.old }
+        ensures stop { LeavesOne stands is_true may_leave (with_row realm.now key row.now) self.old self.new }
+        ensures kept { LeavesChanged stands is_true may_leave (with_row realm.now key row.now) self.old self.new result }
+        ensures due { IsTrue (is_due self.old realm.now) → IsErr result }
+        ensures spent { IsSpent (is_due self.old) (is_due self.new) realm.now };
+
+    /// Removes a row, if it is there.
+    fn remove(&mut self, realm: &Realm, key: Key) -> Result<(), Refused>
+        ensures stands { Stands stands (without_row realm.now key) self.old self.new result }
+        ensures counts { faults self.new ≡ counted (is_err result) (faults self.old) }
+        ensures truth { is_true self.new → is_true self.old }
+        ensures stop { LeavesOne stands is_true may_leave (without_row realm.now key) self.old self.new }
+        ensures kept { LeavesChanged stands is_true may_leave (without_row realm.now key) self.old self.new result }
+        ensures due { IsTrue (is_due self.old realm.now) → IsErr result }
+        ensures spent { IsSpent (is_due self.old) (is_due self.new) realm.now };
+
+    /// The epoch and the rows of a realm.
+    fn load(&mut self, realm: &Realm) -> Result<Loaded, LoadFault>
+        ensures part { (log : Log) → stands self.old log → is_true self.new → IfOk result (λ loaded. IsPart log realm.now loaded.epoch loaded.rows.items) }
+        ensures bad_row { (log : Log) → stands self.old log → is_true self.new → result ≡ Err LoadFault.BadRow → IsSpoiled log realm.now }
+        ensures stands { (log : Log) → stands self.old log → stands self.new log }
+        ensures counts { faults self.new ≡ counted (is_refused_load result) (faults self.old) }
+        ensures truth { is_true self.new → is_true self.old }
+        ensures stop { LeavesSame stands is_true may_leave self.old self.new }
+        ensures due { (r : List ℕ) → is_due self.new r ≡ is_due self.old r };
+
+    /// The names of the known realms, rising.
+    fn realms(&mut self) -> Result<Vec<Realm>, LoadFault>
+        ensures names { (log : Log) → stands self.old log → is_true self.new → IfOk result (λ names. AreNames log names.items) }
+        ensures bad_row { (log : Log) → stands self.old log → is_true self.new → result ≡ Err LoadFault.BadRow → HasBadName log }
+        ensures stands { (log : Log) → stands self.old log → stands self.new log }
+        ensures counts { faults self.new ≡ counted (is_refused_load result) (faults self.old) }
+        ensures truth { is_true self.new → is_true self.old }
+        ensures stop { LeavesSame stands is_true may_leave self.old self.new }
+        ensures due { (r : List ℕ) → is_due self.new r ≡ is_due self.old r };
+
+    /// How many calls it refused.
+    fn faults(&self) -> u64
+        ensures { result ≡ faults self.now };
+}

@@ -1,0 +1,466 @@
+//! Rows in memory.
+ghost use Rattle.std.specs.Prelude.{◌≡◌, ◌+◌, ◌%◌, ◌^◌, ◌∷◌, [], ℕ, List, true, false, map, filter, take, drop, length, option_map, unwrap_or, pos, Some, ◌↔◌, IsTrue, IfOk, OnOk, OnErr, MatchResult};
+ghost use Rattle.std.specs.Prelude.{find};
+ghost use Rattle.std.specs.Option.{option_copied};
+ghost use Rattle.std.specs.List.{list_any, position};
+ghost use Rattle.std.specs.Str.{bytes_eq};
+ghost use Rattle.tip_line.specs.Words.{is_realm};
+ghost use Rattle.tip_rows.specs.Keys.{is_same};
+ghost use Rattle.tip_rows.specs.Logs.{Log, empty_log, counted, last_epoch, with_row, without_row, with_all_raised, with_raised, with_epoch, IsSpent};
+ghost use Rattle.tip_rows.specs.Memory.{Shows, IsDemanded, log_in, epoch_in, is_named, due_in, part, raised_known, raised_named, epoch_named, refusing_named, is_at_end, is_past, put_in, is_other, is_from, known_in};
+
+use crate::key::Key;
+use crate::log::{LoadFault, Loaded, RaiseFault, Refused, RowLog};
+use crate::row::Row;
+use std::alloc::{AllocError, Global};
+use tip_line::Realm;
+
+/// A known realm.
+#[derive(Debug, Drop)]
+struct Known {
+    realm: Realm,
+    epoch: u32,
+    /// Its next change is to be refused.
+    is_refusing: bool,
+}
+
+/// A row where it stands.
+#[derive(Debug, Drop)]
+struct Stored {
+    realm: Realm,
+    key: Key,
+    row: Row,
+}
+
+/// Rows in memory. They refuse a change for want of memory, or where `refuse_next` asked for it.
+#[derive(Debug, Drop)]
+pub struct MemRows {
+    alloc: Global,
+    /// By name.
+    known: Vec<Known>,
+    /// Those of a realm by key.
+    rows: Vec<Stored>,
+    faults: u64,
+}
+
+impl MemRows {
+    /// No realms and no rows.
+    pub fn new(alloc: Global) -> MemRows
+        ensures empty { Shows result.known.items result.rows.items empty_log }
+        ensures none_due { (realm : List ℕ) → due_in result.known.items realm ≡ false }
+        ensures no_faults { result.faults ≡ 0 }
+    {
+        MemRows {
+            alloc,
+            known: Vec::new(alloc),
+            rows: Vec::new(alloc),
+            faults: 0,
+        }
+    }
+
+    /// Makes a realm known with this epoch.
+    pub fn start_at(&mut self, realm: &Realm, epoch: u32) -> Result<(), AllocError>
+        ensures shows { (log : Log) → Shows self.old.known.items self.old.rows.items log → MatchResult result (λ _. Shows self.new.known.items self.new.rows.items (with_epoch realm.now epoch log)) (λ _. Shows self.new.known.items self.new.rows.items log) }
+        ensures faults { self.new.faults ≡ self.old.faults }
+    {
+        know_in(&mut self.known, realm)?;
+        self.set_known_epoch(realm, epoch);
+        Ok(())
+    }
+
+    /// Sets the epoch of a known realm.
+    fn set_known_epoch(&mut self, realm: &Realm, epoch: u32)
+        ensures known { self.new.known.items ≡ map (epoch_named realm.now epoch) self.old.known.items }
+        ensures rows { self.new.rows.items ≡ self.old.rows.items }
+        ensures faults { self.new.faults ≡ self.old.faults }
+    {
+        set_epochs(&mut self.known, realm, epoch);
+    }
+
+    /// The next change of this realm is refused, where it is known.
+    pub fn refuse_next(&mut self, realm: &Realm)
+        ensures shows { (log : Log) → Shows self.old.known.items self.old.rows.items log → Shows self.new.known.items self.new.rows.items log }
+        ensures due { IsDemanded self.old.known.items self.new.known.items realm.now }
+        ensures faults { self.new.faults ≡ self.old.faults }
+    {
+        self.set_due(realm, true);
+    }
+
+    /// Says whether the next change of a realm is to be refused.
+    fn set_due(&mut self, realm: &Realm, is_refusing: bool)
+        ensures known { self.new.known.items ≡ map (refusing_named realm.now is_refusing) self.old.known.items }
+        ensures rows { self.new.rows.items ≡ self.old.rows.items }
+        ensures faults { self.new.faults ≡ self.old.faults }
+    {
+        demand(&mut self.known, realm, is_refusing);
+    }
+
+    /// Whether a refusal of this realm's change is due, which is spent and counted then.
+    fn take_due(&mut self, realm: &Realm) -> bool
+        ensures due { result ≡ due_in self.old.known.items realm.now }
+        ensures spent { IsSpent (due_in self.old.known.items) (due_in self.new.known.items) realm.now }
+        ensures shows { (log : Log) → Shows self.old.known.items self.old.rows.items log → Shows self.new.known.items self.new.rows.items log }
+        ensures faults { self.new.faults ≡ counted result self.old.faults }
+    {
+        let due = is_due(&self.known, realm);
+        self.set_due(realm, false);
+        self.count(due);
+        due
+    }
+
+    /// Counts a call, if it was refused.
+    fn count(&mut self, is_refused: bool)
+        ensures known { self.new.known.items ≡ self.old.known.items }
+        ensures rows { self.new.rows.items ≡ self.old.rows.items }
+        ensures faults { self.new.faults ≡ counted is_refused self.old.faults }
+    {
+        if is_refused {
+            self.faults = self.faults.wrapping_add(1);
+        }
+    }
+
+    /// Raises every epoch that is not at its end.
+    fn raise_each(&mut self)
+        ensures known { self.new.known.items ≡ map raised_known self.old.known.items }
+        ensures rows { self.new.rows.items ≡ self.old.rows.items }
+        ensures faults { self.new.faults ≡ self.old.faults }
+    {
+        raise_all(&mut self.known);
+    }
+
+    /// Raises the epoch of one realm, if it is not at its end.
+    fn raise_of(&mut self, realm: &Realm)
+        ensures known { self.new.known.items ≡ map (raised_named realm.now) self.old.known.items }
+        ensures rows { self.new.rows.items ≡ self.old.rows.items }
+        ensures faults { self.new.faults ≡ self.old.faults }
+    {
+        raise(&mut self.known, realm);
+    }
+
+    /// A refusal, which is counted.
+    fn refusal(&mut self) -> Refused
+        ensures { self.new ≡ record self.old { faults = (self.old.faults + 1) % 2 ^ 64 } }
+    {
+        self.faults = self.faults.wrapping_add(1);
+        Refused
+    }
+}
+
+impl RowLog for MemRows {
+    ghost stands = { λ s log. Shows s.known.items s.rows.items log };
+
+    ghost faults = { λ s. s.faults };
+
+    ghost is_true = { λ _. Unit {0} };
+
+    ghost may_leave = { λ s log. log_in s.known.items s.rows.items ≡ log };
+
+    ghost is_due = { λ s. due_in s.known.items };
+
+    fn know(&mut self, realm: &Realm) -> Result<(), Refused> {
+        match know_in(&mut self.known, realm) {
+            Ok(()) => Ok(()),
+            Err(_) => Err(self.refusal()),
+        }
+    }
+
+    fn raise_epochs(&mut self) -> Result<(), RaiseFault> {
+        if one_is_at_end(&self.known) {
+            return Err(RaiseFault::EpochEnd);
+        }
+        self.raise_each();
+        Ok(())
+    }
+
+    fn raise_epoch(&mut self, realm: &Realm) -> Result<(), RaiseFault> {
+        if self.take_due(realm) {
+            return Err(RaiseFault::Refused);
+        }
+        if is_at_end(&self.known, realm) {
+            return Err(RaiseFault::EpochEnd);
+        }
+        self.raise_of(realm);
+        Ok(())
+    }
+
+    fn put(&mut self, realm: &Realm, key: Key, row: &Row) -> Result<(), Refused> {
+        if self.take_due(realm) {
+            return Err(Refused);
+        }
+        match put_copy(self.alloc, &mut self.rows, realm, key, row) {
+            Ok(()) => Ok(()),
+            Err(_) => Err(self.refusal()),
+        }
+    }
+
+    fn remove(&mut self, realm: &Realm, key: Key) -> Result<(), Refused> {
+        if self.take_due(realm) {
+            return Err(Refused);
+        }
+        remove_from(&mut self.rows, realm, key);
+        Ok(())
+    }
+
+    fn load(&mut self, realm: &Realm) -> Result<Loaded, LoadFault> {
+        match part_of(self.alloc, &self.rows, realm) {
+            Ok(rows) => Ok(Loaded {
+                epoch: epoch_of(&self.known, realm),
+                rows,
+            }),
+            Err(_) => Err(LoadFault::Memory),
+        }
+    }
+
+    fn realms(&mut self) -> Result<Vec<Realm>, LoadFault> {
+        match names_of(self.alloc, &self.known) {
+            Ok(names) => Ok(names),
+            Err(_) => Err(LoadFault::Memory),
+        }
+    }
+
+    fn faults(&self) -> u64 {
+        self.faults
+    }
+}
+
+/// Whether it is the realm of this name.
+fn is_named(known: &Known, realm: &Realm) -> bool
+    ensures { result ≡ is_named realm.now known.now }
+{
+    known.realm == *realm
+}
+
+/// Raises an epoch that is not at its end.
+fn raise_one(known: &mut Known)
+    ensures { known.new ≡ raised_known known.old }
+{
+    known.epoch = known.epoch.saturating_add(1);
+}
+
+/// Raises the epoch of one realm alone.
+fn raise_named(known: &mut Known, realm: &Realm)
+    ensures { known.new ≡ raised_named realm.now known.old }
+{
+    if is_named(known, realm) {
+        raise_one(known);
+    }
+}
+
+/// Says of one realm alone whether its next change is to be refused.
+fn set_refusing(known: &mut Known, realm: &Realm, is_refusing: bool)
+    ensures { known.new ≡ refusing_named realm.now is_refusing known.old }
+{
+    if is_named(known, realm) {
+        known.is_refusing = is_refusing;
+    }
+}
+
+/// Sets the epoch of one realm alone.
+fn set_epoch(known: &mut Known, realm: &Realm, epoch: u32)
+    ensures { known.new ≡ epoch_named realm.now epoch known.old }
+{
+    if is_named(known, realm) {
+        known.epoch = epoch;
+    }
+}
+
+/// Sets the epoch of a realm.
+fn set_epochs(known: &mut [Known], realm: &Realm, epoch: u32)
+    ensures { known.new ≡ map (epoch_named realm.now epoch) known.old }
+{
+    for k in known {
+        set_epoch(k, realm, epoch);
+    }
+}
+
+/// Raises each epoch that is not at its end.
+fn raise_all(known: &mut [Known])
+    ensures { known.new ≡ map raised_known known.old }
+{
+    for k in known {
+        raise_one(k);
+    }
+}
+
+/// Raises the epoch of one realm, if it is not at its end.
+fn raise(known: &mut [Known], realm: &Realm)
+    ensures { known.new ≡ map (raised_named realm.now) known.old }
+{
+    for k in known {
+        raise_named(k, realm);
+    }
+}
+
+/// Says whether the next change of a realm is to be refused.
+fn demand(known: &mut [Known], realm: &Realm, is_refusing: bool)
+    ensures { known.new ≡ map (refusing_named realm.now is_refusing) known.old }
+{
+    for k in known {
+        set_refusing(k, realm, is_refusing);
+    }
+}
+
+/// The realm of a name.
+fn find<'a>(known: &'a [Known], realm: &Realm) -> Option<&'a Known>
+    ensures { option_copied result ≡ find (is_named realm.now) known.now }
+{
+    known.iter().find(|k| is_named(k, realm))
+}
+
+/// Whether a refusal is due.
+fn is_due(known: &[Known], realm: &Realm) -> bool
+    ensures { result ≡ due_in known.now realm.now }
+{
+    match find(known, realm) {
+        Some(k) => k.is_refusing,
+        None => false,
+    }
+}
+
+/// The epoch of a realm; 0 where it is not known.
+fn epoch_of(known: &[Known], realm: &Realm) -> u32
+    ensures { unwrap_or (epoch_in known.now realm.now) (pos 0) ≡ pos result }
+{
+    match find(known, realm) {
+        Some(k) => k.epoch,
+        None => 0,
+    }
+}
+
+/// Whether the epoch of a realm is at its end.
+fn is_at_end(known: &[Known], realm: &Realm) -> bool
+    ensures { IsTrue result ↔ (epoch_in known.now realm.now ≡ Some (pos last_epoch)) }
+{
+    epoch_of(known, realm) == u32::MAX
+}
+
+/// Makes a realm known.
+fn know_in(known: &mut Vec<Known>, realm: &Realm) -> Result<(), AllocError>
+    ensures ok { OnOk result (known.new.items ≡ known_in (record { realm = realm.now; epoch = 0; is_refusing = false }) known.old.items) }
+    ensures realm { OnOk result (is_realm realm.now ≡ true) }
+    ensures err { OnErr result (known.new.items ≡ known.old.items) }
+{
+    match first_from(known, realm.as_str()) {
+        Some(place) if is_named(&known[place], realm) => (),
+        Some(place) => known.insert(place, newly_known(realm)?)?,
+        None => known.push(newly_known(realm)?)?,
+    }
+    Ok(())
+}
+
+/// A realm that was not known.
+fn newly_known(realm: &Realm) -> Result<Known, AllocError>
+    ensures { IfOk result (λ known. known ≡ record { realm = realm.now; epoch = 0; is_refusing = false }) }
+{
+    Ok(Known {
+        realm: realm.copy()?,
+        epoch: 0,
+        is_refusing: false,
+    })
+}
+
+/// The first known realm whose name does not come before this one.
+fn first_from(known: &[Known], name: &str) -> Option<usize>
+    ensures { result ≡ position (is_from name.now) known.now }
+{
+    known.iter().position(|k| is_from(k, name))
+}
+
+/// Whether the name of a known realm does not come before this one.
+fn is_from(known: &Known, name: &str) -> bool
+    ensures { result ≡ is_from name.now known.now }
+{
+    !known.realm.as_str().cmp(name).is_lt()
+}
+
+/// Adds or replaces an equal row.
+fn put_copy(
+    alloc: Global,
+    rows: &mut Vec<Stored>,
+    realm: &Realm,
+    key: Key,
+    row: &Row,
+) -> Result<(), AllocError>
+    ensures ok { OnOk result (rows.new.items ≡ put_in (record { realm = realm.now; key = key; row = row.now }) rows.old.items) }
+    ensures err { OnErr result (rows.new.items ≡ rows.old.items) }
+{
+    let stored = Stored {
+        realm: realm.copy()?,
+        key,
+        row: row.copy(alloc)?,
+    };
+    put_in(rows, stored)
+}
+
+/// Whether an epoch is at its end.
+fn one_is_at_end(known: &[Known]) -> bool
+    ensures { result ≡ list_any is_at_end known.now }
+{
+    known.iter().any(|k| k.epoch == u32::MAX)
+}
+
+/// The first row of the same realm whose key is not before this one's.
+fn first_past(rows: &[Stored], stored: &Stored) -> Option<usize>
+    ensures { result ≡ position (is_past stored.now) rows.now }
+{
+    rows.iter().position(|row| is_past(stored, row))
+}
+
+/// Whether a row is of the same realm, and its key is not before this one's.
+fn is_past(stored: &Stored, row: &Stored) -> bool
+    ensures { result ≡ is_past stored.now row.now }
+{
+    row.realm == stored.realm && !row.key.comes_before(stored.key)
+}
+
+/// Adds or replaces a row.
+fn put_in(rows: &mut Vec<Stored>, stored: Stored) -> Result<(), AllocError>
+    ensures ok { OnOk result (rows.new.items ≡ put_in stored rows.old.items) }
+    ensures err { OnErr result (rows.new.items ≡ rows.old.items) }
+{
+    match first_past(rows, &stored) {
+        Some(place) if stands_at(&rows[place], stored.key) => rows[place] = stored,
+        Some(place) => rows.insert(place, stored)?,
+        None => rows.push(stored)?,
+    }
+    Ok(())
+}
+
+/// Whether a row stands at a key of its realm.
+fn stands_at(row: &Stored, key: Key) -> bool
+    ensures { result ≡ is_same row.now.key key }
+{
+    row.key == key
+}
+
+/// Removes a row.
+fn remove_from(rows: &mut Vec<Stored>, realm: &Realm, key: Key)
+    ensures { rows.new.items ≡ filter (is_other realm.now key) rows.old.items }
+{
+    rows.retain(|row| !(row.realm == *realm && row.key == key));
+}
+
+/// The rows of a realm, in order.
+fn part_of(alloc: Global, rows: &[Stored], realm: &Realm) -> Result<Vec<(Key, Row)>, AllocError>
+    ensures { IfOk result (λ entries. entries.items ≡ part realm.now rows.now) }
+{
+    let mut entries = Vec::new(alloc);
+    for stored in rows {
+        if stored.realm == *realm {
+            let row = stored.row.copy(alloc)?;
+            entries.push((stored.key, row))?;
+        }
+    }
+    Ok(entries)
+}
+
+/// The names of realms, in order.
+fn names_of(alloc: Global, known: &[Known]) -> Result<Vec<Realm>, AllocError>
+    ensures { IfOk result (λ names. names.items ≡ map (λ k. k.realm) known.now) }
+{
+    let mut names = Vec::with_capacity(alloc, known.len())?;
+    for k in known {
+        names.push_reserved(k.realm.copy()?);
+    }
+    Ok(names)
+}
