@@ -1,0 +1,11 @@
+//! The connection table of the Transaction Internet Protocol, version 3.0 (RFC 2371, sections 4, 9 and 13).
+#![tactic(auto)]
+
+pub mod laws;
+mod state;
+mod table;
+#[cfg(test)]
+mod tests;
+
+pub use state::{Admit, Side, State, Turn};
+pub use table::{admit, admit_named, after, after_named};
