@@ -1,0 +1,11 @@
+//! The items of many realms in one table. Contracts see realm by realm the list of the items, in the order made.
+#![tactic(auto)]
+
+pub mod laws;
+mod table;
+mod test;
+#[cfg(test)]
+mod tests;
+
+pub use table::Table;
+pub use test::Test;

@@ -1,0 +1,131 @@
+//! One table for the items of many realms.
+ghost use Rattle.std.specs.Prelude.{◌≡◌, ◌≢◌, ◌↔◌, ◌==◌, ◌&&◌, ℕ, ◌+◌, ◌<◌, ◌≤◌, [], ◌∷◌, ◌++◌, Some, None, length, position, count_by, IsSome, IsOk, IfSome, OnOk};
+ghost use Rattle.std.specs.List.{find};
+ghost use Rattle.tip_table.specs.Entries.{Item};
+ghost use Rattle.tip_table.specs.Kept.{StandsAt, of, places, item_at, taken_out};
+
+use crate::test::Test;
+use std::alloc::{AllocError, Allocator, Global};
+use std::marker::Model;
+
+/// An item and its realm.
+#[derive(Drop)]
+struct Entry<T> {
+    realm: usize,
+    item: T,
+}
+
+/// Items, each of a realm. A place is a name of one item that holds until an item is removed.
+#[derive(Drop)]
+pub struct Table<T, A: Allocator = Global> {
+    entries: Vec<Entry<T>, A>,
+}
+
+impl<T, A: Allocator> Model for Table<T, A> {
+    ghost use Rattle.std.specs.Prelude.{◌-◌, vec_len, vec_capacity};
+    ghost use Rattle.tip_table.specs.Kept.{Kept};
+
+    ghost Value = { Kept T };
+
+    ghost view = { λ t. record { entries = t.entries.items; free = vec_capacity t.entries - vec_len t.entries } };
+}
+
+impl<T: Drop, A: Allocator> Table<T, A> {
+    ghost use Rattle.std.specs.Borrow.{sem};
+    ghost use Rattle.tip_table.specs.Lending.{LendsItem};
+
+    /// A table without items. It takes no memory.
+    #[tactic(auto, unfolding(crate::specs::Kept::of))]
+    pub fn new(alloc: A) -> Self
+        ensures { (realm : ℕ) → of result realm ≡ [] }
+    {
+        Table {
+            entries: Vec::new(alloc),
+        }
+    }
+
+    /// How many items a realm has.
+    pub fn count(&self, realm: usize) -> usize
+        ensures { result ≡ length (of self.now realm) }
+    {
+        count_in(&self.entries, realm)
+    }
+
+    /// Makes room for one item more.
+    #[tactic(auto, unfolding(crate::specs::Kept::of, crate::specs::Kept::places))]
+    pub fn reserve(&mut self) -> Result<(), AllocError>
+        ensures ok { OnOk result (0 < self.new.free) }
+        ensures room_is_kept { self.old.free ≤ self.new.free }
+        ensures has_room { 0 < self.old.free → IsOk result }
+        ensures items { (realm : ℕ) → of self.new realm ≡ of self.old realm }
+        ensures places { (place : ℕ) → places self.new place ≡ places self.old place }
+    {
+        self.entries.reserve(1)
+    }
+
+    /// Makes an item the last of its realm. It takes room that `reserve` made.
+    #[tactic(auto, using(crate::proofs::EntryLemmas::of_entries), unfolding(crate::specs::Kept::of, crate::specs::Kept::places))]
+    pub fn add(&mut self, realm: usize, item: T)
+        requires { 0 < self.old.free }
+        ensures added { of self.new realm ≡ of self.old realm ++ item ∷ [] }
+        ensures others { (other : ℕ) → other ≢ realm → of self.new other ≡ of self.old other }
+        ensures places { (place : ℕ) (there : Item) → places self.old place ≡ Some there → places self.new place ≡ Some there }
+        ensures free { self.new.free + 1 ≡ self.old.free }
+    {
+        self.entries.push_reserved(Entry { realm, item });
+    }
+
+    /// The place of a realm's first item that passes.
+    pub fn find<Q: Test<T>>(&self, realm: usize, query: &Q) -> Option<usize>
+        ensures none { (result ≡ None) ↔ (find (Q.passes query.now) (of self.now realm) ≡ None) }
+        ensures some { IfSome result (λ place. StandsAt self.now realm (Q.passes query.now) place) }
+    {
+        find_in(&self.entries, realm, query)
+    }
+
+    /// The item at a place.
+    #[tactic(auto, using(crate::proofs::EntryLemmas::of_entries), unfolding(crate::specs::Kept::of, crate::specs::Kept::places))]
+    pub fn item(&self, place: usize) -> &T
+        requires { IsSome (places self.now place) }
+        ensures { item_at self.now place ≡ Some result.now }
+    {
+        &self.entries[place].item
+    }
+
+    /// The item at a place, to be written.
+    pub fn item_mut(&mut self, place: usize) -> &mut T
+        requires { IsSome (places self.old place) }
+        ensures* writes_back { sem 𝓛 (LendsItem T.row A.row A.Allocator self.entry place result) }
+        ensures value { item_at self.old place ≡ Some result.now }
+    {
+        let entry = &mut self.entries[place];
+        &mut entry.item
+    }
+
+    /// Takes the item at a place out. Places of other items may change.
+    #[tactic(auto, using(crate::proofs::EntryLemmas::of_entries), unfolding(crate::specs::Kept::of, crate::specs::Kept::places))]
+    pub fn remove(&mut self, place: usize) -> T
+        requires { IsSome (places self.old place) }
+        ensures taken { item_at self.old place ≡ Some result }
+        ensures left { (realm : ℕ) → of self.new realm ≡ taken_out (places self.old place) realm (of self.old realm) }
+        ensures free { self.new.free ≡ self.old.free + 1 }
+    {
+        self.entries.remove(place).item
+    }
+}
+
+/// How many of the entries are a realm's.
+fn count_in<T>(entries: &[Entry<T>], realm: usize) -> usize
+    ensures { result ≡ count_by (λ entry. entry.realm == realm) entries.now }
+{
+    entries.iter().filter(|entry| entry.realm == realm).count()
+}
+
+/// The place of the first entry of a realm that passes.
+fn find_in<T, Q: Test<T>>(entries: &[Entry<T>], realm: usize, query: &Q) -> Option<usize>
+    ensures { result ≡ position (λ entry. (entry.realm == realm) && Q.passes query.now entry.item) entries.now }
+{
+    entries
+        .iter()
+        .position(|entry| entry.realm == realm && query.passes(&entry.item))
+}
