@@ -139,7 +139,7 @@ fn cut(text: &str) -> Option<(&str, &str)>
 }
 
 /// The number that a text says in decimal without leading zeros.
-fn number_of(text: &str) -> Option<u32>
+pub fn number_of(text: &str) -> Option<u32>
     ensures said { IfSome result (λ number. (text.now ≡ decimal number) × (number < 2 ^ 32)) }
     ensures only { (number : ℕ) → number < 2 ^ 32 → text.now ≡ decimal number → result ≡ Some number }
 {

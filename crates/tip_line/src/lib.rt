@@ -18,9 +18,9 @@ mod words;
 
 pub use command::{Command, CommandName};
 pub use fault::{ParseFault, WordFault};
-pub use id::{Id, IdParts};
+pub use id::{Id, IdParts, number_of};
 pub use lines::{Cause, Line, Lines};
-pub use realm::Realm;
+pub use realm::{Realm, is_realm};
 pub use refusal::Refusal;
 pub use response::{Response, ResponseName};
 pub use word::{Address, Word};

@@ -1,0 +1,42 @@
+-- How the shared tables stand for the realms.
+use Rattle.std.specs.Prelude.{ℕ, ◌≡◌, ◌≢◌, [], length, slice_index_or}
+use Rattle.tip_table.specs.Kept.{of}
+use Rattle.tip_machine.specs.Heads.{IsCounted}
+use Rattle.tip_machine.specs.States.{State, Work}
+use Rattle.tip_machine.specs.declared.head.Head.{Head}
+use Rattle.tip_core.specs.Makings.{Made}
+use Rattle.tip_core.specs.declared.realms.Realms.{Realms}
+
+-- stands where there is no realm
+abbrev pub no_head : Head
+no_head = record {
+  name = [];
+  address = [];
+  limits = record { connections = 0; transactions = 0; branches = 0; boxes = 0; entries = 0 };
+  epoch = 0;
+  given = 0;
+  entries = 0;
+}
+
+-- one realm
+abbrev pub state_at : ℕ → Realms → State
+state_at realm tables = record { head = slice_index_or tables.heads.items realm no_head; connections = of tables.connections realm }
+
+-- the realm becomes this state, and every other realm stays
+pub record Becomes (old new : Realms) (realm : ℕ) (state : State) : Type 0 where
+  pub own : state_at realm new ≡ state
+  pub others : (other : ℕ) → other ≢ realm → state_at other new ≡ state_at other old
+  pub count : length new.heads.items ≡ length old.heads.items
+
+-- what an event has done so far in its realm
+abbrev pub work_at : ℕ → Realms → Made → Work
+work_at realm tables made = record { state = state_at realm tables; answer = made.answer }
+
+-- a rule has done this work in the realm, and every other realm stays
+pub record Does (old new : Realms) (realm : ℕ) (made : Made) (work : Work) : Type 0 where
+  pub answer : made.answer ≡ work.answer
+  pub becomes : Becomes old new realm work.state
+
+-- each realm's counts are as they can be
+abbrev pub AreCounted : Realms → Type 0
+AreCounted tables = (realm : ℕ) → IsCounted (state_at realm tables).head

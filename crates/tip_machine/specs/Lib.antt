@@ -1,0 +1,9 @@
+pub mod Heads
+pub mod Connections
+pub mod Events
+pub mod Answers
+pub mod States
+pub mod Served
+pub mod Rules
+pub mod Steps
+pub mod Runs

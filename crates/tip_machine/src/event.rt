@@ -1,0 +1,82 @@
+//! What happens to a realm.
+ghost use Rattle.std.specs.Prelude.{◌≡◌, IfOk};
+ghost use Rattle.tip_machine.specs.Events.{IsHeard};
+
+use std::alloc::{AllocError, Global};
+use tip_line::{Cause, Command, Line, ParseFault, Response};
+use tip_rows::{Key, Row};
+
+/// Names one connection of a realm: no later connection has the same seat.
+#[derive(Clone, Copy, Debug, PartialEq, Eq)]
+pub struct Seat {
+    /// The start of the realm that the connection belongs to.
+    pub epoch: u32,
+    /// The connection's number in that epoch.
+    pub number: u32,
+}
+
+/// What a line says, read once as it comes. Whether we wait for a command or for a response, only the connection knows.
+#[derive(Debug, Drop)]
+pub enum Heard {
+    /// A command; a line ERROR, too, which is also a response.
+    Command(Command),
+    /// A response that is no command.
+    Response(Response),
+    /// Neither.
+    Malformed,
+}
+
+impl Heard {
+    /// What this line says.
+    pub fn of(alloc: Global, text: &[u8]) -> Result<Heard, AllocError>
+        ensures { IfOk result (IsHeard text.now) }
+    {
+        match Command::parse(alloc, text) {
+            Ok(command) => Ok(Heard::Command(command)),
+            Err(ParseFault::Memory) => Err(AllocError),
+            Err(_) => match Response::parse(alloc, text) {
+                Ok(response) => Ok(Heard::Response(response)),
+                Err(ParseFault::Memory) => Err(AllocError),
+                Err(_) => Ok(Heard::Malformed),
+            },
+        }
+    }
+}
+
+/// What happens to a realm.
+#[derive(Debug, Drop)]
+pub enum Event {
+    /// Another manager has opened a connection.
+    Open,
+    /// A line came on a connection.
+    Line { seat: Seat, heard: Heard },
+    /// A connection broke, or its input ended.
+    Lost { seat: Seat },
+}
+
+/// A change of the realm's stored rows.
+#[derive(Debug, Drop)]
+pub enum Change {
+    /// The row of a key is stored, in place of an earlier one.
+    Put { key: Key, row: Row },
+    /// The row of a key is taken out.
+    Remove { key: Key },
+}
+
+/// What became of the change that an event wanted.
+#[derive(Clone, Copy, Debug, PartialEq, Eq)]
+pub enum Outcome {
+    /// It wanted none.
+    NoChange,
+    Stored,
+    /// The rows are as before.
+    Refused,
+}
+
+/// An item of one of many realms.
+#[derive(Debug, Drop)]
+pub struct InRealm<T> {
+    /// The realm's place in the order of declaration.
+    pub realm: usize,
+    pub item: T,
+}
