@@ -40,7 +40,7 @@ IsTold errands.Abort m n = IsToldAbort m.standing.phase m n
 
 abbrev pub is_vote_of_no : Option Call → Bool
 is_vote_of_no None = false
-is_vote_of_no (Some (calls.Vote v)) = is_no (Some v)
+is_vote_of_no (Some (calls.Vote v)) = is_no v
 is_vote_of_no (Some (calls.Commit r)) = false
 is_vote_of_no (Some calls.Abort) = false
 

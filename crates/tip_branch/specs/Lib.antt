@@ -2,6 +2,7 @@ pub mod Always
 pub mod Plans
 pub mod Standings
 pub mod Members
+pub mod Votes
 pub mod Errands
 pub mod Accounts
 pub mod Notes

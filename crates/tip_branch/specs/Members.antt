@@ -1,5 +1,5 @@
 -- What a party notes of its members.
-use Rattle.std.specs.Prelude.{ℕ, ◌+◌, ◌==◌, ◌&&◌, Bool, true, false, List, [], ◌∷◌, map, filter, Option, Some, None, option_map, nat_lt, nat_le, if◌then◌else◌}
+use Rattle.std.specs.Prelude.{ℕ, ◌+◌, ◌==◌, ◌&&◌, Bool, true, false, List, [], ◌∷◌, map, Option, Some, None, option_map, nat_lt, nat_le, if◌then◌else◌}
 use Rattle.std.specs.List.{list_any}
 use Rattle.std.specs.Option.{option_flatten}
 use Rattle.tip_branch.specs.declared.branch.Vote.{Vote}
@@ -74,33 +74,14 @@ is_active m = is_active_phase m.standing.phase
 abbrev pub is_ready : Member → Bool
 is_ready m = is_ready_phase m.standing.phase
 
-abbrev pub is_no : Option Vote → Bool
-is_no None = false
-is_no (Some votes.Yes) = false
-is_no (Some votes.No) = true
-is_no (Some votes.ReadOnly) = false
-
-abbrev pub is_yes : Option Vote → Bool
-is_yes None = false
-is_yes (Some votes.Yes) = true
-is_yes (Some votes.No) = false
-is_yes (Some votes.ReadOnly) = false
-
--- no where one voted no, else yes where one voted yes, else read-only
-abbrev pub tally : List Member → Vote
-tally ms = if list_any (λ m. is_no m.vote) ms then votes.No else (if list_any (λ m. is_yes m.vote) ms then votes.Yes else votes.ReadOnly)
+abbrev pub is_no : Vote → Bool
+is_no votes.Yes = false
+is_no votes.No = true
+is_no votes.ReadOnly = false
 
 -- later where one is still ready
 abbrev pub outcome : List Member → Settled
 outcome ms = if list_any is_ready ms then Later else Done
-
--- how a member counts when its transaction is decided: one that is still active is a no
-abbrev pub ballot : Member → Option Vote
-ballot m = if is_active m then Some votes.No else m.vote
-
--- the members that are told to abort where their party is dropped
-abbrev pub active_numbers : List Member → List ℕ
-active_numbers ms = map (λ m. m.number) (filter is_active ms)
 
 -- the member of this number
 abbrev pub member_of : ℕ → List Member → Option Member

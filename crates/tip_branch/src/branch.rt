@@ -3,7 +3,10 @@
 ghost use Rattle.std.specs.Prelude.{◌≡◌, ◌≢◌};
 ghost use Rattle.tip_branch.specs.Plans.{planned_vote, planned_answer};
 ghost use Rattle.tip_branch.specs.Standings.{IsVoted, IsCommitted, aborted};
+ghost use Rattle.tip_branch.specs.Votes.{answer_of};
 ghost use Rattle.tip_branch.specs.declared.branch.Phase.TheVariants.{Active, Ready, Ended};
+
+use tip_txn::Answer;
 
 /// What a branch answers when it is asked.
 #[derive(Clone, Copy, Debug, PartialEq, Eq, Drop)]
@@ -11,6 +14,19 @@ pub enum Vote {
     Yes,
     No,
     ReadOnly,
+}
+
+impl Vote {
+    /// The answer of whoever voted so, as its transaction takes it.
+    pub fn answer(self) -> Answer
+        ensures { result ≡ answer_of self }
+    {
+        match self {
+            Vote::Yes => Answer::Yes,
+            Vote::No => Answer::No,
+            Vote::ReadOnly => Answer::ReadOnly,
+        }
+    }
 }
 
 /// What a branch answers to a commit.

@@ -4,9 +4,12 @@
 mod boxes;
 mod branch;
 mod fresh;
-mod held;
+mod held_fresh;
+mod held_party;
+mod held_prepared;
 mod member;
 mod party;
+mod party_room;
 mod prepared;
 mod roll;
 mod telling;
@@ -15,7 +18,10 @@ mod tests;
 
 pub use branch::{Branch, Phase, Plan, Settled, Standing, Told, Vote};
 pub use fresh::{Fresh, NotFresh};
-pub use held::{HeldFresh, HeldParty, HeldPrepared, PartyRoom};
+pub use held_fresh::HeldFresh;
+pub use held_party::HeldParty;
+pub use held_prepared::HeldPrepared;
 pub use member::{Call, Errand, Member};
 pub use party::{Party, are_numbers};
+pub use party_room::PartyRoom;
 pub use prepared::{NotReady, Prepared};

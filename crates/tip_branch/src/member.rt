@@ -3,6 +3,7 @@
 ghost use Rattle.std.specs.Prelude.{◌≡◌};
 
 use crate::branch::{Phase, Plan, Settled, Standing, Told, Vote};
+use tip_txn::Answer;
 
 /// What a party is to do while its transaction's lock is free.
 #[derive(Clone, Copy, Debug, PartialEq, Eq, Drop)]
@@ -39,7 +40,8 @@ pub struct Member {
 }
 
 impl Member {
-    ghost use Rattle.tip_branch.specs.Members.{new_member, voting, committing, aborting, forgetting, promised_answer, is_active, is_ready, is_no, is_yes};
+    ghost use Rattle.tip_branch.specs.Members.{new_member, voting, committing, aborting, forgetting, promised_answer, is_active, is_ready};
+    ghost use Rattle.tip_branch.specs.Votes.{ballot};
     ghost use Rattle.tip_branch.specs.Errands.{is_vote_of_no};
 
     /// A branch of this plan and phase, which was told nothing by its party.
@@ -129,18 +131,14 @@ impl Member {
         self.standing.phase == Phase::Ready
     }
 
-    /// Whether it voted no in its party.
-    pub(crate) fn voted_no(&self) -> bool
-        ensures { result ≡ is_no self.now.vote }
+    /// Its answer in its party's vote. One that is still active is a no; one that came ready has none.
+    pub(crate) fn ballot(&self) -> Option<Answer>
+        ensures { result ≡ ballot self.now }
     {
-        self.vote == Some(Vote::No)
-    }
-
-    /// Whether it voted yes in its party.
-    pub(crate) fn voted_yes(&self) -> bool
-        ensures { result ≡ is_yes self.now.vote }
-    {
-        self.vote == Some(Vote::Yes)
+        if self.is_active() {
+            return Some(Answer::No);
+        }
+        Some(self.vote?.answer())
     }
 
     /// Whether its new call is a vote of no.

@@ -1,16 +1,19 @@
 //! The branches of one transaction, with what they are to do and what is noted of them.
 
-ghost use Rattle.std.specs.Prelude.{◌≡◌, ◌≢◌, ◌⊎◌, IsTrue, None, length, map, vec_len};
+ghost use Rattle.std.specs.Prelude.{◌≡◌, ◌≢◌, ◌⊎◌, ◌↔◌, IsTrue, Some, None, length, map, vec_len};
 ghost use Rattle.std.specs.List.{All, list_any};
 ghost use Rattle.tip_branch.specs.Always.{Always};
 ghost use Rattle.tip_branch.specs.declared.member.Errand.TheVariants.{Idle};
-ghost use Rattle.tip_branch.specs.Members.{are_numbers, numbers_of, is_no, is_yes, is_ready, tally, outcome, member_of, phase_of, vote_of, call_of};
+ghost use Rattle.tip_branch.specs.Members.{are_numbers, numbers_of, is_ready, outcome, member_of, phase_of, vote_of, call_of};
+ghost use Rattle.tip_branch.specs.Votes.{ballot, ballots_of, decided};
+ghost use Rattle.tip_txn.specs.Decisions.{Decides, Says};
 
 use crate::branch::{Branch, Phase, Settled, Vote};
 use crate::member::{Call, Errand, Member};
 use crate::roll::Roll;
 use crate::{boxes, telling};
 use tip_line::{Id, Realm};
+use tip_txn::Answer;
 
 /// The boxed branches of one transaction. A party that is dropped is spent.
 ///
@@ -131,7 +134,7 @@ impl Party {
     pub fn vote_all(&mut self) -> Vote
         requires { (noted self.old).errand ≡ Errand.Vote }
         ensures told { ComesBack (noted self.old) (noted self.new) }
-        ensures answer { result ≡ tally (noted self.new).members }
+        ensures answer { Decides (ballots_of (noted self.new).members) (decided result) }
         ensures own { IsTrueToBoxes standing self.old → AreCalledAsNoted standing self.old self.new }
         ensures agrees { IsTrueToBoxes standing self.old → IsTrueToBoxes standing self.new }
     {
@@ -233,29 +236,29 @@ pub fn are_numbers(numbers: &[u8]) -> bool
     true
 }
 
-/// No where one voted no, else yes where one voted yes, else read-only.
+/// What the members decide: no where one refuses, else yes where one is willing, else read-only.
 fn tally(members: &[Member]) -> Vote
-    ensures { result ≡ tally members.now }
+    ensures { Decides (ballots_of members.now) (decided result) }
 {
-    if one_voted_no(members) {
+    if one_answers(members, Answer::No) {
         Vote::No
-    } else if one_voted_yes(members) {
+    } else if one_answers(members, Answer::Yes) {
         Vote::Yes
     } else {
         Vote::ReadOnly
     }
 }
 
-fn one_voted_no(members: &[Member]) -> bool
-    ensures { result ≡ list_any (λ m. is_no m.vote) members.now }
+fn one_answers(members: &[Member], answer: Answer) -> bool
+    ensures { IsTrue result ↔ Says (ballots_of members.now) (Some answer) }
 {
-    members.iter().any(|member| member.voted_no())
+    members.iter().any(|member| answers(member, answer))
 }
 
-fn one_voted_yes(members: &[Member]) -> bool
-    ensures { result ≡ list_any (λ m. is_yes m.vote) members.now }
+fn answers(member: &Member, answer: Answer) -> bool
+    ensures { IsTrue result ↔ (ballot member.now ≡ Some answer) }
 {
-    members.iter().any(|member| member.voted_yes())
+    member.ballot() == Some(answer)
 }
 
 fn one_is_ready(members: &[Member]) -> bool

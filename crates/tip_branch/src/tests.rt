@@ -328,3 +328,62 @@ fn a_party_crosses_threads_behind_a_lock(rt: HostRuntime) -> Result<(), Fail> {
     assert!(rt; shared.lock(&rt).is_none());
     Ok(())
 }
+
+/// A boxed branch, made again where memory was refused.
+fn make_box(
+    alloc: Global,
+    phase: Phase,
+    aborts: &Arc<AtomicU64>,
+) -> Result<Box<dyn Branch + Send>, Fail> {
+    match Box::new(alloc, make_probe(Plan::Yes, phase, aborts)?) {
+        Ok(branch) => Ok(branch),
+        Err(_) => Ok(Box::new(alloc, make_probe(Plan::Yes, phase, aborts)?)?),
+    }
+}
+
+/// One boxed branch, by itself.
+fn make_boxes(
+    alloc: Global,
+    phase: Phase,
+    aborts: &Arc<AtomicU64>,
+) -> Result<Vec<Box<dyn Branch + Send>>, Fail> {
+    let mut boxes: Vec<Box<dyn Branch + Send>> = match Vec::with_capacity(alloc, 1) {
+        Ok(boxes) => boxes,
+        Err(_) => Vec::with_capacity(alloc, 1)?,
+    };
+    boxes.push(make_box(alloc, phase, aborts)?)?;
+    Ok(boxes)
+}
+
+/// A growth that is refused is asked for again, so that this holds whichever one is refused.
+#[test]
+fn a_refused_growth_gives_the_boxes_back(rt: HostRuntime) -> Result<(), Fail> {
+    let alloc = rt.alloc();
+    let aborts = match Arc::new(alloc, AtomicU64::new(0)) {
+        Ok(aborts) => aborts,
+        Err(_) => Arc::new(alloc, AtomicU64::new(0))?,
+    };
+    let fresh = Fresh::of(make_boxes(alloc, Phase::Active, &aborts)?)?;
+    let held = match HeldFresh::new(alloc, fresh) {
+        Ok(held) => held,
+        Err(fault) => {
+            assert_eq!(rt; fault.value.len(), 1);
+            HeldFresh::new(alloc, fault.value).map_err(|_| "no memory")?
+        }
+    };
+    assert_eq!(rt; held.len(), 1);
+    let prepared = Prepared::of(make_boxes(alloc, Phase::Ready, &aborts)?)?;
+    let held = match HeldPrepared::new(alloc, prepared) {
+        Ok(held) => held,
+        Err(fault) => {
+            assert_eq!(rt; fault.value.len(), 1);
+            HeldPrepared::new(alloc, fault.value).map_err(|_| "no memory")?
+        }
+    };
+    assert_eq!(rt; held.len(), 1);
+    if PartyRoom::new(alloc, 8).is_err() {
+        let _ = PartyRoom::new(alloc, 8)?;
+    }
+    assert_eq!(rt; aborts.load(Ordering::SeqCst), 0);
+    Ok(())
+}

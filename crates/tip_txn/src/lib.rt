@@ -1,7 +1,8 @@
-//! One transaction of two-phase commit: its parts, their answers, and what they decide (RFC 2371, sections 8 and 13).
+//! One transaction of two-phase commit: its parts, their answers, and what they decide (RFC 2371, section 13).
 #![tactic(auto)]
 
 mod answer;
+pub mod laws;
 mod part;
 #[cfg(test)]
 mod tests;

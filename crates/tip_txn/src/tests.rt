@@ -1,10 +1,11 @@
-//! One transaction on its happy path.
+//! One transaction on its happy path, and where its memory is refused.
 ghost use Rattle.std.specs.Prelude.{◌≡◌, ◌∷◌, [], codes, Some, IfOk};
 ghost use Rattle.tip_txn.specs.Parts.{enlisted};
 ghost use Rattle.tip_txn.specs.Transactions.{local_party};
 ghost use Rattle.tip_txn.specs.declared.answer.Phase.TheVariants.{Active};
 
 use crate::{Answer, Decision, EnlistFault, Part, Phase, Txn};
+use linked_list_allocator::LocalHeap;
 use std::alloc::Global;
 use std::test::Fail;
 use tip_line::{Address, Id};
@@ -72,4 +73,36 @@ fn a_row_makes_a_transaction_of_yeses(rt: HostRuntime) -> Result<(), Fail> {
     assert_eq!(rt; txn.id().as_str(), "north-1-1-1");
     assert_eq!(rt; txn.decide(), Decision::Commit);
     Ok(())
+}
+
+#[test]
+fn no_memory_for_the_parts_of_a_row(rt: HostRuntime) -> Result<(), Fail> {
+    let alloc = rt.alloc();
+    let heap = LocalHeap::new(alloc, 64)?;
+    let row = [
+        (Address::new(alloc, b"p.x")?, Id::new(alloc, b"p7")?),
+        (Address::new(alloc, b"q.x")?, Id::new(alloc, b"q7")?),
+    ];
+    let id = Id::new(alloc, b"north-1-1-1")?;
+    assert!(rt; Txn::of(&heap, id, Phase::Committed, &row).is_err());
+    Ok(())
+}
+
+#[test]
+fn refused_room_leaves_the_transaction(rt: HostRuntime) -> Result<(), Fail> {
+    let alloc = rt.alloc();
+    let heap = LocalHeap::new(alloc, 2048)?;
+    let mut txn = Txn::new(&heap, Id::new(alloc, b"north-1-1-1")?);
+    for parts in 1..100 {
+        if txn.reserve().is_err() {
+            assert!(rt; parts > 1);
+            assert!(rt; txn.part(Part::at(parts - 1)).is_some());
+            assert!(rt; txn.part(Part::at(parts)).is_none());
+            assert_eq!(rt; txn.phase(), Phase::Active);
+            return Ok(());
+        }
+        let enlisted = txn.enlist(Address::new(alloc, b"p.x")?, None);
+        assert_eq!(rt; enlisted, Ok(Part::at(parts)));
+    }
+    Err(Fail::from("the heap has no end"))
 }

@@ -10,7 +10,7 @@ ghost use Rattle.tip_txn.specs.declared.txn.EnlistFault.TheVariants.{NotActive, 
 
 use crate::answer::{Answer, Decision, Phase};
 use crate::part::{Part, Participant};
-use std::alloc::{AllocError, Global};
+use std::alloc::{AllocError, Allocator, Global};
 use std::marker::Model;
 use thiserror::Error;
 use tip_line::{Address, Id};
@@ -26,14 +26,14 @@ pub enum EnlistFault {
 
 /// One transaction. It knows no connection: whoever holds it says what its parts answered.
 #[derive(Debug, Drop)]
-pub struct Txn {
+pub struct Txn<A: Allocator = Global> {
     id: Id,
     phase: Phase,
     local: Participant,
-    others: Vec<Participant>,
+    others: Vec<Participant, A>,
 }
 
-impl Model for Txn {
+impl<A: Allocator> Model for Txn<A> {
     ghost use Rattle.std.specs.Prelude.{◌∷◌, ◌-◌, vec_len, vec_capacity};
     ghost use Rattle.tip_txn.specs.Transactions.{Transaction};
 
@@ -42,9 +42,9 @@ impl Model for Txn {
     ghost view = { λ t. record { id = t.id; phase = t.phase; parts = t.local ∷ t.others.items; spare = vec_capacity t.others - vec_len t.others } };
 }
 
-impl Txn {
+impl<A: Allocator> Txn<A> {
     /// A transaction that has just begun, with the local party as its only part.
-    pub fn new(alloc: Global, id: Id) -> Txn
+    pub fn new(alloc: A, id: Id) -> Txn<A>
         ensures { result ≡ fresh id }
     {
         Txn {
@@ -57,11 +57,11 @@ impl Txn {
 
     /// The transaction of a stored row: each party said yes, and no subordinate has acknowledged.
     pub fn of(
-        alloc: Global,
+        alloc: A,
         id: Id,
         phase: Phase,
         subordinates: &[(Address, Id)],
-    ) -> Result<Txn, AllocError>
+    ) -> Result<Txn<A>, AllocError>
         ensures { IfOk result (λ txn. txn ≡ recovered id phase subordinates.now) }
     {
         let mut others = Vec::with_capacity(alloc, subordinates.len())?;

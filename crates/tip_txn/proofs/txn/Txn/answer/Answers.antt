@@ -6,7 +6,7 @@ use Rattle.tip_txn.proofs.PartLemmas.{changed_at-behind}
 use Rattle.tip_txn.proofs.txn.Txn.answer.Goals as goal
 
 pub returns-in_default : goal.returns-in_default
-returns-in_default c =
+returns-in_default g c =
     let t = c.self.inside in
     let there : c.args.part < length (t.local ∷ t.others.items) = rw (← c.self.view_is) at c.requires.there in
     let parts = changed_at-behind t.local t.others.items c.place.result (answered c.args.answer) c.index_mut.result.now (omega arith) (omega arith) c.index_mut.ensures.value in

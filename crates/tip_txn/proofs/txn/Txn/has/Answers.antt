@@ -3,7 +3,7 @@ use Rattle.tip_txn.proofs.PartLemmas.{says_behind, says_either}
 use Rattle.tip_txn.proofs.txn.Txn.has.Goals as goal
 
 pub returns-else-says : goal.returns-else-says
-returns-else-says c =
+returns-else-says g c =
     let t = c.self.inside in
     let others = rw c.deref.ensures.value at c.have.ensures in
     rw (← c.self.view_is) (

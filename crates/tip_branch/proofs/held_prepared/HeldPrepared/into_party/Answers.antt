@@ -4,7 +4,7 @@ use Rattle.std.proofs.lemmas.Grind.{common_steps}
 use Rattle.tip_branch.specs.Members.{are_numbers, numbers_of}
 use Rattle.tip_branch.proofs.Keeping.{length-are_numbers}
 use Rattle.tip_branch.proofs.Enrolling.{numbers_of-ready_members, length-ready_members, All-ready_members}
-use Rattle.tip_branch.proofs.held.HeldPrepared.into_party.Goals as goal
+use Rattle.tip_branch.proofs.held_prepared.HeldPrepared.into_party.Goals as goal
 
 pub enrol_ready-roll-requires-clause-few : goal.enrol_ready-roll-requires-clause-few
 enrol_ready-roll-requires-clause-few g c =

@@ -3,7 +3,7 @@ use Rattle.std.specs.List.{All}
 use Rattle.std.proofs.lemmas.Grind.{common_steps}
 use Rattle.tip_branch.specs.Members.{are_numbers, numbers_of}
 use Rattle.tip_branch.proofs.Enrolling.{are_numbers-fresh_members, All-fresh_members}
-use Rattle.tip_branch.proofs.held.HeldFresh.take_party.Goals as goal
+use Rattle.tip_branch.proofs.held_fresh.HeldFresh.take_party.Goals as goal
 
 pub with_roll-requires-clause-rising : goal.with_roll-requires-clause-rising
 with_roll-requires-clause-rising g c =
