@@ -10,9 +10,14 @@ use Rattle.std.specs.declared.cmp.Ordering.TheVariants.{Equal}
 use Rattle.tip_line.proofs.StopLemmas.{and_left, and_right}
 use Rattle.tip_rows.specs.Logs.{Log, row_at, is_rising, is_here, with_at, with_row, without_row, with_all_raised, with_raised, raised, raised_number, last_epoch, IsSpent, name_before, are_rising_names, with_known, with_epoch}
 use Rattle.tip_rows.specs.Logs as logs
-use Rattle.tip_rows.specs.Memory.{is_named, epoch_in, due_in, log_in, IsKept, Shows, IsDemanded, raised_known, raised_named, epoch_named, refusing_named, is_at_end}
+use Rattle.tip_rows.specs.Memory.{is_named, epoch_in, due_in, log_in, IsKept, raised_known, raised_named, epoch_named, refusing_named, is_at_end}
 use Rattle.tip_rows.specs.declared.memory.Known.{Known}
 use Rattle.tip_rows.specs.declared.memory.Stored.{Stored}
+
+-- rows in memory are in their order, and stand for this log
+pub record Shows (known : List Known) (rows : List Stored) (log : Log) : Type 0 where
+  pub kept : IsKept known rows
+  pub same : log_in known rows ≡ log
 
 pub same_text : (xs ys : List ℕ) → bytes_eq xs ys ≡ true → xs ≡ ys
 same_text xs ys h = (bytes_eq-Decides xs ys).0 h
@@ -28,6 +33,10 @@ bytes_eq-sym xs ys = elim (cases_Bool (bytes_eq xs ys)) [
     | inr both ↦ rw (other, both) refl
   ]
 ]
+
+-- rows in memory that are in their order stand for the log that is read off them
+pub shows : (known : List Known) (rows : List Stored) (log : Log) → IsKept known rows → log_in known rows ≡ log → Shows known rows log
+shows known rows log kept same = record { kept = kept; same = same }
 
 -- a change of known realms that keeps their names
 find-map : (change : Known → Known) → ((k : Known) → (change k).realm ≡ k.realm) → (known : List Known) (realm : List ℕ) → find (is_named realm) (map change known) ≡ option_map change (find (is_named realm) known)
@@ -106,7 +115,7 @@ and_true : (o : Option Known) → (is_some o && true) ≡ is_some (option_map (�
 and_true None = refl
 and_true (Some k) = refl
 
-pub due-demanded : (realm : List ℕ) (known : List Known) → IsDemanded known (map (refusing_named realm true) known) realm
+pub due-demanded : (realm : List ℕ) (known : List Known) (r : List ℕ) → due_in (map (refusing_named realm true) known) r ≡ (if bytes_eq realm r then is_some (epoch_in known r) else due_in known r)
 due-demanded realm known r = elim (cases_Bool (bytes_eq realm r)) [
   | inl own ↦ let e : realm ≡ r = same_text realm r own in rw (own, e) (due-own true known r ∙ and_true (find (is_named r) known))
   | inr other ↦ rw other (due-other realm true known r other)
@@ -233,3 +242,9 @@ Shows-set realm n known rows log shown =
       kept = kept-names known (map (epoch_named realm n) known) rows names shown.kept;
       same = λ i. record { epochs = λ r. epochs r i; rows = (others i).rows; unreadable = (others i).unreadable; strays = (others i).strays };
     }
+
+set-refusing : (realm : List ℕ) (n : ℕ) (k : Known) → (epoch_named realm n k).is_refusing ≡ k.is_refusing
+set-refusing realm n k = elim (cases_Bool (bytes_eq k.realm realm)) [ inl own ↦ rw own refl | inr other ↦ rw other refl ]
+
+pub due-set : (realm : List ℕ) (n : ℕ) (known : List Known) (r : List ℕ) → due_in (map (epoch_named realm n) known) r ≡ due_in known r
+due-set realm n known r = due-raised (epoch_named realm n) (epoch-realm realm n) (set-refusing realm n) known r

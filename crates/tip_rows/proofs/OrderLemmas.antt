@@ -7,11 +7,11 @@ use Rattle.std.proofs.lemmas.Bool.Decides.{nat_tests}
 use Rattle.tip_line.proofs.StopLemmas.{and_left, and_right}
 use Rattle.tip_rows.specs.Keys.{Place, is_same, comes_before}
 use Rattle.tip_rows.specs.Logs.{Log, row_at, is_rising, is_here, with_row, without_row}
-use Rattle.tip_rows.specs.Memory.{part, log_in, Shows, is_past, put_in, is_other}
+use Rattle.tip_rows.specs.Memory.{part, log_in, is_past, put_in, is_other}
 use Rattle.tip_rows.specs.declared.row.Row.{Row}
 use Rattle.tip_rows.specs.declared.memory.Known.{Known}
 use Rattle.tip_rows.specs.declared.memory.Stored.{Stored}
-use Rattle.tip_rows.proofs.MemoryLemmas.{same_text, bytes_eq-self}
+use Rattle.tip_rows.proofs.MemoryLemmas.{Shows, same_text, bytes_eq-self}
 
 -- the order of keys
 same-equal : (a b c x y z : ℕ) → (a == x && b == y && c == z) ≡ true → (a ≡ x) × (b ≡ y) × (c ≡ z)
@@ -270,10 +270,3 @@ Shows-removed known rows realm key log shown =
       kept = record { names = shown.kept.names; realms = shown.kept.realms; rising = λ r. rising-removed_in realm key rows r shown.kept.rising };
       same = same ∙ ap (without_row realm key) shown.same;
     }
-
--- what a stop leaves in memory is what the rows in memory show
-pub left_changed : (known : List Known) (rows : List Stored) (log left : Log) → Shows known rows log → log_in known rows ≡ left → left ≡ log
-left_changed known rows log left shown leaves = sym leaves ∙ shown.same
-
-pub left_same : (known new : List Known) (rows others : List Stored) (log left : Log) → Shows known rows log → Shows new others log → log_in new others ≡ left → log_in known rows ≡ left
-left_same known new rows others log left before after leaves = before.same ∙ sym after.same ∙ leaves

@@ -32,10 +32,19 @@ pub record IsKept (known : List Known) (rows : List Stored) : Type 0 where
   pub realms : list_all is_realm (map (λ k. k.realm) known) ≡ true
   pub rising : (realm : List ℕ) → is_rising (part realm rows) ≡ true
 
--- rows in memory stand for this log
-pub record Shows (known : List Known) (rows : List Stored) (log : Log) : Type 0 where
-  pub kept : IsKept known rows
-  pub same : log_in known rows ≡ log
+-- what is seen of rows in memory: the known realms, the rows, and how many calls were refused
+pub record Memory : Type 0 where
+  pub known : List Known
+  pub rows : List Stored
+  pub faults : ℕ
+
+-- the log that they stand for
+abbrev pub log_of : Memory → Log
+log_of memory = log_in memory.known memory.rows
+
+-- whether the next change of a realm is to be refused
+abbrev pub is_due_in : Memory → List ℕ → Bool
+is_due_in memory realm = due_in memory.known realm
 
 abbrev pub raised_known : Known → Known
 raised_known k = record k { epoch = raised_number k.epoch }
@@ -74,5 +83,5 @@ known_in k [] = k ∷ []
 known_in k (x ∷ known) = if is_from k.realm x then (if bytes_eq x.realm k.realm then x ∷ known else k ∷ x ∷ known) else x ∷ known_in k known
 
 -- a refusal is due for this realm, where it is known, and for the others as before
-abbrev pub IsDemanded : List Known → List Known → List ℕ → Type 0
-IsDemanded old new realm = (r : List ℕ) → due_in new r ≡ (if bytes_eq realm r then is_some (epoch_in old r) else due_in old r)
+abbrev pub IsDemanded : Memory → Memory → List ℕ → Type 0
+IsDemanded old new realm = (r : List ℕ) → is_due_in new r ≡ (if bytes_eq realm r then is_some ((log_of old).epochs r) else is_due_in old r)

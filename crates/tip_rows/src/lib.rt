@@ -1,6 +1,7 @@
 //! The rows of prepared and committed transactions, which outlive a restart, and the log that keeps them.
 #![tactic(auto)]
 
+mod branches;
 mod key;
 mod label;
 mod log;
@@ -8,13 +9,16 @@ mod memory;
 mod parts;
 mod reading;
 mod row;
+mod subordinates;
 #[cfg(test)]
 mod tests;
 mod text;
 
+pub use branches::Branches;
 pub use key::Key;
 pub use label::{Label, LabelFault};
 pub use log::{LoadFault, Loaded, RaiseFault, Refused, RowLog};
 pub use memory::MemRows;
-pub use row::{Branches, Row, Subordinates};
+pub use row::Row;
+pub use subordinates::Subordinates;
 pub use text::RowFault;

@@ -7,12 +7,13 @@ ghost use Rattle.std.specs.Str.{bytes_eq};
 ghost use Rattle.tip_line.specs.Words.{is_realm};
 ghost use Rattle.tip_rows.specs.Keys.{is_same};
 ghost use Rattle.tip_rows.specs.Logs.{Log, empty_log, counted, last_epoch, with_row, without_row, with_all_raised, with_raised, with_epoch, IsSpent};
-ghost use Rattle.tip_rows.specs.Memory.{Shows, IsDemanded, log_in, epoch_in, is_named, due_in, part, raised_known, raised_named, epoch_named, refusing_named, is_at_end, is_past, put_in, is_other, is_from, known_in};
+ghost use Rattle.tip_rows.specs.Memory.{IsDemanded, log_of, is_due_in, epoch_in, is_named, due_in, part, raised_known, raised_named, epoch_named, refusing_named, is_at_end, is_past, put_in, is_other, is_from, known_in};
 
 use crate::key::Key;
 use crate::log::{LoadFault, Loaded, RaiseFault, Refused, RowLog};
 use crate::row::Row;
 use std::alloc::{AllocError, Global};
+use std::marker::Model;
 use tip_line::Realm;
 
 /// A known realm.
@@ -43,11 +44,21 @@ pub struct MemRows {
     faults: u64,
 }
 
+impl Model for MemRows {
+    ghost use Rattle.tip_rows.specs.Memory.{Memory, IsKept};
+
+    ghost Value = { Memory };
+
+    ghost view = { λ s. record { known = s.known.items; rows = s.rows.items; faults = s.faults } };
+
+    ghost invariant = { λ s. IsKept s.known.items s.rows.items };
+}
+
 impl MemRows {
     /// No realms and no rows.
     pub fn new(alloc: Global) -> MemRows
-        ensures empty { Shows result.known.items result.rows.items empty_log }
-        ensures none_due { (realm : List ℕ) → due_in result.known.items realm ≡ false }
+        ensures empty { log_of result ≡ empty_log }
+        ensures none_due { (realm : List ℕ) → is_due_in result realm ≡ false }
         ensures no_faults { result.faults ≡ 0 }
     {
         MemRows {
@@ -60,107 +71,54 @@ impl MemRows {
 
     /// Makes a realm known with this epoch.
     pub fn start_at(&mut self, realm: &Realm, epoch: u32) -> Result<(), AllocError>
-        ensures shows { (log : Log) → Shows self.old.known.items self.old.rows.items log → MatchResult result (λ _. Shows self.new.known.items self.new.rows.items (with_epoch realm.now epoch log)) (λ _. Shows self.new.known.items self.new.rows.items log) }
+        ensures started { OnOk result (log_of self.new ≡ with_epoch realm.now epoch (log_of self.old)) }
+        ensures err { OnErr result (self.new ≡ self.old) }
+        ensures due { (r : List ℕ) → is_due_in self.new r ≡ is_due_in self.old r }
         ensures faults { self.new.faults ≡ self.old.faults }
     {
         know_in(&mut self.known, realm)?;
-        self.set_known_epoch(realm, epoch);
+        set_known_epoch(&mut self.known, realm, epoch);
         Ok(())
-    }
-
-    /// Sets the epoch of a known realm.
-    fn set_known_epoch(&mut self, realm: &Realm, epoch: u32)
-        ensures known { self.new.known.items ≡ map (epoch_named realm.now epoch) self.old.known.items }
-        ensures rows { self.new.rows.items ≡ self.old.rows.items }
-        ensures faults { self.new.faults ≡ self.old.faults }
-    {
-        set_epochs(&mut self.known, realm, epoch);
     }
 
     /// The next change of this realm is refused, where it is known.
     pub fn refuse_next(&mut self, realm: &Realm)
-        ensures shows { (log : Log) → Shows self.old.known.items self.old.rows.items log → Shows self.new.known.items self.new.rows.items log }
-        ensures due { IsDemanded self.old.known.items self.new.known.items realm.now }
+        ensures log { log_of self.new ≡ log_of self.old }
+        ensures due { IsDemanded self.old self.new realm.now }
         ensures faults { self.new.faults ≡ self.old.faults }
     {
-        self.set_due(realm, true);
-    }
-
-    /// Says whether the next change of a realm is to be refused.
-    fn set_due(&mut self, realm: &Realm, is_refusing: bool)
-        ensures known { self.new.known.items ≡ map (refusing_named realm.now is_refusing) self.old.known.items }
-        ensures rows { self.new.rows.items ≡ self.old.rows.items }
-        ensures faults { self.new.faults ≡ self.old.faults }
-    {
-        demand(&mut self.known, realm, is_refusing);
+        set_due(&mut self.known, realm, true);
     }
 
     /// Whether a refusal of this realm's change is due, which is spent and counted then.
     fn take_due(&mut self, realm: &Realm) -> bool
-        ensures due { result ≡ due_in self.old.known.items realm.now }
-        ensures spent { IsSpent (due_in self.old.known.items) (due_in self.new.known.items) realm.now }
-        ensures shows { (log : Log) → Shows self.old.known.items self.old.rows.items log → Shows self.new.known.items self.new.rows.items log }
+        ensures due { result ≡ is_due_in self.old realm.now }
+        ensures spent { IsSpent (is_due_in self.old) (is_due_in self.new) realm.now }
+        ensures log { log_of self.new ≡ log_of self.old }
         ensures faults { self.new.faults ≡ counted result self.old.faults }
     {
         let due = is_due(&self.known, realm);
-        self.set_due(realm, false);
-        self.count(due);
+        set_due(&mut self.known, realm, false);
+        count(&mut self.faults, due);
         due
-    }
-
-    /// Counts a call, if it was refused.
-    fn count(&mut self, is_refused: bool)
-        ensures known { self.new.known.items ≡ self.old.known.items }
-        ensures rows { self.new.rows.items ≡ self.old.rows.items }
-        ensures faults { self.new.faults ≡ counted is_refused self.old.faults }
-    {
-        if is_refused {
-            self.faults = self.faults.wrapping_add(1);
-        }
-    }
-
-    /// Raises every epoch that is not at its end.
-    fn raise_each(&mut self)
-        ensures known { self.new.known.items ≡ map raised_known self.old.known.items }
-        ensures rows { self.new.rows.items ≡ self.old.rows.items }
-        ensures faults { self.new.faults ≡ self.old.faults }
-    {
-        raise_all(&mut self.known);
-    }
-
-    /// Raises the epoch of one realm, if it is not at its end.
-    fn raise_of(&mut self, realm: &Realm)
-        ensures known { self.new.known.items ≡ map (raised_named realm.now) self.old.known.items }
-        ensures rows { self.new.rows.items ≡ self.old.rows.items }
-        ensures faults { self.new.faults ≡ self.old.faults }
-    {
-        raise(&mut self.known, realm);
-    }
-
-    /// A refusal, which is counted.
-    fn refusal(&mut self) -> Refused
-        ensures { self.new ≡ record self.old { faults = (self.old.faults + 1) % 2 ^ 64 } }
-    {
-        self.faults = self.faults.wrapping_add(1);
-        Refused
     }
 }
 
 impl RowLog for MemRows {
-    ghost stands = { λ s log. Shows s.known.items s.rows.items log };
+    ghost stands = { λ s log. log_of s ≡ log };
 
     ghost faults = { λ s. s.faults };
 
     ghost is_true = { λ _. Unit {0} };
 
-    ghost may_leave = { λ s log. log_in s.known.items s.rows.items ≡ log };
+    ghost may_leave = { λ s log. log_of s ≡ log };
 
-    ghost is_due = { λ s. due_in s.known.items };
+    ghost is_due = { is_due_in };
 
     fn know(&mut self, realm: &Realm) -> Result<(), Refused> {
         match know_in(&mut self.known, realm) {
             Ok(()) => Ok(()),
-            Err(_) => Err(self.refusal()),
+            Err(_) => Err(refuse(&mut self.faults)),
         }
     }
 
@@ -168,7 +126,7 @@ impl RowLog for MemRows {
         if one_is_at_end(&self.known) {
             return Err(RaiseFault::EpochEnd);
         }
-        self.raise_each();
+        raise_each(&mut self.known);
         Ok(())
     }
 
@@ -179,7 +137,7 @@ impl RowLog for MemRows {
         if is_at_end(&self.known, realm) {
             return Err(RaiseFault::EpochEnd);
         }
-        self.raise_of(realm);
+        raise_of(&mut self.known, realm);
         Ok(())
     }
 
@@ -189,7 +147,7 @@ impl RowLog for MemRows {
         }
         match put_copy(self.alloc, &mut self.rows, realm, key, row) {
             Ok(()) => Ok(()),
-            Err(_) => Err(self.refusal()),
+            Err(_) => Err(refuse(&mut self.faults)),
         }
     }
 
@@ -221,6 +179,23 @@ impl RowLog for MemRows {
     fn faults(&self) -> u64 {
         self.faults
     }
+}
+
+/// Counts a call, if it was refused.
+fn count(faults: &mut u64, is_refused: bool)
+    ensures { faults.new ≡ counted is_refused faults.old }
+{
+    if is_refused {
+        *faults = faults.wrapping_add(1);
+    }
+}
+
+/// A refusal, which is counted.
+fn refuse(faults: &mut u64) -> Refused
+    ensures { faults.new ≡ counted true faults.old }
+{
+    count(faults, true);
+    Refused
 }
 
 /// Whether it is the realm of this name.
@@ -271,6 +246,34 @@ fn set_epochs(known: &mut [Known], realm: &Realm, epoch: u32)
     for k in known {
         set_epoch(k, realm, epoch);
     }
+}
+
+/// Raises every epoch that is not at its end.
+fn raise_each(known: &mut Vec<Known>)
+    ensures { known.new.items ≡ map raised_known known.old.items }
+{
+    raise_all(known);
+}
+
+/// Raises the epoch of one known realm, if it is not at its end.
+fn raise_of(known: &mut Vec<Known>, realm: &Realm)
+    ensures { known.new.items ≡ map (raised_named realm.now) known.old.items }
+{
+    raise(known, realm);
+}
+
+/// Sets the epoch of one known realm.
+fn set_known_epoch(known: &mut Vec<Known>, realm: &Realm, epoch: u32)
+    ensures { known.new.items ≡ map (epoch_named realm.now epoch) known.old.items }
+{
+    set_epochs(known, realm, epoch);
+}
+
+/// Says whether the next change of one known realm is to be refused.
+fn set_due(known: &mut Vec<Known>, realm: &Realm, is_refusing: bool)
+    ensures { known.new.items ≡ map (refusing_named realm.now is_refusing) known.old.items }
+{
+    demand(known, realm, is_refusing);
 }
 
 /// Raises each epoch that is not at its end.
@@ -440,13 +443,20 @@ fn remove_from(rows: &mut Vec<Stored>, realm: &Realm, key: Key)
     rows.retain(|row| !(row.realm == *realm && row.key == key));
 }
 
+/// Whether a row is of this realm.
+fn is_of(stored: &Stored, realm: &Realm) -> bool
+    ensures { result ≡ bytes_eq stored.now.realm realm.now }
+{
+    stored.realm == *realm
+}
+
 /// The rows of a realm, in order.
 fn part_of(alloc: Global, rows: &[Stored], realm: &Realm) -> Result<Vec<(Key, Row)>, AllocError>
     ensures { IfOk result (λ entries. entries.items ≡ part realm.now rows.now) }
 {
     let mut entries = Vec::new(alloc);
     for stored in rows {
-        if stored.realm == *realm {
+        if is_of(stored, realm) {
             let row = stored.row.copy(alloc)?;
             entries.push((stored.key, row))?;
         }

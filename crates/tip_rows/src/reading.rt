@@ -6,9 +6,11 @@ ghost use Rattle.tip_rows.specs.Labels.{is_label};
 ghost use Rattle.tip_rows.specs.Reading.{Gives, Fails, checked, is_member, version_in, first_branch, second_branch, branch_in, items_in, branches_in, subordinate_in, subordinates_onto, prepared_in, committed_in, kind_in, row_in};
 ghost use Rattle.tip_rows.specs.declared.text.RowFault.TheVariants.{BadRow};
 
+use crate::branches::Branches;
 use crate::label::{Label, LabelFault};
 use crate::parts::Parts;
-use crate::row::{Branches, Row, Subordinates};
+use crate::row::Row;
+use crate::subordinates::Subordinates;
 use crate::text::RowFault;
 use std::alloc::Global;
 use tip_line::{Address, Id, WordFault};

@@ -4,9 +4,11 @@ ghost use Rattle.tip_rows.specs.Rows.{written, Spells};
 ghost use Rattle.tip_rows.specs.declared.row.Row.{Row};
 ghost use Rattle.tip_rows.specs.declared.text.RowFault.TheVariants.{BadRow, Memory};
 
+use crate::branches::Branches;
 use crate::label::Label;
 use crate::reading::row_of;
-use crate::row::{Branches, Row, Subordinates};
+use crate::row::Row;
+use crate::subordinates::Subordinates;
 use std::alloc::{AllocError, Global};
 use std::fmt;
 use thiserror::Error;

@@ -1,9 +1,12 @@
-use Rattle.std.proofs.Common.{true}
-use Rattle.tip_rows.proofs.MemoryLemmas.{Shows-refusing, due-demanded}
+use Rattle.std.proofs.Common.{true, refl}
+use Rattle.tip_rows.proofs.MemoryLemmas.{shows, Shows-refusing, due-demanded}
 use Rattle.tip_rows.proofs.memory.MemRows.refuse_next.Goals as goal
 
-pub returns-clause-shows : goal.returns-clause-shows
-returns-clause-shows c = λ log shown. rw (c.set_due.ensures.known, c.set_due.ensures.rows) (Shows-refusing c.args.realm.now true c.args.self.now.known.items c.args.self.now.rows.items log shown)
+pub invariant_of-self : goal.invariant_of-self
+invariant_of-self c = rw c.set_due.ensures (Shows-refusing c.args.realm.now true _ _ _ (shows _ _ _ c.self.invariant refl)).kept
+
+pub returns-clause-log : goal.returns-clause-log
+returns-clause-log c = rw (c.set_due.ensures, ← c.self.view_is) (Shows-refusing c.args.realm.now true _ _ _ (shows _ _ _ c.self.invariant refl)).same
 
 pub returns-clause-due : goal.returns-clause-due
-returns-clause-due c = rw c.set_due.ensures.known (due-demanded c.args.realm.now c.args.self.now.known.items)
+returns-clause-due c = λ r. rw (c.set_due.ensures, ← c.self.view_is) (due-demanded c.args.realm.now c.self.inside.known.items r)

@@ -1,10 +1,12 @@
-use Rattle.std.proofs.Common.{false}
-use Rattle.tip_rows.proofs.MemoryLemmas.{Shows-refusing, due-spent}
+use Rattle.std.proofs.Common.{false, refl}
+use Rattle.tip_rows.proofs.MemoryLemmas.{shows, Shows-refusing, due-spent}
 use Rattle.tip_rows.proofs.memory.MemRows.take_due.Goals as goal
 
-pub returns-clause-spent : goal.returns-clause-spent
-returns-clause-spent c = rw (c.count.ensures.known, c.set_due.ensures.known) (due-spent c.args.realm.now c.args.self.now.known.items)
+pub invariant_of-self : goal.invariant_of-self
+invariant_of-self c = rw c.set_due.ensures (Shows-refusing c.args.realm.now false _ _ _ (shows _ _ _ c.self.invariant refl)).kept
 
-pub returns-clause-shows : goal.returns-clause-shows
-returns-clause-shows c = λ log shown.
-    rw (c.count.ensures.known, c.set_due.ensures.known, c.count.ensures.rows, c.set_due.ensures.rows) (Shows-refusing c.args.realm.now false c.args.self.now.known.items c.args.self.now.rows.items log shown)
+pub returns-clause-spent : goal.returns-clause-spent
+returns-clause-spent c = λ r. rw (c.set_due.ensures, ← c.self.view_is) (due-spent c.args.realm.now c.self.inside.known.items r)
+
+pub returns-clause-log : goal.returns-clause-log
+returns-clause-log c = rw (c.set_due.ensures, ← c.self.view_is) (Shows-refusing c.args.realm.now false _ _ _ (shows _ _ _ c.self.invariant refl)).same

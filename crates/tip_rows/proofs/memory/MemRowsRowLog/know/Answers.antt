@@ -1,17 +1,20 @@
-use Rattle.std.proofs.Common.{inr}
-use Rattle.tip_rows.specs.Logs.{with_known}
+use Rattle.std.proofs.Common.{refl, sym, ap, inr, ◌∙◌}
+use Rattle.tip_rows.specs.Memory.{log_of}
+use Rattle.tip_rows.proofs.MemoryLemmas.{shows}
 use Rattle.tip_rows.proofs.NameLemmas.{Shows-known, due-known}
-use Rattle.tip_rows.proofs.OrderLemmas.{left_changed}
 use Rattle.tip_rows.proofs.memory.MemRowsRowLog.know.Goals as goal
 
+pub invariant_of-self : goal.invariant_of-self
+invariant_of-self c = rw c.in-Ok.ensures.ok (Shows-known c.args.realm.now _ _ _ c.in-Ok.ensures.realm (shows _ _ _ c.self.invariant refl)).kept
+
 pub returns-in-Ok-clause-stands : goal.returns-in-Ok-clause-stands
-returns-in-Ok-clause-stands c = λ log shown. rw c.in-Ok.ensures.ok (Shows-known c.args.realm.now _ _ log c.in-Ok.ensures.realm shown)
+returns-in-Ok-clause-stands c = λ log same. rw c.in-Ok.ensures.ok (Shows-known c.args.realm.now _ _ log c.in-Ok.ensures.realm (shows _ _ _ c.self.invariant (ap log_of c.self.view_is ∙ same))).same
 
 pub returns-in-Ok-clause-stop : goal.returns-in-Ok-clause-stop
-returns-in-Ok-clause-stop c = λ log shown _ left leaves. inr (left_changed _ _ (with_known c.args.realm.now log) left (returns-in-Ok-clause-stands c log shown) leaves)
+returns-in-Ok-clause-stop c = λ log same _ left leaves. inr (sym leaves ∙ returns-in-Ok-clause-stands c log same)
 
 pub returns-in-Ok-clause-kept : goal.returns-in-Ok-clause-kept
-returns-in-Ok-clause-kept c = λ log shown _ left leaves. left_changed _ _ (with_known c.args.realm.now log) left (returns-in-Ok-clause-stands c log shown) leaves
+returns-in-Ok-clause-kept c = λ log same _ left leaves. sym leaves ∙ returns-in-Ok-clause-stands c log same
 
 pub returns-in-Ok-clause-due : goal.returns-in-Ok-clause-due
-returns-in-Ok-clause-due c = λ log shown r. rw c.in-Ok.ensures.ok (due-known c.args.realm.now c.args.self.now.known.items r shown.kept.names)
+returns-in-Ok-clause-due c = λ log same r. rw (c.in-Ok.ensures.ok, ← c.self.view_is) (due-known c.args.realm.now c.self.inside.known.items r c.self.invariant.names)

@@ -1,5 +1,5 @@
 use Rattle.std.proofs.Common.{◌≡◌, take, length, vec_len, vec_capacity}
-use Rattle.tip_rows.proofs.row.copied_branches.Given as goal
+use Rattle.tip_rows.proofs.branches.copied_branches.Given as goal
 
 abbrev pub invariant-loop-number : goal.invariant-loop-number
 invariant-loop-number l = record {

@@ -1,5 +1,5 @@
 use Rattle.std.proofs.Common.{◌≡◌, take, length, vec_len, vec_capacity}
-use Rattle.tip_rows.proofs.row.copied_subordinates.Given as goal
+use Rattle.tip_rows.proofs.subordinates.copied_subordinates.Given as goal
 
 abbrev pub invariant-loop-address : goal.invariant-loop-address
 invariant-loop-address l = record {

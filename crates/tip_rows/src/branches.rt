@@ -1,0 +1,96 @@
+//! The local branches of a row.
+ghost use Rattle.std.specs.Prelude.{◌≡◌, true, false, IfOk, IfErr, OnOk};
+ghost use Rattle.std.specs.List.{list_all};
+ghost use Rattle.tip_rows.specs.Branches.{are_branches, is_behind};
+
+use crate::label::Label;
+use std::alloc::{AllocError, Global};
+use std::marker::Model;
+
+/// The local branches of a transaction that voted yes: member numbers from 1 to 8, rising, with distinct labels.
+#[derive(Debug, Drop)]
+pub struct Branches {
+    items: Vec<(u8, Label)>,
+}
+
+impl Model for Branches {
+    ghost use Rattle.std.specs.Prelude.{◌≡◌, true, ℕ, List};
+    ghost use Rattle.tip_rows.specs.Branches.{are_branches};
+
+    ghost Value = { List (ℕ × List ℕ) };
+
+    ghost view = { λ b. b.items.items };
+
+    ghost invariant = { λ b. are_branches b.items.items ≡ true };
+}
+
+impl Branches {
+    /// These branches, given back where they are none: out of order, beyond 8, or with one label twice.
+    pub fn new(items: Vec<(u8, Label)>) -> Result<Branches, Vec<(u8, Label)>>
+        ensures ok { IfOk result (λ branches. branches ≡ items.items) }
+        ensures good { OnOk result (are_branches items.items ≡ true) }
+        ensures bad { IfErr result (λ back. (back.items ≡ items.items) × (are_branches items.items ≡ false)) }
+    {
+        if are_branches(&items) {
+            Ok(Branches { items })
+        } else {
+            Err(items)
+        }
+    }
+
+    /// The branches in order.
+    pub fn as_slice(&self) -> &[(u8, Label)]
+        ensures same { result.now ≡ self.now }
+        ensures branches { are_branches self.now ≡ true }
+    {
+        &self.items
+    }
+
+    /// Equal branches, or want of memory.
+    pub fn copy(&self, alloc: Global) -> Result<Branches, AllocError>
+        ensures { IfOk result (λ branches. branches ≡ self.now) }
+    {
+        Ok(Branches {
+            items: copied_branches(alloc, &self.items)?,
+        })
+    }
+
+    /// The branches, without taking memory.
+    pub fn into_vec(self) -> Vec<(u8, Label)>
+        ensures { result.items ≡ self }
+    {
+        self.items
+    }
+}
+
+/// Whether numbers rise from 1 to 8 at most, and no label is there twice.
+fn are_branches(branches: &[(u8, Label)]) -> bool
+    ensures { result ≡ are_branches branches.now }
+{
+    match branches {
+        [] => true,
+        [(number, label), rest @ ..] => {
+            1 <= *number && *number <= 8 && are_behind(*number, label, rest) && are_branches(rest)
+        }
+    }
+}
+
+/// Whether each of these branches has a greater number and another label.
+fn are_behind(number: u8, label: &Label, branches: &[(u8, Label)]) -> bool
+    ensures { result ≡ list_all (is_behind number label.now) branches.now }
+{
+    branches
+        .iter()
+        .all(|(other, name)| number < *other && label != name)
+}
+
+/// Equal branches.
+fn copied_branches(alloc: Global, branches: &[(u8, Label)]) -> Result<Vec<(u8, Label)>, AllocError>
+    ensures { IfOk result (λ items. items.items ≡ branches.now) }
+{
+    let mut items = Vec::with_capacity(alloc, branches.len())?;
+    for (number, label) in branches {
+        items.push_reserved((*number, label.copy()?));
+    }
+    Ok(items)
+}
