@@ -1,6 +1,7 @@
 //! What a realm answers.
 ghost use Rattle.std.specs.Prelude.{◌≡◌};
-ghost use Rattle.tip_machine.specs.Answers.{response_of};
+ghost use Rattle.std.specs.List.{list_any};
+ghost use Rattle.tip_machine.specs.Answers.{is_closing, response_of};
 
 use crate::event::Seat;
 use std::marker::Model;
@@ -47,6 +48,15 @@ pub struct Told {
     pub item: Item,
 }
 
+impl Told {
+    /// Whether it closes the connection of this number.
+    fn closes(&self, connection: u32) -> bool
+        ensures { result ≡ is_closing connection self.now }
+    {
+        self.connection == connection && matches!(self.item, Item::Close)
+    }
+}
+
 /// What one event sends out, in order. It is seen as a list.
 #[derive(Debug, Drop)]
 pub struct ToldLines {
@@ -87,4 +97,16 @@ pub struct Answer {
     pub told: ToldLines,
     /// The number of the event's entry in the realm's journal, from 1.
     pub entry: Option<u32>,
+}
+
+impl Answer {
+    /// Whether it closes the connection of this number.
+    pub fn closes(&self, connection: u32) -> bool
+        ensures { result ≡ list_any (is_closing connection) self.now.told }
+    {
+        self.told
+            .as_slice()
+            .iter()
+            .any(|told| told.closes(connection))
+    }
 }

@@ -52,3 +52,6 @@ fn obey(rt: &HostRuntime) -> io::Result<ExitCode> {
 fn main(rt: HostRuntime) -> io::Result<ExitCode> {
     obey(&rt)
 }
+
+#[cfg(test)]
+mod tests;

@@ -141,17 +141,12 @@ fn take_lines<W: Write>(
         let seat = reader.seat;
         let answer = step(core, alloc, realm, Event::Line { seat, heard })?;
         show(output, name, &answer)?;
-        if closes(&answer, seat.number) {
+        if answer.closes(seat.number) {
             reader.restart(alloc)?;
             return Ok(());
         }
     }
     Ok(())
-}
-
-/// Whether an answer closes the connection of this number.
-fn closes(answer: &Answer, number: u32) -> bool {
-    answer.told.as_slice().iter().any(|told| told.connection == number && told.item == Item::Close)
 }
 
 /// Writes an answer: its refusal, the connection that it opened, and then its lines and closings.
