@@ -1,5 +1,5 @@
 -- The step of one realm: what it answers to an event, and what it is afterwards.
-use Rattle.std.specs.Prelude.{◌+◌, nat_lt, Bool, Option, Some, None, if◌then◌else◌}
+use Rattle.std.specs.Prelude.{◌≡◌, ◌+◌, nat_lt, Bool, Option, Some, None, if◌then◌else◌}
 use Rattle.tip_line.specs.declared.refusal.Refusal.TheVariants.{NoRealm, Frozen}
 use Rattle.tip_machine.specs.Answers.{silence}
 use Rattle.tip_machine.specs.States.{State, Work, Attempt}
@@ -46,6 +46,10 @@ frozen state = record { state = state; answer = record silence { refusal = Some 
 -- ONE STEP of the machine of one realm
 abbrev pub step : State → Event → Outcome → Work
 step state event outcome = if is_open state then settled (attempt event (entered state)) outcome else frozen state
+
+-- a state that differs in the count of entries, if at all
+abbrev pub ChangesTheEntriesAlone : State → State → Type 0
+ChangesTheEntriesAlone old new = new ≡ record old { head = record old.head { entries = new.head.entries } }
 
 -- the change of the stored rows that an event wants, before its outcome is known
 abbrev pub wants : State → Event → Option Change

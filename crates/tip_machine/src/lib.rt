@@ -6,6 +6,7 @@ mod answer;
 mod connection;
 mod event;
 mod head;
+pub mod laws;
 mod served;
 
 pub use answer::{Answer, Item, Said, Told, ToldLines};
