@@ -6,6 +6,7 @@ use Rattle.tip_machine.specs.States.{State, Work, Attempt}
 use Rattle.tip_machine.specs.Rules.{opened, line, lost, seated}
 use Rattle.tip_machine.specs.declared.answer.Answer.{Answer}
 use Rattle.tip_machine.specs.declared.event.Change.{Change}
+use Rattle.tip_machine.specs.declared.event.Seat.{Seat}
 use Rattle.tip_machine.specs.declared.event.Outcome.{Outcome}
 use Rattle.tip_machine.specs.declared.event.Outcome.TheVariants.{NoChange, Stored, Refused}
 use Rattle.tip_machine.specs.declared.event.Event.{Event}
@@ -50,6 +51,10 @@ step state event outcome = if is_open state then settled (attempt event (entered
 -- a state that differs in the count of entries, if at all
 abbrev pub ChangesTheEntriesAlone : State → State → Type 0
 ChangesTheEntriesAlone old new = new ≡ record old { head = record old.head { entries = new.head.entries } }
+
+-- the seat of the next connection
+abbrev pub IsNext : State → Seat → Type 0
+IsNext state seat = seat ≡ record { epoch = state.head.epoch; number = state.head.given + 1 }
 
 -- the change of the stored rows that an event wants, before its outcome is known
 abbrev pub wants : State → Event → Option Change

@@ -1,12 +1,20 @@
 //! Laws of the machine, each carried by a function that does nothing.
-ghost use Rattle.std.specs.Prelude.{IsSome};
+ghost use Rattle.std.specs.Prelude.{◌≡◌, ◌≤◌, IsSome, Some};
 ghost use Rattle.tip_machine.specs.States.{State};
-ghost use Rattle.tip_machine.specs.Steps.{step, ChangesTheEntriesAlone};
+ghost use Rattle.tip_machine.specs.Steps.{step, ChangesTheEntriesAlone, IsNext};
 ghost use Rattle.tip_machine.specs.declared.event.Event.{Event};
 ghost use Rattle.tip_machine.specs.declared.event.Outcome.{Outcome};
+ghost use Rattle.tip_machine.specs.declared.event.Seat.{Seat};
 
 /// What is refused has not happened: at most the journal has an entry more.
 #[tactic(auto, using(crate::proofs::Refusals::quiet))]
 pub fn a_refusal_changes_the_entries_alone()
     ensures { (state : State) (event : Event) (outcome : Outcome) → IsSome (step state event outcome).answer.refusal → ChangesTheEntriesAlone state (step state event outcome).state }
+{}
+
+/// A new connection has the next number of its start, and a count never falls: no number is given twice.
+#[tactic(auto, using(crate::proofs::Numbers::numbered, crate::proofs::Numbers::rising))]
+pub fn a_number_is_given_once()
+    ensures numbered { (state : State) (event : Event) (outcome : Outcome) (seat : Seat) → (step state event outcome).answer.opened ≡ Some seat → IsNext state seat × ((step state event outcome).state.head.given ≡ seat.number) }
+    ensures rising { (state : State) (event : Event) (outcome : Outcome) → state.head.given ≤ (step state event outcome).state.head.given }
 {}
