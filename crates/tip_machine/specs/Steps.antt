@@ -1,5 +1,5 @@
 -- The step of one realm: what it answers to an event, and what it is afterwards.
-use Rattle.std.specs.Prelude.{◌≡◌, ◌+◌, nat_lt, Bool, Option, Some, None, if◌then◌else◌}
+use Rattle.std.specs.Prelude.{◌≡◌, ℕ, ◌+◌, nat_lt, Bool, Option, Some, None, if◌then◌else◌}
 use Rattle.tip_line.specs.declared.refusal.Refusal.TheVariants.{NoRealm, Frozen}
 use Rattle.tip_machine.specs.Answers.{silence}
 use Rattle.tip_machine.specs.States.{State, Work, Attempt}
@@ -51,6 +51,12 @@ step state event outcome = if is_open state then settled (attempt event (entered
 -- a state that differs in the count of entries, if at all
 abbrev pub ChangesTheEntriesAlone : State → State → Type 0
 ChangesTheEntriesAlone old new = new ≡ record old { head = record old.head { entries = new.head.entries } }
+
+-- the event is one of the connection of this number
+abbrev pub Names : Event → ℕ → Type 0
+Names Open number = ⊥
+Names (Line seat heard) number = seat.number ≡ number
+Names (Lost seat) number = seat.number ≡ number
 
 -- the seat of the next connection
 abbrev pub IsNext : State → Seat → Type 0
