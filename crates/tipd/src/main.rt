@@ -14,10 +14,26 @@ mod words;
 
 use crate::fault::PlayFault;
 use crate::words::{Order, read_words};
+use clap::Error;
 use clap::error::ErrorKind;
 use std::env;
 use std::io::{self, BufWriter};
 use std::process::ExitCode;
+
+/// Says what is wrong, and how the process ends: where the text can't be written, the status still tells.
+fn fail(rt: &HostRuntime, fault: PlayFault) -> ExitCode {
+    let _written = eprintln!(rt; "tipd: {fault}");
+    ExitCode::from(fault.status())
+}
+
+/// Prints what `clap` says: help on standard output, what is wrong on standard error.
+fn show(rt: &HostRuntime, error: Error) -> ExitCode {
+    let status = error.exit_code() as u8;
+    match error.print(rt) {
+        Err(_) if status == 0 => fail(rt, PlayFault::Write),
+        _ => ExitCode::from(status),
+    }
+}
 
 /// Plays standard input to standard output.
 fn play_all(rt: &HostRuntime) -> Result<(), PlayFault> {
@@ -26,31 +42,30 @@ fn play_all(rt: &HostRuntime) -> Result<(), PlayFault> {
     play::play(alloc, &mut rt.stdin(), &mut output)
 }
 
+/// The words of the command line.
+fn given_words(rt: &HostRuntime) -> Result<Vec<String>, PlayFault> {
+    let args = env::args(rt).map_err(|_| PlayFault::Read)?;
+    Ok(args.collect(rt.alloc())?)
+}
+
 /// Does what the command line asks for.
-fn obey(rt: &HostRuntime) -> io::Result<ExitCode> {
-    let alloc = rt.alloc();
-    let words: Vec<String> = env::args(rt)?.collect(alloc)?;
-    match read_words(alloc, &words) {
+fn obey(rt: &HostRuntime) -> ExitCode {
+    let words = match given_words(rt) {
+        Ok(words) => words,
+        Err(fault) => return fail(rt, fault),
+    };
+    match read_words(rt.alloc(), &words) {
         Ok(Order::Play) => match play_all(rt) {
-            Ok(()) => Ok(ExitCode::SUCCESS),
-            Err(fault) => {
-                eprintln!(rt; "tipd: {fault}")?;
-                Ok(ExitCode::from(fault.status()))
-            }
+            Ok(()) => ExitCode::SUCCESS,
+            Err(fault) => fail(rt, fault),
         },
-        Err(error) if error.kind() == ErrorKind::OutOfMemory => {
-            eprintln!(rt; "tipd: {}", PlayFault::Memory)?;
-            Ok(ExitCode::from(PlayFault::Memory.status()))
-        }
-        Err(error) => {
-            error.print(rt)?;
-            Ok(ExitCode::from(error.exit_code() as u8))
-        }
+        Err(error) if error.kind() == ErrorKind::OutOfMemory => fail(rt, PlayFault::Memory),
+        Err(error) => show(rt, error),
     }
 }
 
 fn main(rt: HostRuntime) -> io::Result<ExitCode> {
-    obey(&rt)
+    Ok(obey(&rt))
 }
 
 #[cfg(test)]
