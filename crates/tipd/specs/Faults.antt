@@ -1,5 +1,9 @@
 -- How the process ends where a script is not played to its end.
 use Rattle.std.specs.Prelude.{ℕ}
+use Rattle.tip_line.specs.declared.fault.WordFault.{WordFault}
+use Rattle.tip_line.specs.declared.fault.WordFault.TheVariants as words
+use Rattle.tipd.specs.declared.declared.DeclareFault.{DeclareFault}
+use Rattle.tipd.specs.declared.declared.DeclareFault.TheVariants as declares
 use Rattle.tipd.specs.declared.fault.PlayFault.{PlayFault}
 use Rattle.tipd.specs.declared.fault.PlayFault.TheVariants.{Script, Read, Write, Memory}
 
@@ -8,3 +12,8 @@ status_of (Script line) = 2
 status_of Read = 1
 status_of Write = 1
 status_of Memory = 1
+
+-- a word that is none makes a bad declaration; want of memory stays what it is
+abbrev pub declare_fault_of : WordFault → DeclareFault
+declare_fault_of words.NotWord = declares.Bad
+declare_fault_of words.Memory = declares.Memory

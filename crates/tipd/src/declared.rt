@@ -19,12 +19,22 @@ pub enum DeclareFault {
 }
 
 impl From<AllocError> for DeclareFault {
+    ghost use Rattle.std.specs.Prelude.{◌≡◌};
+    ghost use Rattle.tipd.specs.declared.declared.DeclareFault.TheVariants.{Memory};
+
+    ghost from_gives = { λ _ fault. fault ≡ Memory };
+
     fn from(_: AllocError) -> DeclareFault {
         DeclareFault::Memory
     }
 }
 
 impl From<WordFault> for DeclareFault {
+    ghost use Rattle.std.specs.Prelude.{◌≡◌};
+    ghost use Rattle.tipd.specs.Faults.{declare_fault_of};
+
+    ghost from_gives = { λ fault result. result ≡ declare_fault_of fault };
+
     fn from(fault: WordFault) -> DeclareFault {
         match fault {
             WordFault::NotWord => DeclareFault::Bad,
