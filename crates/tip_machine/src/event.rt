@@ -3,7 +3,7 @@ ghost use Rattle.std.specs.Prelude.{◌≡◌, IfOk};
 ghost use Rattle.tip_machine.specs.Events.{IsHeard};
 
 use std::alloc::{AllocError, Global};
-use tip_line::{Cause, Command, Line, ParseFault, Response};
+use tip_line::{Command, ParseFault, Response};
 use tip_rows::{Key, Row};
 
 /// Names one connection of a realm: no later connection has the same seat.

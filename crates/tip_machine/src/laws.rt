@@ -14,9 +14,9 @@ pub fn a_refusal_changes_the_entries_alone()
     ensures { (state : State) (event : Event) (outcome : Outcome) → IsSome (step state event outcome).answer.refusal → ChangesTheEntriesAlone state (step state event outcome).state }
 {}
 
-/// A new connection has the next number of its start, and a count never falls: no number is given twice.
+/// A new connection has the next number of its start, and the count of numbers never falls.
 #[tactic(auto, using(crate::proofs::Numbers::numbered, crate::proofs::Numbers::rising))]
-pub fn a_number_is_given_once()
+pub fn numbers_of_connections_rise()
     ensures numbered { (state : State) (event : Event) (outcome : Outcome) (seat : Seat) → (step state event outcome).answer.opened ≡ Some seat → IsNext state seat × ((step state event outcome).state.head.given ≡ seat.number) }
     ensures rising { (state : State) (event : Event) (outcome : Outcome) → state.head.given ≤ (step state event outcome).state.head.given }
 {}
