@@ -1,16 +1,19 @@
 -- Numbers in decimal.
-use Rattle.std.proofs.Common.{◌≡◌, ℕ, ◌+◌, ◌-◌, ◌*◌, ◌^◌, ◌<◌, ◌≤◌, List, [], ◌∷◌, ◌++◌, length, true, ◌&&◌, nat_lt, nat_le, refl, arith, rules, lit<, ap, ◌∙◌, sym, take, get_or, add-one}
+use Rattle.std.proofs.Common.{◌≡◌, ℕ, ◌+◌, ◌-◌, ◌*◌, ◌^◌, ◌<◌, ◌≤◌, List, [], ◌∷◌, ◌++◌, length, Bool, true, false, ◌&&◌, nat_lt, nat_le, Option, Some, None, IfSome, refl, arith, rules, lit<, ap, ◌∙◌, sym, take, get_or, add-one}
 use Rattle.std.specs.List.{list_all}
 use Rattle.std.specs.Fmt.{decimal}
 use Rattle.std.specs.Str.{all_ascii_digits}
 use Rattle.std.specs.Char.{is_ascii_digit}
 use Rattle.std.proofs.lemmas.Bool.Decides.{nat_tests}
-use Rattle.std.proofs.lemmas.Fmt.{digits_decimal, length-decimal-le}
+use Rattle.std.proofs.lemmas.Fmt.{digits_decimal, digits_value-decimal, length-decimal-le}
+use Rattle.std.proofs.lemmas.Option.{none-some}
+use Rattle.std.proofs.lemmas.Slice.Eq.{bytes_eq-Decides}
+use Rattle.std.specs.Str.{bytes_eq}
 use Rattle.std.proofs.lemmas.List.{length-append, take_more}
 use Rattle.std.proofs.lemmas.List.Folds.{list_all-append, list_all_more}
 use Rattle.std.proofs.Math.Nat.{pow-le-pow_right, pow-suc}
 use Rattle.std.proofs.lemmas.Str.Parse.{IsNumeralModel, numerals_by_fold}
-use Rattle.tip_line.specs.Ids.{id_of}
+use Rattle.tip_line.specs.Ids.{id_of, number_in}
 use Rattle.tip_line.specs.Version.{number_from}
 use Rattle.tip_line.specs.Words.{is_word, is_word_octet, is_realm, is_letter}
 use Rattle.tip_line.proofs.StopLemmas.{and_left, and_right}
@@ -81,3 +84,19 @@ read_more word count version read more digit = record {
   said = ap (λ v. 10 * v + (get_or word count 0 - 48)) read.said ∙ sym (number_from-push 0 (take count word) (get_or word count 0)) ∙ ap (number_from 0) (sym (take_more word count 0 more));
   small = next_power version count (get_or word count 0 - 48) read.small (digit_is (get_or word count 0) digit);
 }
+
+is_none : (text : List ℕ) (spelled fits : Bool) → bytes_eq (decimal (number_from 0 text)) text ≡ spelled → nat_lt (number_from 0 text) (2 ^ 32) ≡ fits → ((n : ℕ) → n < 2 ^ 32 → text ≡ decimal n → None ≡ Some n) → None ≡ number_in text
+is_none text false fits s f only = rw s refl
+is_none text true false s f only = rw (s, f) refl
+is_none text true true s f only =
+    let below : number_from 0 text < 2 ^ 32 = grind (arith, nat_tests) in
+    absurd (none-some _ (only (number_from 0 text) below (sym ((bytes_eq-Decides (decimal (number_from 0 text)) text).0 s))))
+
+-- what says a number in decimal, and is read as that number wherever it does, is read as `number_in` says
+pub is_number_in : (r : Option ℕ) (text : List ℕ) → IfSome r (λ n. (text ≡ decimal n) × (n < 2 ^ 32)) → ((n : ℕ) → n < 2 ^ 32 → text ≡ decimal n → r ≡ Some n) → r ≡ number_in text
+is_number_in None text said only = is_none text (bytes_eq (decimal (number_from 0 text)) text) (nat_lt (number_from 0 text) (2 ^ 32)) refl refl only
+is_number_in (Some n) text said only =
+    let value : number_from 0 text ≡ n = ap (number_from 0) said.0 ∙ digits_value-decimal numerals n (let h = said.1 in omega arith) in
+    let spelled : bytes_eq (decimal n) text ≡ true = (bytes_eq-Decides (decimal n) text).1 (sym said.0) in
+    let fits : nat_lt n (2 ^ 32) ≡ true = let h = said.1 in grind (arith, nat_tests) in
+    rw (value, spelled, fits) refl

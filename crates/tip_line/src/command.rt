@@ -154,6 +154,7 @@ impl Command {
         ensures only { (command : Command) → IsCommand text.now command → (result ≡ Ok command) ⊎ (result ≡ Err Memory) }
         ensures refused { IfErr result (Refuses text.now) }
         ensures exactly { (fault : ParseFault) → fault ≢ Memory → Refuses text.now fault → result ≡ Err fault }
+        ensures steps { Gives result (command_of text.now) }
     {
         Command::read(alloc, text)
     }

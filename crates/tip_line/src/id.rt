@@ -2,7 +2,7 @@
 ghost use Rattle.std.specs.Prelude.{◌≡◌, ◌↔◌, ◌++◌, ◌∷◌, ◌<◌, ◌^◌, ℕ, List, true, false, IfOk, OnOk, IsErrOf, IfSome, IsSomeAnd, Some};
 ghost use Rattle.std.specs.Fmt.{decimal};
 ghost use Rattle.tip_line.specs.Words.{is_word};
-ghost use Rattle.tip_line.specs.Ids.{id_of, dash, has_no_dash, is_canonical, IsGiven};
+ghost use Rattle.tip_line.specs.Ids.{id_of, dash, has_no_dash, is_canonical, number_in, IsGiven};
 ghost use Rattle.tip_line.specs.declared.fault.WordFault.TheVariants.{NotWord};
 
 use crate::fault::WordFault;
@@ -142,6 +142,7 @@ fn cut(text: &str) -> Option<(&str, &str)>
 pub fn number_of(text: &str) -> Option<u32>
     ensures said { IfSome result (λ number. (text.now ≡ decimal number) × (number < 2 ^ 32)) }
     ensures only { (number : ℕ) → number < 2 ^ 32 → text.now ≡ decimal number → result ≡ Some number }
+    ensures steps { result ≡ number_in text.now }
 {
     match text.parse() {
         Ok(number) if is_canonical(text.as_bytes()) => Some(number),

@@ -192,6 +192,7 @@ impl Response {
         ensures only { (response : Response) → IsResponse text.now response → (result ≡ Ok response) ⊎ (result ≡ Err Memory) }
         ensures refused { IfErr result (Refuses text.now) }
         ensures exactly { (fault : ParseFault) → fault ≢ Memory → Refuses text.now fault → result ≡ Err fault }
+        ensures steps { Gives result (response_of text.now) }
     {
         Response::read(alloc, text)
     }

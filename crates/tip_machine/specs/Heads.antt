@@ -1,16 +1,17 @@
 -- A realm's declaration and its counts.
-use Rattle.std.specs.Prelude.{◌≤◌}
+use Rattle.std.specs.Prelude.{ℕ, ◌≤◌, Bool, ◌&&◌, nat_le}
 use Rattle.tip_machine.specs.declared.head.Limits.{Limits}
 use Rattle.tip_machine.specs.declared.head.Start.{Start}
 use Rattle.tip_machine.specs.declared.head.Head.{Head}
 
+abbrev pub is_within : ℕ → ℕ → ℕ → Bool
+is_within least most limit = nat_le least limit && nat_le limit most
+
 -- the limits that a realm may have
-pub record AreAllowed (limits : Limits) : Type 0 where
-  pub connections : (1 ≤ limits.connections) × (limits.connections ≤ 4096)
-  pub transactions : (1 ≤ limits.transactions) × (limits.transactions ≤ 4096)
-  pub branches : (1 ≤ limits.branches) × (limits.branches ≤ 8)
-  pub boxes : limits.boxes ≤ 4096
-  pub entries : (1 ≤ limits.entries) × (limits.entries ≤ 10000000)
+abbrev pub are_allowed : Limits → Bool
+are_allowed limits =
+    is_within 1 4096 limits.connections && is_within 1 4096 limits.transactions && is_within 1 8 limits.branches
+    && nat_le limits.boxes 4096 && is_within 1 10000000 limits.entries
 
 -- a realm at its start: nothing was counted yet
 abbrev pub starting : Start → Head

@@ -1,6 +1,6 @@
 //! What happens to a realm.
 ghost use Rattle.std.specs.Prelude.{◌≡◌, IfOk};
-ghost use Rattle.tip_machine.specs.Events.{IsHeard};
+ghost use Rattle.tip_machine.specs.Events.{IsHeard, heard_of};
 
 use std::alloc::{AllocError, Global};
 use tip_line::{Command, ParseFault, Response};
@@ -29,7 +29,8 @@ pub enum Heard {
 impl Heard {
     /// What this line says.
     pub fn of(alloc: Global, text: &[u8]) -> Result<Heard, AllocError>
-        ensures { IfOk result (IsHeard text.now) }
+        ensures heard { IfOk result (IsHeard text.now) }
+        ensures steps { IfOk result (λ heard. heard ≡ heard_of text.now) }
     {
         match Command::parse(alloc, text) {
             Ok(command) => Ok(Heard::Command(command)),

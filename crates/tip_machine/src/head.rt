@@ -1,6 +1,6 @@
 //! What is declared of a realm, and its counts.
-ghost use Rattle.std.specs.Prelude.{◌≡◌, ◌↔◌, IsTrue};
-ghost use Rattle.tip_machine.specs.Heads.{AreAllowed, starting};
+ghost use Rattle.std.specs.Prelude.{◌≡◌};
+ghost use Rattle.tip_machine.specs.Heads.{are_allowed, starting};
 
 use tip_line::{Address, Realm};
 
@@ -22,7 +22,7 @@ pub struct Limits {
 impl Limits {
     /// Whether each limit is one that a realm may have.
     pub fn are_allowed(&self) -> bool
-        ensures { IsTrue result ↔ AreAllowed self.now }
+        ensures { result ≡ are_allowed self.now }
     {
         (1..=4_096).contains(&self.connections)
             && (1..=4_096).contains(&self.transactions)
