@@ -8,6 +8,8 @@ mod log;
 mod memory;
 mod parts;
 mod reading;
+#[cfg(test)]
+mod refusals;
 mod row;
 mod subordinates;
 #[cfg(test)]

@@ -12,7 +12,7 @@ ghost use Rattle.tip_rows.specs.Memory.{IsDemanded, log_of, is_due_in, epoch_in,
 use crate::key::Key;
 use crate::log::{LoadFault, Loaded, RaiseFault, Refused, RowLog};
 use crate::row::Row;
-use std::alloc::{AllocError, Global};
+use std::alloc::{AllocError, Allocator, Global};
 use std::marker::Model;
 use tip_line::Realm;
 
@@ -33,18 +33,18 @@ struct Stored {
     row: Row,
 }
 
-/// Rows in memory. They refuse a change for want of memory, or where `refuse_next` asked for it.
+/// Rows in memory, on a heap of the caller's. They refuse a change for want of memory, or where `refuse_next` asked for it.
 #[derive(Debug, Drop)]
-pub struct MemRows {
+pub struct MemRows<A: Allocator = Global> {
     alloc: Global,
     /// By name.
-    known: Vec<Known>,
+    known: Vec<Known, A>,
     /// Those of a realm by key.
-    rows: Vec<Stored>,
+    rows: Vec<Stored, A>,
     faults: u64,
 }
 
-impl Model for MemRows {
+impl<A: Allocator> Model for MemRows<A> {
     ghost use Rattle.tip_rows.specs.Memory.{Memory, IsKept};
 
     ghost Value = { Memory };
@@ -61,14 +61,27 @@ impl MemRows {
         ensures none_due { (realm : List ℕ) → is_due_in result realm ≡ false }
         ensures no_faults { result.faults ≡ 0 }
     {
+        MemRows::new_in(alloc, alloc)
+    }
+}
+
+impl<A: Allocator + Copy> MemRows<A> {
+    /// No realms and no rows, to be kept on this heap. Copies of rows, and what is loaded, are on `Global`.
+    pub fn new_in(alloc: Global, heap: A) -> MemRows<A>
+        ensures empty { log_of result ≡ empty_log }
+        ensures none_due { (realm : List ℕ) → is_due_in result realm ≡ false }
+        ensures no_faults { result.faults ≡ 0 }
+    {
         MemRows {
             alloc,
-            known: Vec::new(alloc),
-            rows: Vec::new(alloc),
+            known: Vec::new(heap),
+            rows: Vec::new(heap),
             faults: 0,
         }
     }
+}
 
+impl<A: Allocator> MemRows<A> {
     /// Makes a realm known with this epoch.
     pub fn start_at(&mut self, realm: &Realm, epoch: u32) -> Result<(), AllocError>
         ensures started { OnOk result (log_of self.new ≡ with_epoch realm.now epoch (log_of self.old)) }
@@ -104,7 +117,7 @@ impl MemRows {
     }
 }
 
-impl RowLog for MemRows {
+impl<A: Allocator> RowLog for MemRows<A> {
     ghost stands = { λ s log. log_of s ≡ log };
 
     ghost faults = { λ s. s.faults };
@@ -249,28 +262,28 @@ fn set_epochs(known: &mut [Known], realm: &Realm, epoch: u32)
 }
 
 /// Raises every epoch that is not at its end.
-fn raise_each(known: &mut Vec<Known>)
+fn raise_each<A: Allocator>(known: &mut Vec<Known, A>)
     ensures { known.new.items ≡ map raised_known known.old.items }
 {
     raise_all(known);
 }
 
 /// Raises the epoch of one known realm, if it is not at its end.
-fn raise_of(known: &mut Vec<Known>, realm: &Realm)
+fn raise_of<A: Allocator>(known: &mut Vec<Known, A>, realm: &Realm)
     ensures { known.new.items ≡ map (raised_named realm.now) known.old.items }
 {
     raise(known, realm);
 }
 
 /// Sets the epoch of one known realm.
-fn set_known_epoch(known: &mut Vec<Known>, realm: &Realm, epoch: u32)
+fn set_known_epoch<A: Allocator>(known: &mut Vec<Known, A>, realm: &Realm, epoch: u32)
     ensures { known.new.items ≡ map (epoch_named realm.now epoch) known.old.items }
 {
     set_epochs(known, realm, epoch);
 }
 
 /// Says whether the next change of one known realm is to be refused.
-fn set_due(known: &mut Vec<Known>, realm: &Realm, is_refusing: bool)
+fn set_due<A: Allocator>(known: &mut Vec<Known, A>, realm: &Realm, is_refusing: bool)
     ensures { known.new.items ≡ map (refusing_named realm.now is_refusing) known.old.items }
 {
     demand(known, realm, is_refusing);
@@ -338,7 +351,7 @@ fn is_at_end(known: &[Known], realm: &Realm) -> bool
 }
 
 /// Makes a realm known.
-fn know_in(known: &mut Vec<Known>, realm: &Realm) -> Result<(), AllocError>
+fn know_in<A: Allocator>(known: &mut Vec<Known, A>, realm: &Realm) -> Result<(), AllocError>
     ensures ok { OnOk result (known.new.items ≡ known_in (record { realm = realm.now; epoch = 0; is_refusing = false }) known.old.items) }
     ensures realm { OnOk result (is_realm realm.now ≡ true) }
     ensures err { OnErr result (known.new.items ≡ known.old.items) }
@@ -377,9 +390,9 @@ fn is_from(known: &Known, name: &str) -> bool
 }
 
 /// Adds or replaces an equal row.
-fn put_copy(
+fn put_copy<A: Allocator>(
     alloc: Global,
-    rows: &mut Vec<Stored>,
+    rows: &mut Vec<Stored, A>,
     realm: &Realm,
     key: Key,
     row: &Row,
@@ -417,7 +430,7 @@ fn is_past(stored: &Stored, row: &Stored) -> bool
 }
 
 /// Adds or replaces a row.
-fn put_in(rows: &mut Vec<Stored>, stored: Stored) -> Result<(), AllocError>
+fn put_in<A: Allocator>(rows: &mut Vec<Stored, A>, stored: Stored) -> Result<(), AllocError>
     ensures ok { OnOk result (rows.new.items ≡ put_in stored rows.old.items) }
     ensures err { OnErr result (rows.new.items ≡ rows.old.items) }
 {
@@ -437,7 +450,7 @@ fn stands_at(row: &Stored, key: Key) -> bool
 }
 
 /// Removes a row.
-fn remove_from(rows: &mut Vec<Stored>, realm: &Realm, key: Key)
+fn remove_from<A: Allocator>(rows: &mut Vec<Stored, A>, realm: &Realm, key: Key)
     ensures { rows.new.items ≡ filter (is_other realm.now key) rows.old.items }
 {
     rows.retain(|row| !(row.realm == *realm && row.key == key));

@@ -7,7 +7,7 @@ use Rattle.tip_rows.proofs.NameLemmas.{newly, known_already, known_before, known
 use Rattle.tip_rows.proofs.memory.know_in.Goals as goal
 
 pub returns-in-Some-clause-ok : goal.returns-in-Some-clause-ok
-returns-in-Some-clause-ok c =
+returns-in-Some-clause-ok g c =
     let known = c.args.known.now.items in
     let d = c.index.result.now in
     let at : position (is_from c.args.realm.now) known ≡ Some c.in-Some.place = rw (← c.deref.ensures.value, ← c.as_str.ensures.same) (sym c.in-Some.ensures) in
@@ -16,7 +16,7 @@ returns-in-Some-clause-ok c =
     known_already (newly c.args.realm.now) d known c.in-Some.place found.0 found.1 found.2 same
 
 pub returns-in_ok-insert-in-Some-2-clause-ok : goal.returns-in_ok-insert-in-Some-2-clause-ok
-returns-in_ok-insert-in-Some-2-clause-ok c =
+returns-in_ok-insert-in-Some-2-clause-ok g c =
     let known = c.args.known.now.items in
     let d = c.index.result.now in
     let at : position (is_from c.args.realm.now) known ≡ Some c.in-Some.place = rw (← c.deref.ensures.value, ← c.as_str.ensures.same) (sym c.in-Some.ensures) in
@@ -25,7 +25,7 @@ returns-in_ok-insert-in-Some-2-clause-ok c =
     rw (c.in_ok-insert-in-Some-2.ensures.items, c.in_ok-newly_known-in-Some-2.ensures) (known_before (newly c.args.realm.now) d known c.in-Some.place found.0 found.1 found.2 same)
 
 pub returns-in_ok-push-in-None-clause-ok : goal.returns-in_ok-push-in-None-clause-ok
-returns-in_ok-push-in-None-clause-ok c =
+returns-in_ok-push-in-None-clause-ok g c =
     let known = c.args.known.now.items in
     let k = newly c.args.realm.now in
     let at : position (is_from c.args.realm.now) known ≡ None = rw (← c.deref.ensures.value, ← c.as_str.ensures.same) (sym c.in-None.ensures) in

@@ -6,7 +6,7 @@ use Rattle.tip_rows.proofs.PartLemmas.{put_over, put_before, put_at_end, positio
 use Rattle.tip_rows.proofs.memory.put_in.Goals as goal
 
 pub returns-in-Some-clause-ok : goal.returns-in-Some-clause-ok
-returns-in-Some-clause-ok c =
+returns-in-Some-clause-ok g c =
     let rows = c.args.rows.now.items in
     let d = c.index.result.now in
     let at : position (is_past c.args.stored) rows ≡ Some c.in-Some.place = rw (← c.deref.ensures.value) (sym c.in-Some.ensures) in
@@ -15,7 +15,7 @@ returns-in-Some-clause-ok c =
     put_over c.args.stored d rows c.in-Some.place found.0 found.1 found.2 same
 
 pub returns-in_ok-insert-in-Some-2-clause-ok : goal.returns-in_ok-insert-in-Some-2-clause-ok
-returns-in_ok-insert-in-Some-2-clause-ok c =
+returns-in_ok-insert-in-Some-2-clause-ok g c =
     let rows = c.args.rows.now.items in
     let d = c.index.result.now in
     let at : position (is_past c.args.stored) rows ≡ Some c.in-Some.place = rw (← c.deref.ensures.value) (sym c.in-Some.ensures) in
@@ -24,7 +24,7 @@ returns-in_ok-insert-in-Some-2-clause-ok c =
     rw c.in_ok-insert-in-Some-2.ensures.items (put_before c.args.stored d rows c.in-Some.place found.0 found.1 found.2 same)
 
 pub returns-in_ok-push-in-None-clause-ok : goal.returns-in_ok-push-in-None-clause-ok
-returns-in_ok-push-in-None-clause-ok c =
+returns-in_ok-push-in-None-clause-ok g c =
     let rows = c.args.rows.now.items in
     let at : position (is_past c.args.stored) rows ≡ None = rw (← c.deref.ensures.value) (sym c.in-None.ensures) in
     rw c.in_ok-push-in-None.ensures.items (put_at_end c.args.stored c.args.stored rows (position-None (is_past c.args.stored) rows c.args.stored at))

@@ -4,4 +4,4 @@ use Rattle.tip_rows.specs.Memory.{is_other}
 use Rattle.tip_rows.proofs.memory.remove_from.Goals as goal
 
 pub returns : goal.returns
-returns c = filter_same _ (is_other c.args.realm.now c.args.key) _ (λ x b f' k. search rules) _ _ c.retain.ensures.filtered
+returns g c = filter_same _ (is_other c.args.realm.now c.args.key) _ (λ x b f' k. search rules) _ _ c.retain.ensures.filtered
