@@ -2,8 +2,8 @@
 use Rattle.std.specs.Prelude.{ℕ}
 use Rattle.tip_line.specs.declared.fault.WordFault.{WordFault}
 use Rattle.tip_line.specs.declared.fault.WordFault.TheVariants as words
-use Rattle.tipd.specs.declared.declared.DeclareFault.{DeclareFault}
-use Rattle.tipd.specs.declared.declared.DeclareFault.TheVariants as declares
+use Rattle.tipd.specs.declared.fault.LineFault.{LineFault}
+use Rattle.tipd.specs.declared.fault.LineFault.TheVariants as lines
 use Rattle.tipd.specs.declared.fault.PlayFault.{PlayFault}
 use Rattle.tipd.specs.declared.fault.PlayFault.TheVariants.{Script, Read, Write, Memory}
 
@@ -13,7 +13,7 @@ status_of Read = 1
 status_of Write = 1
 status_of Memory = 1
 
--- a word that is none makes a bad declaration; want of memory stays what it is
-abbrev pub declare_fault_of : WordFault → DeclareFault
-declare_fault_of words.NotWord = declares.Bad
-declare_fault_of words.Memory = declares.Memory
+-- a word that is none makes a bad line; want of memory stays what it is
+abbrev pub line_fault_of : WordFault → LineFault
+line_fault_of words.NotWord = lines.NotUnderstood
+line_fault_of words.Memory = lines.Memory

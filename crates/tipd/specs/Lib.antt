@@ -1,2 +1,9 @@
 pub mod Faults
-pub mod Readers
+pub mod Scripts
+pub mod Fields
+pub mod Printing
+pub mod Scenes
+pub mod Transcripts
+pub mod Standing
+pub mod Stages
+pub mod Writing

@@ -1,9 +1,51 @@
-//! Why a script was not played to its end.
+//! Why a line of a script is not done, and why a script is not played to its end.
 ghost use Rattle.std.specs.Prelude.{◌≡◌};
 ghost use Rattle.tipd.specs.Faults.{status_of};
 
 use std::alloc::{AllocError, AllocFailed};
 use thiserror::Error;
+use tip_line::WordFault;
+
+/// Why a line of a script is not done.
+#[derive(Clone, Copy, Debug, PartialEq, Eq)]
+pub enum LineFault {
+    /// It says nothing, or what may not stand here.
+    NotUnderstood,
+    Memory,
+}
+
+impl From<AllocError> for LineFault {
+    ghost use Rattle.tipd.specs.declared.fault.LineFault.TheVariants.{Memory};
+
+    ghost from_gives = { λ _ fault. fault ≡ Memory };
+
+    fn from(_: AllocError) -> LineFault {
+        LineFault::Memory
+    }
+}
+
+impl<T: Drop> From<AllocFailed<T>> for LineFault {
+    ghost use Rattle.tipd.specs.declared.fault.LineFault.TheVariants.{Memory};
+
+    ghost from_gives = { λ _ fault. fault ≡ Memory };
+
+    fn from(_: AllocFailed<T>) -> LineFault {
+        LineFault::Memory
+    }
+}
+
+impl From<WordFault> for LineFault {
+    ghost use Rattle.tipd.specs.Faults.{line_fault_of};
+
+    ghost from_gives = { λ fault result. result ≡ line_fault_of fault };
+
+    fn from(fault: WordFault) -> LineFault {
+        match fault {
+            WordFault::NotWord => LineFault::NotUnderstood,
+            WordFault::Memory => LineFault::Memory,
+        }
+    }
+}
 
 /// Why a script was not played to its end. What was written before stands.
 #[derive(Clone, Copy, Debug, PartialEq, Eq, Error)]
@@ -37,16 +79,6 @@ impl From<AllocError> for PlayFault {
     ghost from_gives = { λ _ fault. fault ≡ Memory };
 
     fn from(_: AllocError) -> PlayFault {
-        PlayFault::Memory
-    }
-}
-
-impl<T: Drop> From<AllocFailed<T>> for PlayFault {
-    ghost use Rattle.tipd.specs.declared.fault.PlayFault.TheVariants.{Memory};
-
-    ghost from_gives = { λ _ fault. fault ≡ Memory };
-
-    fn from(_: AllocFailed<T>) -> PlayFault {
         PlayFault::Memory
     }
 }

@@ -1,4 +1,9 @@
 //! The fields of a script line.
+ghost use Rattle.std.specs.Prelude.{◌≡◌, ◌↔◌, [], None, Some, IfSome, IfNone, IsSome, option_map};
+ghost use Rattle.tip_line.specs.Ids.{number_in};
+ghost use Rattle.tipd.specs.Fields.{left_in, Takes};
+ghost use Rattle.tipd.specs.Scripts.{fields_of, rest_of, realm_in};
+
 use std::str;
 use tip_line::{is_realm, number_of};
 
@@ -10,17 +15,25 @@ pub struct Fields<'a> {
 }
 
 impl<'a> Fields<'a> {
-    pub fn of(line: &'a [u8]) -> Fields<'a> {
+    pub fn of(line: &'a [u8]) -> Fields<'a>
+        ensures { left_in result.rest ≡ fields_of line.now }
+    {
         Fields { rest: Some(line) }
     }
 
     /// All that is left, as one field.
-    pub fn rest(self) -> Option<&'a [u8]> {
+    #[tactic(auto, using(crate::proofs::Splitting::joined))]
+    pub fn rest(self) -> Option<&'a [u8]>
+        ensures some { IfSome result (λ rest. rest.now ≡ rest_of (left_in self.entry.rest)) }
+        ensures none { IfNone result (left_in self.entry.rest ≡ []) }
+    {
         self.rest
     }
 
     /// The next field; None behind the last.
-    pub fn next(&mut self) -> Option<&'a [u8]> {
+    pub fn next(&mut self) -> Option<&'a [u8]>
+        ensures { Takes (left_in self.old.rest) result (left_in self.new.rest) }
+    {
         let rest = self.rest?;
         match rest.iter().position(|octet| *octet == b' ') {
             Some(end) => {
@@ -33,19 +46,26 @@ impl<'a> Fields<'a> {
             }
         }
     }
+}
 
-    /// The next field as text.
-    pub fn text(&mut self) -> Option<&'a str> {
-        str::from_utf8(self.next()?).ok()
+/// A field as the name of a realm.
+#[tactic(auto, using(crate::proofs::Splitting::no_realm))]
+pub fn realm_in(field: &[u8]) -> Option<&str>
+    ensures { option_map (λ name. name.now) result ≡ realm_in field.now }
+{
+    match str::from_utf8(field) {
+        Ok(name) if is_realm(field) => Some(name),
+        _ => None,
     }
+}
 
-    /// The next field as the name of a realm.
-    pub fn realm(&mut self) -> Option<&'a str> {
-        self.text().filter(|name| is_realm(name.as_bytes()))
-    }
-
-    /// The next field as a number, in decimal without leading zeros.
-    pub fn number(&mut self) -> Option<u32> {
-        number_of(self.text()?)
+/// A field as a number, in decimal without leading zeros.
+#[tactic(auto, using(crate::proofs::Splitting::no_number))]
+pub fn number_in(field: &[u8]) -> Option<u32>
+    ensures { result ≡ number_in field.now }
+{
+    match str::from_utf8(field) {
+        Ok(text) => number_of(text),
+        Err(_) => None,
     }
 }

@@ -1,6 +1,20 @@
 //! The lines of a script.
-use crate::fields::Fields;
+ghost use Rattle.std.specs.Prelude.{◌≡◌, ◌<◌, option_map};
+ghost use Rattle.std.specs.List.{list_all};
+ghost use Rattle.tipd.specs.Fields.{left_in, move_by};
+ghost use Rattle.tipd.specs.Scripts.{is_digit, is_hex, value_of, limits_in, declaration, opening, text_line, hex_octets, loss, move_of};
+
+use crate::fields::{Fields, number_in, realm_in};
 use tip_machine::Limits;
+
+/// Octets that come on a connection.
+#[derive(Clone, Copy, Debug, PartialEq, Eq)]
+pub enum Octets<'a> {
+    /// A text, and the end of a line.
+    Text(&'a [u8]),
+    /// Pairs of hexadecimal digits, one for each octet.
+    Hex(&'a [u8]),
+}
 
 /// What one line of a script says.
 #[derive(Clone, Copy, Debug, PartialEq, Eq)]
@@ -8,24 +22,18 @@ pub enum Instruction<'a> {
     /// `realm NAME ADDRESS CONNECTIONS TRANSACTIONS BRANCHES BOXES ENTRIES` declares a realm.
     Realm {
         name: &'a str,
-        address: &'a str,
+        address: &'a [u8],
         limits: Limits,
     },
     /// `open REALM -`: another manager opens a connection, and no boxes come with it.
     Open {
         realm: &'a str,
     },
-    /// `line REALM CONN TEXT`: a text and the end of a line come on a connection.
-    Line {
+    /// `line REALM CONN TEXT` or `raw REALM CONN HEX`: octets come on a connection.
+    Feed {
         realm: &'a str,
         connection: u32,
-        text: &'a [u8],
-    },
-    /// `raw REALM CONN HEX`: octets come on a connection, each as two hexadecimal digits.
-    Raw {
-        realm: &'a str,
-        connection: u32,
-        digits: &'a [u8],
+        octets: Octets<'a>,
     },
     /// `lost REALM CONN`: a connection is lost.
     Lost {
@@ -36,77 +44,132 @@ pub enum Instruction<'a> {
 
 impl<'a> Instruction<'a> {
     /// What a line says; None where it is not understood.
-    pub fn parse(line: &'a [u8]) -> Option<Instruction<'a>> {
+    #[tactic(auto, unfolding(crate::specs::Scripts::move_in))]
+    pub fn parse(line: &'a [u8]) -> Option<Instruction<'a>>
+        ensures { option_map move_by result ≡ move_of line.now }
+    {
         let mut fields = Fields::of(line);
-        match fields.text()? {
-            "realm" => declaration(fields),
-            "open" => opening(fields),
-            "line" => text_line(fields),
-            "raw" => octets(fields),
-            "lost" => loss(fields),
+        match fields.next()? {
+            b"realm" => declaration(fields),
+            b"open" => opening(fields),
+            b"line" => text_line(fields),
+            b"raw" => hex_octets(fields),
+            b"lost" => loss(fields),
             _ => None,
         }
     }
 }
 
-fn declaration(mut fields: Fields<'_>) -> Option<Instruction<'_>> {
-    let name = fields.realm()?;
-    let address = fields.text()?;
+#[tactic(auto, unfolding(crate::specs::Scripts::limits_in))]
+fn limits_in(mut fields: Fields<'_>) -> Option<Limits>
+    ensures { result ≡ limits_in (left_in fields.entry.rest) }
+{
     let limits = Limits {
-        connections: fields.number()?,
-        transactions: fields.number()?,
-        branches: fields.number()?,
-        boxes: fields.number()?,
-        entries: fields.number()?,
+        connections: number_in(fields.next()?)?,
+        transactions: number_in(fields.next()?)?,
+        branches: number_in(fields.next()?)?,
+        boxes: number_in(fields.next()?)?,
+        entries: number_in(fields.next()?)?,
     };
-    fields.rest().is_none().then_some(Instruction::Realm {
-        name,
+    match fields.next() {
+        Some(_) => None,
+        None => Some(limits),
+    }
+}
+
+#[tactic(auto, unfolding(crate::specs::Scripts::declaration))]
+fn declaration(mut fields: Fields<'_>) -> Option<Instruction<'_>>
+    ensures { option_map move_by result ≡ declaration (left_in fields.entry.rest) }
+{
+    let name = fields.next()?;
+    let address = fields.next()?;
+    Some(Instruction::Realm {
+        name: realm_in(name)?,
         address,
-        limits,
+        limits: limits_in(fields)?,
     })
 }
 
-fn opening(mut fields: Fields<'_>) -> Option<Instruction<'_>> {
-    let realm = fields.realm()?;
+#[tactic(auto, unfolding(crate::specs::Scripts::opening))]
+fn opening(mut fields: Fields<'_>) -> Option<Instruction<'_>>
+    ensures { option_map move_by result ≡ opening (left_in fields.entry.rest) }
+{
+    let realm = realm_in(fields.next()?)?;
     (fields.rest()? == b"-".as_slice()).then_some(Instruction::Open { realm })
 }
 
-fn text_line(mut fields: Fields<'_>) -> Option<Instruction<'_>> {
-    let realm = fields.realm()?;
-    let connection = fields.number()?;
+#[tactic(auto, unfolding(crate::specs::Scripts::text_line))]
+fn text_line(mut fields: Fields<'_>) -> Option<Instruction<'_>>
+    ensures { option_map move_by result ≡ text_line (left_in fields.entry.rest) }
+{
+    let realm = fields.next()?;
+    let connection = fields.next()?;
     let text = fields.rest()?;
-    (!text.is_empty()).then_some(Instruction::Line {
-        realm,
-        connection,
-        text,
+    if text.is_empty() {
+        return None;
+    }
+    Some(Instruction::Feed {
+        realm: realm_in(realm)?,
+        connection: number_in(connection)?,
+        octets: Octets::Text(text),
     })
 }
 
-fn octets(mut fields: Fields<'_>) -> Option<Instruction<'_>> {
-    let realm = fields.realm()?;
-    let connection = fields.number()?;
+#[tactic(auto, unfolding(crate::specs::Scripts::hex_octets))]
+fn hex_octets(mut fields: Fields<'_>) -> Option<Instruction<'_>>
+    ensures { option_map move_by result ≡ hex_octets (left_in fields.entry.rest) }
+{
+    let realm = fields.next()?;
+    let connection = fields.next()?;
     let digits = fields.rest()?;
-    is_octets(digits).then_some(Instruction::Raw {
-        realm,
-        connection,
-        digits,
+    if !is_hex(digits) {
+        return None;
+    }
+    Some(Instruction::Feed {
+        realm: realm_in(realm)?,
+        connection: number_in(connection)?,
+        octets: Octets::Hex(digits),
     })
 }
 
-fn loss(mut fields: Fields<'_>) -> Option<Instruction<'_>> {
-    let realm = fields.realm()?;
-    let connection = fields.number()?;
-    fields
-        .rest()
-        .is_none()
-        .then_some(Instruction::Lost { realm, connection })
+#[tactic(auto, unfolding(crate::specs::Scripts::loss))]
+fn loss(mut fields: Fields<'_>) -> Option<Instruction<'_>>
+    ensures { option_map move_by result ≡ loss (left_in fields.entry.rest) }
+{
+    let realm = fields.next()?;
+    let connection = fields.next()?;
+    if fields.next().is_some() {
+        return None;
+    }
+    Some(Instruction::Lost {
+        realm: realm_in(realm)?,
+        connection: number_in(connection)?,
+    })
 }
 
 /// Whether these are one or more pairs of digits from `0` to `9` and `a` to `f`.
-fn is_octets(digits: &[u8]) -> bool {
-    !digits.is_empty()
-        && digits.len().is_multiple_of(2)
-        && digits
-            .iter()
-            .all(|digit| matches!(digit, b'0'..=b'9' | b'a'..=b'f'))
+fn is_hex(digits: &[u8]) -> bool
+    ensures { result ≡ is_hex digits.now }
+{
+    !digits.is_empty() && digits.len().is_multiple_of(2) && are_digits(digits)
+}
+
+fn are_digits(octets: &[u8]) -> bool
+    ensures { result ≡ list_all is_digit octets.now }
+{
+    octets
+        .iter()
+        .all(|octet| matches!(*octet, b'0'..=b'9' | b'a'..=b'f'))
+}
+
+/// The value of a hexadecimal digit; 0 of any other octet.
+pub fn value_of(digit: u8) -> u8
+    ensures is { result ≡ value_of digit }
+    ensures small { result < 16 }
+{
+    match digit {
+        b'0'..=b'9' => digit - b'0',
+        b'a'..=b'f' => digit - b'a' + 10,
+        _ => 0,
+    }
 }

@@ -7,6 +7,7 @@ mod fields;
 mod instruction;
 mod play;
 mod playing;
+mod printing;
 mod reader;
 mod script;
 mod stage;

@@ -1,9 +1,16 @@
 //! Playing a script.
-use crate::fault::PlayFault;
+ghost use Rattle.std.specs.Prelude.{◌≡◌, ◌≤◌, [], length, take, IfOk, IfErr, OnOk, OnErr};
+ghost use Rattle.std.specs.Io.KnownBytes.{Appends};
+ghost use Rattle.tipd.specs.Writing.{Acts, IsFrontOf};
+ghost use Rattle.tipd.specs.Stages.{IsStage};
+ghost use Rattle.tipd.specs.Transcripts.{Stage as AStage, acted};
+ghost use Rattle.tipd.specs.declared.fault.PlayFault.TheVariants.{Write as CannotWrite};
+
+use crate::fault::{LineFault, PlayFault};
 use crate::script::OpenLine;
 use crate::stage::Stage;
 use std::alloc::Global;
-use std::io::{Read, Write};
+use std::io::{ErrorKind, Read, Write};
 
 /// How many octets are read at once.
 const PIECE_LEN: usize = 8_192;
@@ -26,26 +33,170 @@ fn play_lines<R: Read, W: Write>(
     input: &mut R,
     output: &mut W,
 ) -> Result<(), PlayFault> {
-    let mut stage = Stage::new(alloc);
-    let mut open_line = OpenLine::new(alloc)?;
-    let mut line = 1u64;
+    let mut player = Player::new(alloc)?;
     let mut piece = [0u8; PIECE_LEN];
     for _ in 0..u32::MAX {
         let len = input.read(&mut piece).map_err(|_| PlayFault::Read)?;
         if len == 0 {
-            stage = stage.act(alloc, line, open_line.as_slice(), output)?;
-            stage.start(alloc, output)?;
-            return Ok(());
+            return player.end(alloc, output);
         }
-        for octet in piece[..len].iter().copied() {
-            if octet == b'\n' {
-                stage = stage.act(alloc, line, open_line.as_slice(), output)?;
-                open_line.clear();
-                line = line.saturating_add(1);
-            } else if !open_line.push(octet) {
-                return Err(PlayFault::Script { line });
-            }
-        }
+        player = player.take(alloc, &piece[..len], output)?;
     }
     Err(PlayFault::Read)
+}
+
+/// A script as far as it was read.
+#[derive(Drop)]
+struct Player {
+    stage: Stage,
+    /// The line that is being read, and its number, from 1.
+    open_line: OpenLine,
+    number: u64,
+    /// What the line that is played prints.
+    printed: String,
+}
+
+impl Player {
+    fn new(alloc: Global) -> Result<Player, PlayFault> {
+        Ok(Player {
+            stage: Stage::new(alloc),
+            open_line: OpenLine::new(alloc)?,
+            number: 1,
+            printed: String::new(alloc),
+        })
+    }
+
+    /// Takes octets of the script, and plays the lines that they end.
+    fn take<W: Write>(
+        self,
+        alloc: Global,
+        octets: &[u8],
+        output: &mut W,
+    ) -> Result<Player, PlayFault> {
+        let mut player = self;
+        for octet in octets.iter().copied() {
+            player = player.take_octet(alloc, octet, output)?;
+        }
+        Ok(player)
+    }
+
+    fn take_octet<W: Write>(
+        mut self,
+        alloc: Global,
+        octet: u8,
+        output: &mut W,
+    ) -> Result<Player, PlayFault> {
+        if octet == b'\n' {
+            return self.play_line(alloc, output);
+        }
+        match self.open_line.push(octet) {
+            Ok(()) => Ok(self),
+            Err(LineFault::NotUnderstood) => Err(PlayFault::Script { line: self.number }),
+            Err(LineFault::Memory) => Err(PlayFault::Memory),
+        }
+    }
+
+    /// Plays the line that has ended.
+    fn play_line<W: Write>(self, alloc: Global, output: &mut W) -> Result<Player, PlayFault> {
+        let Player {
+            stage,
+            mut open_line,
+            number,
+            mut printed,
+        } = self;
+        let stage = act(
+            stage,
+            alloc,
+            number,
+            open_line.as_slice(),
+            &mut printed,
+            output,
+        )?;
+        open_line.clear();
+        Ok(Player {
+            stage,
+            open_line,
+            number: number.saturating_add(1),
+            printed,
+        })
+    }
+
+    /// Plays what is left at the end of the script; the realms start, if they have not.
+    fn end<W: Write>(self, alloc: Global, output: &mut W) -> Result<(), PlayFault> {
+        let Player {
+            stage,
+            open_line,
+            number,
+            mut printed,
+        } = self;
+        let stage = act(
+            stage,
+            alloc,
+            number,
+            open_line.as_slice(),
+            &mut printed,
+            output,
+        )?;
+        printed.clear();
+        stage.finish(alloc, &mut printed)?;
+        write_front(output, printed.as_bytes())
+    }
+}
+
+/// Does what a line says, and writes what it prints.
+fn act<W: Write>(
+    stage: Stage,
+    alloc: Global,
+    number: u64,
+    line: &[u8],
+    printed: &mut String,
+    output: &mut W,
+) -> Result<Stage, PlayFault>
+    ensures { (now : AStage) → IsStage stage now → Acts number (acted now line.now) (W.contents output.old) (W.contents output.new) result }
+{
+    printed.clear();
+    match stage.act(alloc, line, printed) {
+        Ok(stage) => {
+            write_front(output, printed.as_bytes())?;
+            Ok(stage)
+        }
+        Err(LineFault::NotUnderstood) => {
+            write_front(output, printed.as_bytes())?;
+            Err(PlayFault::Script { line: number })
+        }
+        Err(LineFault::Memory) => Err(PlayFault::Memory),
+    }
+}
+
+/// Writes a text; where that fails, a front of it was written.
+fn write_front<W: Write>(output: &mut W, text: &[u8]) -> Result<(), PlayFault>
+    ensures ok { OnOk result (Appends (W.contents output.old) (W.contents output.new) text.now) }
+    ensures err { OnErr result (IsFrontOf text.now (W.contents output.old) (W.contents output.new)) }
+    ensures fault { IfErr result (λ fault. fault ≡ CannotWrite) }
+{
+    let mut rest = text;
+    for _ in 0..u64::MAX {
+        if rest.is_empty() {
+            return Ok(());
+        }
+        let len = write_some(output, rest)?;
+        rest = &rest[len..];
+    }
+    Err(PlayFault::Write)
+}
+
+/// Writes some octets of a text, and says how many: none where the write was interrupted.
+#[tactic(auto, using(crate::proofs::Appending::appends_nothing))]
+fn write_some<W: Write>(output: &mut W, text: &[u8]) -> Result<usize, PlayFault>
+    ensures bound { IfOk result (λ len. len ≤ length text.now) }
+    ensures ok { IfOk result (λ len. Appends (W.contents output.old) (W.contents output.new) (take len text.now)) }
+    ensures err { OnErr result (Appends (W.contents output.old) (W.contents output.new) []) }
+    ensures fault { IfErr result (λ fault. fault ≡ CannotWrite) }
+{
+    match output.write(text) {
+        Ok(0) => Err(PlayFault::Write),
+        Ok(len) => Ok(len),
+        Err(error) if error.kind() == ErrorKind::Interrupted => Ok(0),
+        Err(_) => Err(PlayFault::Write),
+    }
 }

@@ -1,11 +1,22 @@
 //! The realms of a script at work.
-use crate::fault::PlayFault;
+ghost use Rattle.std.specs.Prelude.{◌≡◌, ◌++◌, ℕ, List, [], Some, None, IfOk, OnOk, slice_get, string_bytes};
+ghost use Rattle.tip_core.specs.Hosted.{realm as realm_at, Steps};
+ghost use Rattle.tip_machine.specs.States.{State};
+ghost use Rattle.tip_machine.specs.declared.event.Outcome.TheVariants.{NoChange};
+ghost use Rattle.tip_line.specs.Reading.{Item};
+ghost use Rattle.std.specs.List.{position_or_len};
+ghost use Rattle.tipd.specs.Fields.{octets_of};
+ghost use Rattle.tipd.specs.declared.playing.Actor.{Actor};
+ghost use Rattle.tipd.specs.Scenes.{Acting, Reading, Scene, takes, opens_at, place_of, feeds, loses, with_done, with_opened};
+ghost use Rattle.tipd.specs.Standing.{has_name, IsFound, IsGiven, IsMoved, IsScene, AreReadings, Owes, TakesAll};
+
+use crate::instruction::Octets;
+use crate::printing::print;
 use crate::reader::Reader;
-use std::alloc::Global;
-use std::io::{self, Write};
+use std::alloc::{AllocError, Global};
 use tip_core::Core;
 use tip_line::Realm;
-use tip_machine::{Answer, Event, Item, Outcome};
+use tip_machine::{Answer, Event, Outcome, Seat};
 
 /// A realm, and who reads what comes on its connections.
 #[derive(Drop)]
@@ -16,11 +27,25 @@ pub struct Actor {
 }
 
 impl Actor {
-    pub fn new(alloc: Global, name: Realm) -> Actor {
+    pub fn new(alloc: Global, name: Realm) -> Actor
+        ensures name { result.name ≡ name }
+        ensures readers { result.readers.items ≡ [] }
+    {
         Actor {
             name,
             readers: Vec::new(alloc),
         }
+    }
+
+    /// A reader for the connection of this seat, if one was given.
+    fn give(&mut self, alloc: Global, opened: Option<Seat>) -> Result<(), AllocError>
+        ensures name { self.new.name ≡ self.old.name }
+        ensures readings { (readings : List Reading) → AreReadings self.old.readers.items readings → OnOk result (AreReadings self.new.readers.items (with_opened opened readings)) }
+    {
+        if let Some(seat) = opened {
+            self.readers.push(Reader::new(alloc, seat)?)?;
+        }
+        Ok(())
     }
 }
 
@@ -39,27 +64,45 @@ pub struct Place {
 }
 
 impl Playing {
-    pub fn new(core: Core, actors: Vec<Actor>) -> Playing {
+    pub fn new(core: Core, actors: Vec<Actor>) -> Playing
+        ensures core { result.core ≡ core }
+        ensures actors { result.actors.items ≡ actors.items }
+    {
         Playing { core, actors }
     }
 
     /// Another manager opens a connection.
-    pub fn open<W: Write>(
+    pub fn open(
         &mut self,
         alloc: Global,
         name: &str,
-        output: &mut W,
-    ) -> Result<(), PlayFault> {
+        printed: &mut String,
+    ) -> Result<(), AllocError>
+        ensures { (scene : Scene) → IsScene self.old.core self.old.actors.items scene →
+            OnOk result (IsMoved self.new.core self.new.actors.items (string_bytes printed.old) (string_bytes printed.new) (opens_at name.now (place_of name.now scene) (slice_get scene (place_of name.now scene)) scene)) }
+    {
         let realm = self.realm_named(name);
         let answer = step(&mut self.core, alloc, realm, Event::Open)?;
-        if let (Some(actor), Some(seat)) = (self.actors.get_mut(realm), answer.opened) {
-            actor.readers.push(Reader::new(alloc, seat)?)?;
+        self.give(alloc, realm, answer.opened)?;
+        print(printed, name, &answer)
+    }
+
+    /// A reader for the connection that a realm has given, if it is there and has given one.
+    fn give(&mut self, alloc: Global, realm: usize, opened: Option<Seat>) -> Result<(), AllocError>
+        ensures realms { self.new.core ≡ self.old.core }
+        ensures there { (actor : Actor) → slice_get self.old.actors.items realm ≡ Some actor → OnOk result (IsGiven self.old.actors.items self.new.actors.items realm actor opened) }
+        ensures absent { slice_get self.old.actors.items realm ≡ None → OnOk result (self.new.actors.items ≡ self.old.actors.items) }
+    {
+        match self.actors.get_mut(realm) {
+            Some(actor) => actor.give(alloc, opened),
+            None => Ok(()),
         }
-        show(output, name, &answer)
     }
 
     /// Where a connection's reader is; None where the realm has not given it.
-    pub fn find(&self, name: &str, connection: u32) -> Option<Place> {
+    pub fn find(&self, name: &str, connection: u32) -> Option<Place>
+        ensures { (scene : Scene) → IsScene self.now.core self.now.actors.items scene → IsFound name.now connection scene result }
+    {
         let realm = self.realm_named(name);
         let reader = (connection as usize).checked_sub(1)?;
         self.actors.get(realm)?.readers.get(reader)?;
@@ -67,13 +110,16 @@ impl Playing {
     }
 
     /// Octets come on a connection, and the lines that they end are taken.
-    pub fn feed<W: Write>(
+    pub fn feed(
         &mut self,
         alloc: Global,
         place: Place,
-        octets: &[u8],
-        output: &mut W,
-    ) -> Result<(), PlayFault> {
+        octets: Octets<'_>,
+        printed: &mut String,
+    ) -> Result<(), AllocError>
+        ensures { (scene : Scene) (acting : Acting) (reading : Reading) → IsScene self.old.core self.old.actors.items scene → slice_get scene place.realm ≡ Some acting → slice_get acting.readings place.reader ≡ Some reading →
+            OnOk result (IsMoved self.new.core self.new.actors.items (string_bytes printed.old) (string_bytes printed.new) (with_done place.realm (feeds (octets_of octets.entry) place.reader reading acting) scene)) }
+    {
         let Playing { core, actors } = self;
         let Some(actor) = actors.get_mut(place.realm) else {
             return Ok(());
@@ -88,17 +134,20 @@ impl Playing {
             place.realm,
             actor.name.as_str(),
             reader,
-            output,
+            printed,
         )
     }
 
     /// A connection is lost.
-    pub fn lose<W: Write>(
+    pub fn lose(
         &mut self,
         alloc: Global,
         place: Place,
-        output: &mut W,
-    ) -> Result<(), PlayFault> {
+        printed: &mut String,
+    ) -> Result<(), AllocError>
+        ensures { (scene : Scene) (acting : Acting) (reading : Reading) → IsScene self.old.core self.old.actors.items scene → slice_get scene place.realm ≡ Some acting → slice_get acting.readings place.reader ≡ Some reading →
+            OnOk result (IsMoved self.new.core self.new.actors.items (string_bytes printed.old) (string_bytes printed.new) (with_done place.realm (loses place.reader reading acting) scene)) }
+    {
         let Playing { core, actors } = self;
         let Some(actor) = actors.get_mut(place.realm) else {
             return Ok(());
@@ -107,14 +156,14 @@ impl Playing {
             return Ok(());
         };
         let answer = step(core, alloc, place.realm, Event::Lost { seat: reader.seat })?;
-        if answer.refusal.is_none() {
-            reader.restart(alloc)?;
-        }
-        show(output, actor.name.as_str(), &answer)
+        reader.restart_if(alloc, answer.refusal.is_none())?;
+        print(printed, actor.name.as_str(), &answer)
     }
 
     /// The place of a realm; one behind all realms where it is not declared.
-    fn realm_named(&self, name: &str) -> usize {
+    fn realm_named(&self, name: &str) -> usize
+        ensures { result ≡ position_or_len (has_name name.now) self.now.actors.items }
+    {
         self.actors
             .iter()
             .position(|actor| actor.name.as_str() == name)
@@ -123,49 +172,32 @@ impl Playing {
 }
 
 /// One event of one realm.
-fn step(core: &mut Core, alloc: Global, realm: usize, event: Event) -> Result<Answer, PlayFault> {
+fn step(core: &mut Core, alloc: Global, realm: usize, event: Event) -> Result<Answer, AllocError>
+    ensures { IfOk result (λ answer. Steps core.old core.new realm event NoChange answer) }
+{
     let room = core.room(alloc, realm, &event)?;
     Ok(core.apply(realm, event, room, Outcome::NoChange))
 }
 
 /// Takes the lines that have come on a connection, until there is none or the connection is closed.
-fn take_lines<W: Write>(
+fn take_lines(
     core: &mut Core,
     alloc: Global,
     realm: usize,
     name: &str,
     reader: &mut Reader,
-    output: &mut W,
-) -> Result<(), PlayFault> {
+    printed: &mut String,
+) -> Result<(), AllocError>
+    ensures { (state : State) (items : List Item) (heard : List ℕ) → realm_at core.old realm ≡ Some state → Owes reader.old items heard →
+        OnOk result (TakesAll core.old core.new realm reader.old reader.new (string_bytes printed.old) (string_bytes printed.new) (takes name.now reader.old.seat items state) heard) }
+{
     while let Some(heard) = reader.next(alloc)? {
         let seat = reader.seat;
         let answer = step(core, alloc, realm, Event::Line { seat, heard })?;
-        show(output, name, &answer)?;
+        print(printed, name, &answer)?;
         if answer.closes(seat.number) {
             reader.restart(alloc)?;
             return Ok(());
-        }
-    }
-    Ok(())
-}
-
-/// Writes an answer: its refusal, the connection that it opened, and then its lines and closings.
-fn show<W: Write>(output: &mut W, name: &str, answer: &Answer) -> Result<(), PlayFault> {
-    write_answer(output, name, answer).map_err(|_| PlayFault::Write)
-}
-
-fn write_answer<W: Write>(output: &mut W, name: &str, answer: &Answer) -> io::Result<()> {
-    if let Some(refusal) = answer.refusal {
-        writeln!(output, "{name} refused {refusal}")?;
-    }
-    if let Some(seat) = answer.opened {
-        writeln!(output, "{name} {} open", seat.number)?;
-    }
-    for told in answer.told.as_slice() {
-        let number = told.connection;
-        match told.item {
-            Item::Say(said) => writeln!(output, "{name} {number} say {}", said.response())?,
-            Item::Close => writeln!(output, "{name} {number} close")?,
         }
     }
     Ok(())

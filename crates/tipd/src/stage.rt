@@ -1,12 +1,17 @@
 //! A script as far as it was played.
-ghost use Rattle.std.specs.Prelude.{◌<◌, ◌≤◌};
+ghost use Rattle.std.specs.Prelude.{◌≡◌, ◌++◌, List, [], OnOk, string_bytes};
+ghost use Rattle.tipd.specs.Fields.{move_by};
+ghost use Rattle.tipd.specs.Scenes.{Scene, moved};
+ghost use Rattle.tipd.specs.Stages.{ActsSo, IsDeclared, IsStage, Moves};
+ghost use Rattle.tip_machine.specs.declared.head.Start.{Start};
+ghost use Rattle.tipd.specs.Standing.{IsScene};
+ghost use Rattle.tipd.specs.Transcripts.{Stage as AStage, Declaring as Begins, Reached, acted, acts, closing_text};
 
-use crate::declared::{DeclareFault, Declared};
-use crate::fault::PlayFault;
+use crate::declared::Declared;
+use crate::fault::LineFault;
 use crate::instruction::Instruction;
-use crate::playing::{Place, Playing};
-use std::alloc::Global;
-use std::io::Write;
+use crate::playing::Playing;
+use std::alloc::{AllocError, Global};
 
 /// The realms, before and after their start. The first line that declares none starts them.
 #[derive(Drop)]
@@ -16,117 +21,99 @@ pub enum Stage {
 }
 
 impl Stage {
-    pub fn new(alloc: Global) -> Stage {
+    pub fn new(alloc: Global) -> Stage
+        ensures { IsStage result (Begins []) }
+    {
         Stage::Declaring(Declared::new(alloc))
     }
 
-    /// The realms at work; they start where they have not.
-    pub fn start<W: Write>(self, alloc: Global, output: &mut W) -> Result<Playing, PlayFault> {
-        match self {
-            Stage::Declaring(declared) => declared.start(alloc, output),
-            Stage::Playing(playing) => Ok(playing),
+    /// Does what a line says.
+    pub fn act(self, alloc: Global, line: &[u8], printed: &mut String) -> Result<Stage, LineFault>
+        ensures { (stage : AStage) → IsStage self stage → ActsSo (string_bytes printed.old) (string_bytes printed.new) (acted stage line.now) result }
+    {
+        if line.is_empty() {
+            return Ok(self);
+        }
+        match Instruction::parse(line) {
+            Some(instruction) => self.obey(alloc, instruction, printed),
+            None => Err(LineFault::NotUnderstood),
         }
     }
 
-    /// Does what the line of this number says.
-    pub fn act<W: Write>(
+    /// The script has ended: the realms start, if they have not.
+    pub fn finish(self, alloc: Global, printed: &mut String) -> Result<(), AllocError>
+        ensures { (stage : AStage) → IsStage self stage → OnOk result (string_bytes printed.new ≡ string_bytes printed.old ++ closing_text (Reached stage)) }
+    {
+        if let Stage::Declaring(declared) = self {
+            declared.start(alloc, printed)?;
+        }
+        Ok(())
+    }
+
+    /// Does what an instruction says.
+    fn obey(
         self,
         alloc: Global,
-        line: u64,
-        text: &[u8],
-        output: &mut W,
-    ) -> Result<Stage, PlayFault> {
-        if text.is_empty() {
-            return Ok(self);
-        }
-        let Some(instruction) = Instruction::parse(text) else {
-            return Err(PlayFault::Script { line });
-        };
-        match (self, instruction) {
-            (
-                Stage::Declaring(mut declared),
-                Instruction::Realm {
-                    name,
-                    address,
-                    limits,
-                },
-            ) => match declared.add(alloc, name, address, limits) {
-                Ok(()) => Ok(Stage::Declaring(declared)),
-                Err(DeclareFault::Bad) => Err(PlayFault::Script { line }),
-                Err(DeclareFault::Memory) => Err(PlayFault::Memory),
-            },
-            (stage, instruction) => {
-                let mut playing = stage.start(alloc, output)?;
-                play_line(&mut playing, alloc, line, instruction, output)?;
+        instruction: Instruction<'_>,
+        printed: &mut String,
+    ) -> Result<Stage, LineFault>
+        ensures { (stage : AStage) → IsStage self stage → ActsSo (string_bytes printed.old) (string_bytes printed.new) (acts stage (move_by instruction.entry)) result }
+    {
+        match self {
+            Stage::Declaring(declared) => declare(declared, alloc, instruction, printed),
+            Stage::Playing(mut playing) => {
+                play(&mut playing, alloc, instruction, printed)?;
                 Ok(Stage::Playing(playing))
             }
         }
     }
 }
 
+/// Does what an instruction says before the realms have started: each but a declaration starts them.
+fn declare(
+    declared: Declared,
+    alloc: Global,
+    instruction: Instruction<'_>,
+    printed: &mut String,
+) -> Result<Stage, LineFault>
+    ensures { (starts : List Start) → IsDeclared declared starts → ActsSo (string_bytes printed.old) (string_bytes printed.new) (acts (Begins starts) (move_by instruction.entry)) result }
+{
+    if let Instruction::Realm {
+        name,
+        address,
+        limits,
+    } = instruction
+    {
+        return Ok(Stage::Declaring(declared.add(alloc, name, address, limits)?));
+    }
+    let mut playing = declared.start(alloc, printed)?;
+    play(&mut playing, alloc, instruction, printed)?;
+    Ok(Stage::Playing(playing))
+}
+
 /// Does what a line says once the realms have started.
-fn play_line<W: Write>(
+fn play(
     playing: &mut Playing,
     alloc: Global,
-    line: u64,
     instruction: Instruction<'_>,
-    output: &mut W,
-) -> Result<(), PlayFault> {
+    printed: &mut String,
+) -> Result<(), LineFault>
+    ensures { (scene : Scene) → IsScene playing.old.core playing.old.actors.items scene → Moves playing.new.core playing.new.actors.items (string_bytes printed.old) (string_bytes printed.new) (moved (move_by instruction.entry) scene) result }
+{
     match instruction {
-        Instruction::Realm { .. } => Err(PlayFault::Script { line }),
-        Instruction::Open { realm } => playing.open(alloc, realm, output),
-        Instruction::Line {
+        Instruction::Realm { .. } => Err(LineFault::NotUnderstood),
+        Instruction::Open { realm } => Ok(playing.open(alloc, realm, printed)?),
+        Instruction::Feed {
             realm,
             connection,
-            text,
-        } => {
-            let place = given(playing, realm, connection, line)?;
-            playing.feed(alloc, place, text, output)?;
-            playing.feed(alloc, place, b"\n", output)
-        }
-        Instruction::Raw {
-            realm,
-            connection,
-            digits,
-        } => {
-            let place = given(playing, realm, connection, line)?;
-            let mut octets = [0u8; 4_096];
-            let count = decode(digits, &mut octets);
-            playing.feed(alloc, place, &octets[..count], output)
-        }
-        Instruction::Lost { realm, connection } => {
-            let place = given(playing, realm, connection, line)?;
-            playing.lose(alloc, place, output)
-        }
-    }
-}
-
-/// The connection that a line names, if it was given.
-fn given(playing: &Playing, realm: &str, connection: u32, line: u64) -> Result<Place, PlayFault> {
-    playing
-        .find(realm, connection)
-        .ok_or(PlayFault::Script { line })
-}
-
-/// Writes the octets that hexadecimal digits say, as many as there is room for, and answers how many there are.
-fn decode(digits: &[u8], octets: &mut [u8; 4_096]) -> usize
-    ensures { result ≤ 4096 }
-{
-    for (pair, octet) in digits.chunks_exact(2).zip(octets.iter_mut()) {
-        if let [high, low] = pair {
-            *octet = value_of(*high) * 16 + value_of(*low);
-        }
-    }
-    (digits.len() / 2).min(4_096)
-}
-
-/// The value of a hexadecimal digit; 0 of any other octet.
-fn value_of(digit: u8) -> u8
-    ensures { result < 16 }
-{
-    match digit {
-        b'0'..=b'9' => digit - b'0',
-        b'a'..=b'f' => digit - b'a' + 10,
-        _ => 0,
+            octets,
+        } => match playing.find(realm, connection) {
+            Some(place) => Ok(playing.feed(alloc, place, octets, printed)?),
+            None => Err(LineFault::NotUnderstood),
+        },
+        Instruction::Lost { realm, connection } => match playing.find(realm, connection) {
+            Some(place) => Ok(playing.lose(alloc, place, printed)?),
+            None => Err(LineFault::NotUnderstood),
+        },
     }
 }

@@ -88,7 +88,7 @@ impl Write for Failing {
 
 #[test]
 fn output_that_fails_ends_the_script(rt: HostRuntime) -> Result<(), Fail> {
-    let script = b"realm north n.x 8 8 1 8 100\nopen north -\n";
+    let script = b"realm north n.x 8 8 1 8 100\nopen north -\nopen north -\n";
     let mut output = Failing { writes: 1 };
     let end = play(rt.alloc(), &mut script.as_slice(), &mut output);
     assert_eq!(rt; end, Err(PlayFault::Write));
