@@ -1,0 +1,4 @@
+pub mod Makings
+pub mod Tables
+pub mod Hosted
+pub mod Isolation

@@ -1,0 +1,134 @@
+//! The machines of all realms.
+ghost use Rattle.std.specs.Prelude.{◌≡◌, ℕ, [], IfOk, IsOk, OnOk, map, take, length, slice_get, option_map};
+ghost use Rattle.whole_machine.specs.Heads.{starting};
+ghost use Rattle.whole_machine.specs.States.{started};
+ghost use Rattle.whole_core.specs.Hosted.{realm as realm_at, may_take_in, IsRoomFor, Steps};
+ghost use Rattle.whole_core.specs.Isolation.{IsIsolated};
+
+use crate::realms::Realms;
+use crate::room::Room;
+use std::alloc::{AllocError, Global};
+use std::marker::Model;
+use tip_line::Refusal;
+use tip_table::Table;
+use whole_machine::{Answer, Connection, Event, Head, InRealm, Outcome, Seat, Start};
+
+/// What a list of events came to.
+#[derive(Drop)]
+pub struct Run {
+    /// The answers to the first events, in order.
+    pub answers: Vec<InRealm<Answer>>,
+    /// `Err` where memory ended before all were answered. What was not answered has not happened.
+    pub end: Result<(), AllocError>,
+}
+
+/// All realms of the process, each by its place in the order of declaration.
+#[derive(Drop)]
+pub struct Core {
+    realms: Realms<Connection>,
+}
+
+impl Model for Core {
+    ghost use Rattle.whole_core.specs.Hosted.{Hosted};
+    ghost use Rattle.whole_core.specs.Tables.{AreAllAlone, AreCounted};
+
+    ghost Value = { Hosted };
+
+    ghost view = { λ c. record { heads = c.realms.heads.items; connections = c.realms.connections } };
+
+    ghost invariant = { λ c. AreCounted c.realms × AreAllAlone c.realms };
+}
+
+impl Core {
+    /// The realms at their start.
+    #[tactic(auto, using(crate::proofs::Stepping::starting_counted, crate::proofs::Stepping::new_realm))]
+    pub fn new(alloc: Global, starts: Vec<Start>) -> Result<Core, AllocError>
+        ensures { IfOk result (λ core. (place : ℕ) → realm_at core place ≡ option_map (λ start. started (starting start)) (slice_get starts.items place)) }
+    {
+        Ok(Core {
+            realms: Realms {
+                heads: heads_of(alloc, starts)?,
+                connections: Table::new(alloc),
+            },
+        })
+    }
+
+    /// Room for an event. The realms stay as they are.
+    #[tactic(auto, using(crate::proofs::Stepping::wants_here))]
+    pub fn room(&mut self, alloc: Global, realm: usize, event: &Event) -> Result<Room, AllocError>
+        ensures realms { (place : ℕ) → realm_at self.new place ≡ realm_at self.old place }
+        ensures ok { IfOk result (IsRoomFor self.new realm event.now) }
+    {
+        let room = Room::new(alloc, 2, None)?;
+        self.realms.reserve(event)?;
+        Ok(room)
+    }
+
+    /// One event of one realm, with what became of the change that it wanted. It takes no memory.
+    #[tactic(auto, using(crate::proofs::Stepping::steps, crate::proofs::Stepping::nowhere_steps, crate::proofs::Stepping::counted))]
+    pub fn apply(&mut self, realm: usize, event: Event, room: Room, outcome: Outcome) -> Answer
+        requires { IsRoomFor self.old realm event room }
+        ensures { Steps self.old self.new realm event outcome result }
+    {
+        let mut making = room.into_making();
+        if realm >= self.realms.heads.len() {
+            making.turn_down(Refusal::NoRealm, event);
+            return making.finish();
+        }
+        self.realms.step(realm, event, outcome, &mut making);
+        making.finish()
+    }
+
+    /// Whether a line of this seat may be taken now; else it is held until it may.
+    #[tactic(auto, using(crate::proofs::Stepping::there, crate::proofs::Stepping::past))]
+    pub fn may_take(&self, realm: usize, seat: Seat) -> bool
+        ensures { result ≡ may_take_in seat (realm_at self.now realm) }
+    {
+        realm < self.realms.heads.len() && self.realms.may_take(realm, seat)
+    }
+
+    /// Events of all realms, one after another; no rows are stored. Each realm answers as if it were alone.
+    pub fn run(&mut self, alloc: Global, events: Vec<InRealm<Event>>) -> Run
+        ensures isolated { IsIsolated self.old (take (length result.answers.items) events.items) result.answers.items self.new }
+        ensures all { IsOk result.end → length result.answers.items ≡ length events.items }
+    {
+        let mut answers = Vec::new(alloc);
+        let end = self.answer_all(alloc, events, &mut answers);
+        Run { answers, end }
+    }
+
+    /// The same, into a list that is empty at first.
+    fn answer_all(
+        &mut self,
+        alloc: Global,
+        events: Vec<InRealm<Event>>,
+        answers: &mut Vec<InRealm<Answer>>,
+    ) -> Result<(), AllocError>
+        requires { answers.old.items ≡ [] }
+        ensures isolated { IsIsolated self.old (take (length answers.new.items) events.items) answers.new.items self.new }
+        ensures all { OnOk result (length answers.new.items ≡ length events.items) }
+    {
+        for event in events {
+            let InRealm { realm, item } = event;
+            answers.reserve(1)?;
+            let room = self.room(alloc, realm, &item)?;
+            let answer = self.apply(realm, item, room, Outcome::NoChange);
+            answers.push_reserved(InRealm {
+                realm,
+                item: answer,
+            });
+        }
+        Ok(())
+    }
+}
+
+/// Each realm's head at its start.
+fn heads_of(alloc: Global, starts: Vec<Start>) -> Result<Vec<Head>, AllocError>
+    ensures { IfOk result (λ heads. heads.items ≡ map starting starts.items) }
+{
+    let mut heads = Vec::with_capacity(alloc, starts.len())?;
+    for start in starts {
+        heads.push(Head::new(start))?;
+    }
+    Ok(heads)
+}

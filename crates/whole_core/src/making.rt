@@ -1,0 +1,139 @@
+//! An answer in the making.
+ghost use Rattle.std.specs.Prelude.{◌≡◌, ◌+◌, ◌<◌, ◌≤◌, [], ◌∷◌, ◌++◌, Some, IfOk};
+ghost use Rattle.whole_machine.specs.Answers.{silence};
+ghost use Rattle.whole_machine.specs.Steps.{returned};
+
+use std::alloc::{AllocError, Global};
+use std::marker::Model;
+use tip_branch::{HeldFresh, HeldParty};
+use tip_line::Refusal;
+use whole_machine::{Answer, Event, Item, Seat, Told, ToldLines};
+
+/// The answer as far as it goes, with room for what may still go out.
+#[derive(Drop)]
+pub struct Making {
+    refusal: Option<Refusal>,
+    opened: Option<Seat>,
+    told: Vec<Told>,
+    work: Option<HeldParty>,
+    spent: Option<HeldParty>,
+    unused: Option<HeldFresh>,
+    entry: Option<u32>,
+}
+
+impl Model for Making {
+    ghost use Rattle.std.specs.Prelude.{◌-◌, vec_len, vec_capacity};
+    ghost use Rattle.whole_core.specs.Makings.{Made};
+
+    ghost Value = { Made };
+
+    ghost view = { λ m. record {
+      answer = record { refusal = m.refusal; opened = m.opened; told = m.told.items; work = m.work; spent = m.spent; unused = m.unused; entry = m.entry };
+      free = vec_capacity m.told - vec_len m.told;
+    } };
+}
+
+impl Making {
+    /// An answer with nothing in it, which has room for so many lines and closings.
+    pub fn new(alloc: Global, lines: usize) -> Result<Making, AllocError>
+        ensures answer { IfOk result (λ making. making.answer ≡ silence) }
+        ensures room { IfOk result (λ making. lines ≤ making.free) }
+    {
+        Ok(Making {
+            refusal: None,
+            opened: None,
+            told: Vec::with_capacity(alloc, lines)?,
+            work: None,
+            spent: None,
+            unused: None,
+            entry: None,
+        })
+    }
+
+    pub fn tell(&mut self, connection: u32, item: Item)
+        requires { 0 < self.old.free }
+        ensures answer { self.new.answer ≡ record self.old.answer { told = self.old.answer.told ++ record { connection = connection; item = item } ∷ [] } }
+        ensures free { self.new.free + 1 ≡ self.old.free }
+    {
+        self.told.push_reserved(Told { connection, item });
+    }
+
+    pub fn refuse(&mut self, why: Refusal)
+        ensures { self.new ≡ record self.old { answer = record self.old.answer { refusal = Some why } } }
+    {
+        self.refusal = Some(why);
+    }
+
+    pub fn open(&mut self, seat: Seat)
+        ensures { self.new ≡ record self.old { answer = record self.old.answer { opened = Some seat } } }
+    {
+        self.opened = Some(seat);
+    }
+
+    pub fn enter(&mut self, entry: u32)
+        ensures { self.new ≡ record self.old { answer = record self.old.answer { entry = Some entry } } }
+    {
+        self.entry = Some(entry);
+    }
+
+    /// A party is to be let go.
+    pub fn spend(&mut self, party: HeldParty)
+        ensures { self.new ≡ record self.old { answer = record self.old.answer { spent = Some party } } }
+    {
+        self.spent = Some(party);
+    }
+
+    /// Boxes that no transaction took are handed back.
+    pub fn hand_back(&mut self, boxes: HeldFresh)
+        ensures { self.new ≡ record self.old { answer = record self.old.answer { unused = Some boxes } } }
+    {
+        self.unused = Some(boxes);
+    }
+
+    /// The event can't happen: what it brought goes back.
+    pub fn turn_down(&mut self, why: Refusal, event: Event)
+        requires { self.old.answer ≡ silence }
+        ensures answer { self.new.answer ≡ returned why event }
+    {
+        self.refuse(why);
+        match event {
+            Event::Open { boxes } => self.hand_back(boxes),
+            Event::Dial {
+                address: _,
+                purpose: _,
+                boxes,
+            } => self.hand_back(boxes),
+            Event::Voted(party) => self.spend(party),
+            Event::Settled(party) => self.spend(party),
+            Event::Line { .. }
+            | Event::Lost { .. }
+            | Event::AskPush { .. }
+            | Event::AskPull { .. }
+            | Event::Resume { .. } => {}
+        }
+    }
+
+    /// The answer as it is now.
+    pub fn finish(self) -> Answer
+        ensures { result ≡ self.answer }
+    {
+        let Making {
+            refusal,
+            opened,
+            told,
+            work,
+            spent,
+            unused,
+            entry,
+        } = self;
+        Answer {
+            refusal,
+            opened,
+            told: ToldLines::new(told),
+            work,
+            spent,
+            unused,
+            entry,
+        }
+    }
+}

@@ -1,0 +1,11 @@
+pub mod Commits
+pub mod Failures
+pub mod Walks
+pub mod RuleWalks
+pub mod EventWalks
+pub mod AttemptWalks
+pub mod Keeping
+pub mod Stepping
+pub mod Others
+pub mod Deciding
+pub mod Forgotten

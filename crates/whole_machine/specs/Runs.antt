@@ -1,0 +1,31 @@
+-- Whole runs of one realm, and what belongs to one realm in a list of many realms' events.
+use Rattle.std.specs.Prelude.{ℕ, ◌==◌, List, [], ◌∷◌, if◌then◌else◌}
+use Rattle.whole_machine.specs.Types.{Answer, Event}
+use Rattle.whole_machine.specs.States.{State}
+use Rattle.whole_machine.specs.Steps.{step}
+use Rattle.whole_machine.specs.declared.event.Outcome.{Outcome}
+use Rattle.whole_machine.specs.declared.event.Outcome.TheVariants.{NoChange}
+use Rattle.whole_machine.specs.declared.event.InRealm.{InRealm}
+
+-- an event with what became of the change that it wanted
+abbrev pub Happened : Type 0
+Happened = Event × Outcome
+
+-- what the realm answers, one event after another
+abbrev pub answers : State → List Happened → List Answer
+answers state [] = []
+answers state (h ∷ hs) = (step state h.0 h.1).answer ∷ answers (step state h.0 h.1).state hs
+
+-- what it is afterwards
+abbrev pub after : State → List Happened → State
+after state [] = state
+after state (h ∷ hs) = after (step state h.0 h.1).state hs
+
+-- an event where no rows are stored
+abbrev pub unstored : Event → Happened
+unstored event = (event, NoChange)
+
+-- a realm's own items, of items of many realms
+abbrev pub own : {T : Type 0} → ℕ → List (InRealm T) → List T
+own realm [] = []
+own realm (x ∷ xs) = if x.realm == realm then x.item ∷ own realm xs else own realm xs

@@ -1,0 +1,109 @@
+-- The step of one realm: what it answers to an event, and what it is afterwards.
+use Rattle.std.specs.Prelude.{◌≡◌, ℕ, ◌+◌, ◌&&◌, nat_lt, Bool, false, List, Option, Some, None, is_some, if◌then◌else◌}
+use Rattle.std.specs.List.{list_any}
+use Rattle.tip_line.specs.declared.refusal.Refusal.{Refusal}
+use Rattle.tip_txn.specs.declared.answer.Phase.TheVariants.{Aborted}
+use Rattle.tip_line.specs.declared.refusal.Refusal.TheVariants.{NoRealm, Frozen}
+use Rattle.whole_machine.specs.Types.{Answer, Event, Transaction}
+use Rattle.whole_machine.specs.Answers.{silence}
+use Rattle.whole_machine.specs.Connections.{has_number}
+use Rattle.whole_machine.specs.States.{State, Work, Attempt, identified_by, seated}
+use Rattle.whole_machine.specs.Order.{ordered}
+use Rattle.whole_machine.specs.Requests.{ask_pull, ask_push, dial, line, lost, opened, owner, resume, settled, voted}
+use Rattle.whole_machine.specs.Served.{Serving, today}
+use Rattle.whole_machine.specs.declared.event.Change.{Change}
+use Rattle.whole_machine.specs.declared.event.Seat.{Seat}
+use Rattle.whole_machine.specs.declared.event.Outcome.{Outcome}
+use Rattle.whole_machine.specs.declared.event.Outcome.TheVariants.{NoChange, Stored, Refused}
+use Rattle.whole_machine.specs.declared.event.Event.TheVariants.{Open, Dial, Line, Voted, Settled, Lost, AskPush, AskPull, Resume}
+
+-- the event takes the next entry of the realm's journal (ours)
+abbrev pub entered : State → Work
+entered state = record {
+  state = record state { head = record state.head { entries = state.head.entries + 1 } };
+  answer = record silence { entry = Some (state.head.entries + 1) };
+}
+
+-- the rule of each event (ours)
+abbrev pub attempt : Serving → Event → Work → Attempt
+attempt serving (Open boxes) work = Attempt.Done (opened boxes work)
+attempt serving (Dial address purpose boxes) work = Attempt.Done (dial serving.dials address purpose boxes work)
+attempt serving (Line seat heard) work = line serving (seated seat work.state) heard work
+attempt serving (Voted party) work = voted (owner party work.state) party work
+attempt serving (Settled party) work = settled (owner party work.state) party work
+attempt serving (Lost seat) work = Attempt.Done (lost (seated seat work.state) work)
+attempt serving (AskPush seat id) work = Attempt.Done (ask_push (seated seat work.state) id work)
+attempt serving (AskPull seat superior) work = Attempt.Done (ask_pull (seated seat work.state) superior work)
+attempt serving (Resume id) work = resume (identified_by id work.state) work
+
+-- the work, by what became of the change; an outcome that says nothing of it counts as a refusal (ours)
+abbrev pub chosen : Attempt → Outcome → Work
+chosen (Attempt.Done work) outcome = work
+chosen (Attempt.Asks change stored refused) Stored = stored
+chosen (Attempt.Asks change stored refused) Refused = refused
+chosen (Attempt.Asks change stored refused) NoChange = refused
+
+-- the change that an attempt asks for
+abbrev pub wanted : Attempt → Option Change
+wanted (Attempt.Done work) = None
+wanted (Attempt.Asks change stored refused) = Some change
+
+-- has the realm room for an entry? (ours)
+abbrev pub is_open : State → Bool
+is_open state = nat_lt state.head.entries state.head.limits.entries
+
+-- an event that can't happen leaves nothing behind: its party is let go, and its boxes are handed back (ours)
+abbrev pub returned : Refusal → Event → Answer
+returned why (Open boxes) = record silence { refusal = Some why; unused = Some boxes }
+returned why (Dial address purpose boxes) = record silence { refusal = Some why; unused = Some boxes }
+returned why (Voted party) = record silence { refusal = Some why; spent = Some party }
+returned why (Settled party) = record silence { refusal = Some why; spent = Some party }
+returned why other = record silence { refusal = Some why }
+
+-- a realm whose journal is full stays as it is, and takes no entry (ours)
+abbrev pub frozen : Event → State → Work
+frozen event state = record { state = state; answer = returned Frozen event }
+
+-- ONE STEP of the machine of one realm
+abbrev pub step_serving : Serving → State → Event → Outcome → Work
+step_serving serving state event outcome = if is_open state then ordered state (chosen (attempt serving event (entered state)) outcome) else frozen event state
+
+-- the change of the stored rows that an event wants, before its outcome is known
+abbrev pub wants_serving : Serving → State → Event → Option Change
+wants_serving serving state event = if is_open state then wanted (attempt serving event (entered state)) else None
+
+-- the step of today
+abbrev pub step : State → Event → Outcome → Work
+step = step_serving today
+
+-- what is wanted today
+abbrev pub wants : State → Event → Option Change
+wants = wants_serving today
+
+-- a state that differs in the count of entries, if at all
+abbrev pub ChangesTheEntriesAlone : State → State → Type 0
+ChangesTheEntriesAlone old new = new ≡ record old { head = record old.head { entries = new.head.entries } }
+
+-- the event is one of the connection of this number
+abbrev pub Names : Event → ℕ → Type 0
+Names (Line seat heard) number = seat.number ≡ number
+Names (Lost seat) number = seat.number ≡ number
+Names (AskPush seat id) number = seat.number ≡ number
+Names (AskPull seat superior) number = seat.number ≡ number
+Names other number = ⊥
+
+-- no connection of this number is on a transaction
+abbrev pub IsOnNone : ℕ → State → Type 0
+IsOnNone number state = list_any (λ connection. has_number number connection && is_some connection.role) state.connections ≡ false
+
+-- no transaction of this identifier is open, or it is aborted
+abbrev pub IsForgotten : List ℕ → State → Type 0
+IsForgotten id state = (transaction : Transaction) → identified_by id state ≡ Some transaction → transaction.txn.phase ≡ Aborted
+
+-- the seat of the next connection
+abbrev pub IsNext : State → Seat → Type 0
+IsNext state seat = seat ≡ record { epoch = state.head.epoch; number = state.head.given + 1 }
+
+-- what is answered for a realm that is not there (ours)
+abbrev pub nowhere : Event → Answer
+nowhere event = returned NoRealm event

@@ -1,0 +1,19 @@
+//! The machine of one realm: what a realm is, what happens to it and what it answers, as plain data, and the definition
+//! of its step (RFC 2371, sections 4, 9, 13 and 15). What stands above cites these definitions in its contracts.
+#![tactic(auto)]
+
+mod answer;
+mod connection;
+mod event;
+pub mod examples;
+mod head;
+pub mod laws;
+mod served;
+mod transaction;
+
+pub use answer::{Answer, Asked, Item, Said, Told, ToldLines};
+pub use connection::{Awaited, Connection, Purpose, Role};
+pub use event::{Change, Event, Heard, InRealm, Outcome, Seat};
+pub use head::{Head, Limits, Start};
+pub use served::is_served;
+pub use transaction::{Origin, PartyPlace, Transaction};

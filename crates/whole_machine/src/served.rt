@@ -1,0 +1,25 @@
+//! The commands that are served.
+ghost use Rattle.std.specs.Prelude.{◌≡◌};
+ghost use Rattle.whole_machine.specs.Served.{is_served};
+
+use tip_line::CommandName;
+
+/// Whether a command is served today. Each other one is answered ERROR, and its connection is closed.
+pub fn is_served(command: CommandName) -> bool
+    ensures { result ≡ is_served command }
+{
+    match command {
+        CommandName::Identify
+        | CommandName::Query
+        | CommandName::Multiplex
+        | CommandName::Tls
+        | CommandName::Error => true,
+        CommandName::Begin
+        | CommandName::Push
+        | CommandName::Pull
+        | CommandName::Prepare
+        | CommandName::Commit
+        | CommandName::Abort
+        | CommandName::Reconnect => false,
+    }
+}
