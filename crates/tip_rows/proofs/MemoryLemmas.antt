@@ -10,9 +10,8 @@ use Rattle.std.specs.declared.cmp.Ordering.TheVariants.{Equal}
 use Rattle.tip_line.proofs.StopLemmas.{and_left, and_right}
 use Rattle.tip_rows.specs.Logs.{Log, row_at, is_rising, is_here, with_at, with_row, without_row, with_all_raised, with_raised, raised, raised_number, last_epoch, IsSpent, name_before, are_rising_names, with_known, with_epoch}
 use Rattle.tip_rows.specs.Logs as logs
-use Rattle.tip_rows.specs.Memory.{is_named, epoch_in, due_in, log_in, IsKept, raised_known, raised_named, epoch_named, refusing_named, is_at_end}
+use Rattle.tip_rows.specs.Memory.{Stored, is_named, epoch_in, due_in, log_in, IsKept, raised_known, raised_named, epoch_named, refusing_named, is_at_end}
 use Rattle.tip_rows.specs.declared.memory.Known.{Known}
-use Rattle.tip_rows.specs.declared.memory.Stored.{Stored}
 
 -- rows in memory are in their order, and stand for this log
 pub record Shows (known : List Known) (rows : List Stored) (log : Log) : Type 0 where

@@ -12,9 +12,8 @@ use Rattle.tip_line.specs.Words.{is_realm}
 use Rattle.tip_line.proofs.StopLemmas.{and_left, and_right}
 use Rattle.tip_rows.specs.Logs.{Log, name_before, are_rising_names, AreNames, HasBadName, with_known}
 use Rattle.tip_rows.specs.Logs as logs
-use Rattle.tip_rows.specs.Memory.{is_named, epoch_in, due_in, log_in, is_from, known_in}
+use Rattle.tip_rows.specs.Memory.{Stored, is_named, epoch_in, due_in, log_in, is_from, known_in}
 use Rattle.tip_rows.specs.declared.memory.Known.{Known}
-use Rattle.tip_rows.specs.declared.memory.Stored.{Stored}
 use Rattle.tip_rows.proofs.MemoryLemmas.{Shows, same_text, bytes_eq-self, name_before-self}
 
 known-names : (known : List Known) (name : List ℕ) → is_some (epoch_in known name) ≡ list_any (λ other. bytes_eq other name) (map (λ (k : Known). k.realm) known)

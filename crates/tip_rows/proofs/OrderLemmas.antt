@@ -7,10 +7,9 @@ use Rattle.std.proofs.lemmas.Bool.Decides.{nat_tests}
 use Rattle.tip_line.proofs.StopLemmas.{and_left, and_right}
 use Rattle.tip_rows.specs.Keys.{Place, is_same, comes_before}
 use Rattle.tip_rows.specs.Logs.{Log, row_at, is_rising, is_here, with_row, without_row}
-use Rattle.tip_rows.specs.Memory.{part, log_in, is_past, put_in, is_other}
+use Rattle.tip_rows.specs.Memory.{Stored, part, log_in, is_past, put_in, is_other}
 use Rattle.tip_rows.specs.declared.row.Row.{Row}
 use Rattle.tip_rows.specs.declared.memory.Known.{Known}
-use Rattle.tip_rows.specs.declared.memory.Stored.{Stored}
 use Rattle.tip_rows.proofs.MemoryLemmas.{Shows, same_text, bytes_eq-self}
 
 -- the order of keys

@@ -7,9 +7,8 @@ use Rattle.std.specs.Str.{bytes_eq}
 use Rattle.std.proofs.lemmas.Bool.{cases_Bool}
 use Rattle.std.proofs.lemmas.List.{take_more, append-nil}
 use Rattle.tip_rows.specs.Keys.{Place, is_same}
-use Rattle.tip_rows.specs.Memory.{part, is_past, put_in}
+use Rattle.tip_rows.specs.Memory.{Stored, part, is_past, put_in}
 use Rattle.tip_rows.specs.declared.row.Row.{Row}
-use Rattle.tip_rows.specs.declared.memory.Stored.{Stored}
 
 part-append : (realm : List ℕ) (xs ys : List Stored) → part realm (xs ++ ys) ≡ part realm xs ++ part realm ys
 part-append realm [] ys = refl

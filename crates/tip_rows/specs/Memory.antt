@@ -7,7 +7,12 @@ use Rattle.tip_rows.specs.Keys.{Place, is_same, comes_before}
 use Rattle.tip_rows.specs.Logs.{Log, row_at, is_rising, name_before, are_rising_names, last_epoch, raised_number}
 use Rattle.tip_rows.specs.declared.row.Row.{Row}
 use Rattle.tip_rows.specs.declared.memory.Known.{Known}
-use Rattle.tip_rows.specs.declared.memory.Stored.{Stored}
+
+-- a row where it stands
+pub record Stored : Type 0 where
+  pub realm : List ℕ
+  pub key : Place
+  pub row : Row
 
 abbrev pub is_named : List ℕ → Known → Bool
 is_named realm known = bytes_eq known.realm realm

@@ -1,7 +1,7 @@
 -- Rows, and the texts in which they are stored.
 --
 -- A row is written in one way, by version 2. The texts of version 1, which had numbers without labels, are still read.
-use Rattle.std.specs.Prelude.{◌≡◌, ℕ, ◌+◌, List, [], ◌∷◌, ◌++◌, map, true, ◌&&◌, codes, ◌⊎◌}
+use Rattle.std.specs.Prelude.{◌≡◌, ℕ, ◌+◌, List, [], ◌∷◌, ◌++◌, map, true, ◌&&◌, Option, Some, None, codes, ◌⊎◌}
 use Rattle.std.specs.Fmt.{decimal}
 use Rattle.std.specs.List.{list_all, join_with_byte, flat_map}
 use Rattle.std.specs.Str.{bytes_eq}
@@ -10,6 +10,11 @@ use Rattle.tip_rows.specs.Branches.{are_branches}
 use Rattle.tip_rows.specs.Labels.{is_label}
 use Rattle.tip_rows.specs.declared.row.Row.{Row}
 use Rattle.tip_rows.specs.declared.row.Row.TheVariants.{Prepared, Committed}
+
+-- the row of these parts, which is in doubt where it has a superior, after its address
+abbrev pub row_with : Option (List ℕ × List ℕ) → List (ℕ × List ℕ) → List (List ℕ × List ℕ) → Row
+row_with (Some superior) branches subordinates = Prepared superior.0 superior.1 branches subordinates
+row_with None branches subordinates = Committed branches subordinates
 
 -- what each row is made of
 abbrev pub AreBranches : List (ℕ × List ℕ) → Type 0

@@ -4,16 +4,16 @@ ghost use Rattle.std.specs.List.{list_all};
 ghost use Rattle.tip_rows.specs.Branches.{are_branches, is_behind};
 
 use crate::label::Label;
-use std::alloc::{AllocError, Global};
+use std::alloc::{AllocError, Allocator, Global};
 use std::marker::Model;
 
 /// The local branches of a transaction that voted yes: member numbers from 1 to 8, rising, with distinct labels.
 #[derive(Debug, Drop)]
-pub struct Branches {
-    items: Vec<(u8, Label)>,
+pub struct Branches<A: Allocator = Global> {
+    items: Vec<(u8, Label), A>,
 }
 
-impl Model for Branches {
+impl<A: Allocator> Model for Branches<A> {
     ghost use Rattle.std.specs.Prelude.{◌≡◌, true, ℕ, List};
     ghost use Rattle.tip_rows.specs.Branches.{are_branches};
 
@@ -24,9 +24,9 @@ impl Model for Branches {
     ghost invariant = { λ b. are_branches b.items.items ≡ true };
 }
 
-impl Branches {
+impl<A: Allocator> Branches<A> {
     /// These branches, given back where they are none: out of order, beyond 8, or with one label twice.
-    pub fn new(items: Vec<(u8, Label)>) -> Result<Branches, Vec<(u8, Label)>>
+    pub fn new(items: Vec<(u8, Label), A>) -> Result<Branches<A>, Vec<(u8, Label), A>>
         ensures ok { IfOk result (λ branches. branches ≡ items.items) }
         ensures good { OnOk result (are_branches items.items ≡ true) }
         ensures bad { IfErr result (λ back. (back.items ≡ items.items) × (are_branches items.items ≡ false)) }
@@ -46,17 +46,17 @@ impl Branches {
         &self.items
     }
 
-    /// Equal branches, or want of memory.
-    pub fn copy(&self, alloc: Global) -> Result<Branches, AllocError>
+    /// Equal branches on this heap, or want of memory.
+    pub fn copy<B: Allocator>(&self, heap: B) -> Result<Branches<B>, AllocError>
         ensures { IfOk result (λ branches. branches ≡ self.now) }
     {
         Ok(Branches {
-            items: copied_branches(alloc, &self.items)?,
+            items: copied_branches(heap, &self.items)?,
         })
     }
 
     /// The branches, without taking memory.
-    pub fn into_vec(self) -> Vec<(u8, Label)>
+    pub fn into_vec(self) -> Vec<(u8, Label), A>
         ensures { result.items ≡ self }
     {
         self.items
@@ -85,10 +85,13 @@ fn are_behind(number: u8, label: &Label, branches: &[(u8, Label)]) -> bool
 }
 
 /// Equal branches.
-fn copied_branches(alloc: Global, branches: &[(u8, Label)]) -> Result<Vec<(u8, Label)>, AllocError>
+fn copied_branches<A: Allocator>(
+    heap: A,
+    branches: &[(u8, Label)],
+) -> Result<Vec<(u8, Label), A>, AllocError>
     ensures { IfOk result (λ items. items.items ≡ branches.now) }
 {
-    let mut items = Vec::with_capacity(alloc, branches.len())?;
+    let mut items = Vec::with_capacity(heap, branches.len())?;
     for (number, label) in branches {
         items.push_reserved((*number, label.copy()?));
     }

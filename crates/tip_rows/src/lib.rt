@@ -2,6 +2,7 @@
 #![tactic(auto)]
 
 mod branches;
+mod heap_row;
 mod key;
 mod label;
 mod log;

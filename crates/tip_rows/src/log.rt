@@ -4,6 +4,7 @@ ghost use Rattle.tip_rows.specs.Logs.{Log, with_row, without_row, with_known, wi
 
 use crate::key::Key;
 use crate::row::Row;
+use std::alloc::{Allocator, Global};
 use thiserror::Error;
 use tip_line::Realm;
 
@@ -34,11 +35,11 @@ pub enum LoadFault {
 
 /// What is stored of one realm.
 #[derive(Debug, Drop)]
-pub struct Loaded {
+pub struct Loaded<A: Allocator = Global> {
     /// 0 for a realm that is not known.
     pub epoch: u32,
     /// By strictly rising key.
-    pub rows: Vec<(Key, Row)>,
+    pub rows: Vec<(Key, Row), A>,
 }
 
 /// A log of rows. A call that is refused, for want of memory in a change too, leaves all rows and epochs.

@@ -1,14 +1,15 @@
 //! Rows in memory.
-ghost use Rattle.std.specs.Prelude.{◌≡◌, ◌+◌, ◌%◌, ◌^◌, ◌∷◌, [], ℕ, List, true, false, map, filter, take, drop, length, option_map, unwrap_or, pos, Some, ◌↔◌, IsTrue, IfOk, OnOk, OnErr, MatchResult};
+ghost use Rattle.std.specs.Prelude.{◌≡◌, ◌+◌, ◌%◌, ◌^◌, ◌∷◌, [], ℕ, List, true, false, map, filter, take, drop, length, option_map, unwrap_or, pos, Some, ◌↔◌, IsTrue, IfOk, IfErr, OnOk, OnErr, MatchResult};
 ghost use Rattle.std.specs.Prelude.{find};
 ghost use Rattle.std.specs.Option.{option_copied};
 ghost use Rattle.std.specs.List.{list_any, position};
 ghost use Rattle.std.specs.Str.{bytes_eq};
 ghost use Rattle.tip_line.specs.Words.{is_realm};
 ghost use Rattle.tip_rows.specs.Keys.{is_same};
-ghost use Rattle.tip_rows.specs.Logs.{Log, empty_log, counted, last_epoch, with_row, without_row, with_all_raised, with_raised, with_epoch, IsSpent};
+ghost use Rattle.tip_rows.specs.Logs.{Log, empty_log, counted, last_epoch, with_row, without_row, with_all_raised, with_raised, with_epoch, IsSpent, IsPart, AreNames};
 ghost use Rattle.tip_rows.specs.Memory.{IsDemanded, log_of, is_due_in, epoch_in, is_named, due_in, part, raised_known, raised_named, epoch_named, refusing_named, is_at_end, is_past, put_in, is_other, is_from, known_in};
 
+use crate::heap_row::HeapRow;
 use crate::key::Key;
 use crate::log::{LoadFault, Loaded, RaiseFault, Refused, RowLog};
 use crate::row::Row;
@@ -27,10 +28,18 @@ struct Known {
 
 /// A row where it stands.
 #[derive(Debug, Drop)]
-struct Stored {
+struct Stored<A: Allocator> {
     realm: Realm,
     key: Key,
-    row: Row,
+    row: HeapRow<A>,
+}
+
+impl<A: Allocator> Model for Stored<A> {
+    ghost use Rattle.tip_rows.specs.Memory.{Stored};
+
+    ghost Value = { Stored };
+
+    ghost view = { λ s. record { realm = s.realm; key = s.key; row = s.row } };
 }
 
 /// Rows in memory, on a heap of the caller's. They refuse a change for want of memory, or where `refuse_next` asked for it.
@@ -40,7 +49,7 @@ pub struct MemRows<A: Allocator = Global> {
     /// By name.
     known: Vec<Known, A>,
     /// Those of a realm by key.
-    rows: Vec<Stored, A>,
+    rows: Vec<Stored<A>, A>,
     faults: u64,
 }
 
@@ -66,7 +75,7 @@ impl MemRows {
 }
 
 impl<A: Allocator + Copy> MemRows<A> {
-    /// No realms and no rows, to be kept on this heap. Copies of rows, and what is loaded, are on `Global`.
+    /// No realms and no rows, to be kept on this heap. What is loaded is on `Global`.
     pub fn new_in(alloc: Global, heap: A) -> MemRows<A>
         ensures empty { log_of result ≡ empty_log }
         ensures none_due { (realm : List ℕ) → is_due_in result realm ≡ false }
@@ -103,6 +112,35 @@ impl<A: Allocator> MemRows<A> {
         set_due(&mut self.known, realm, true);
     }
 
+    /// What is stored of a realm, in a list on this heap; the lists of its rows are on `Global`.
+    pub(crate) fn load_in<B: Allocator>(
+        &self,
+        heap: B,
+        realm: &Realm,
+    ) -> Result<Loaded<B>, LoadFault>
+        ensures part { IfOk result (λ loaded. IsPart (log_of self.now) realm.now loaded.epoch loaded.rows.items) }
+        ensures memory { IfErr result (λ fault. fault ≡ LoadFault.Memory) }
+    {
+        match part_of(self.alloc, heap, &self.rows, realm) {
+            Ok(rows) => Ok(Loaded {
+                epoch: epoch_of(&self.known, realm),
+                rows,
+            }),
+            Err(_) => Err(LoadFault::Memory),
+        }
+    }
+
+    /// The names of the known realms, rising, in a list on this heap.
+    pub(crate) fn realms_in<B: Allocator>(&self, heap: B) -> Result<Vec<Realm, B>, LoadFault>
+        ensures names { IfOk result (λ names. AreNames (log_of self.now) names.items) }
+        ensures memory { IfErr result (λ fault. fault ≡ LoadFault.Memory) }
+    {
+        match names_of(heap, &self.known) {
+            Ok(names) => Ok(names),
+            Err(_) => Err(LoadFault::Memory),
+        }
+    }
+
     /// Whether a refusal of this realm's change is due, which is spent and counted then.
     fn take_due(&mut self, realm: &Realm) -> bool
         ensures due { result ≡ is_due_in self.old realm.now }
@@ -117,7 +155,7 @@ impl<A: Allocator> MemRows<A> {
     }
 }
 
-impl<A: Allocator> RowLog for MemRows<A> {
+impl<A: Allocator + Copy> RowLog for MemRows<A> {
     ghost stands = { λ s log. log_of s ≡ log };
 
     ghost faults = { λ s. s.faults };
@@ -158,7 +196,7 @@ impl<A: Allocator> RowLog for MemRows<A> {
         if self.take_due(realm) {
             return Err(Refused);
         }
-        match put_copy(self.alloc, &mut self.rows, realm, key, row) {
+        match put_copy(&mut self.rows, realm, key, row) {
             Ok(()) => Ok(()),
             Err(_) => Err(refuse(&mut self.faults)),
         }
@@ -173,20 +211,11 @@ impl<A: Allocator> RowLog for MemRows<A> {
     }
 
     fn load(&mut self, realm: &Realm) -> Result<Loaded, LoadFault> {
-        match part_of(self.alloc, &self.rows, realm) {
-            Ok(rows) => Ok(Loaded {
-                epoch: epoch_of(&self.known, realm),
-                rows,
-            }),
-            Err(_) => Err(LoadFault::Memory),
-        }
+        self.load_in(self.alloc, realm)
     }
 
     fn realms(&mut self) -> Result<Vec<Realm>, LoadFault> {
-        match names_of(self.alloc, &self.known) {
-            Ok(names) => Ok(names),
-            Err(_) => Err(LoadFault::Memory),
-        }
+        self.realms_in(self.alloc)
     }
 
     fn faults(&self) -> u64 {
@@ -390,9 +419,8 @@ fn is_from(known: &Known, name: &str) -> bool
 }
 
 /// Adds or replaces an equal row.
-fn put_copy<A: Allocator>(
-    alloc: Global,
-    rows: &mut Vec<Stored, A>,
+fn put_copy<A: Allocator + Copy>(
+    rows: &mut Vec<Stored<A>, A>,
     realm: &Realm,
     key: Key,
     row: &Row,
@@ -400,10 +428,11 @@ fn put_copy<A: Allocator>(
     ensures ok { OnOk result (rows.new.items ≡ put_in (record { realm = realm.now; key = key; row = row.now }) rows.old.items) }
     ensures err { OnErr result (rows.new.items ≡ rows.old.items) }
 {
+    let heap = *rows.allocator();
     let stored = Stored {
         realm: realm.copy()?,
         key,
-        row: row.copy(alloc)?,
+        row: HeapRow::of(heap, row)?,
     };
     put_in(rows, stored)
 }
@@ -416,21 +445,21 @@ fn one_is_at_end(known: &[Known]) -> bool
 }
 
 /// The first row of the same realm whose key is not before this one's.
-fn first_past(rows: &[Stored], stored: &Stored) -> Option<usize>
+fn first_past<A: Allocator>(rows: &[Stored<A>], stored: &Stored<A>) -> Option<usize>
     ensures { result ≡ position (is_past stored.now) rows.now }
 {
     rows.iter().position(|row| is_past(stored, row))
 }
 
 /// Whether a row is of the same realm, and its key is not before this one's.
-fn is_past(stored: &Stored, row: &Stored) -> bool
+fn is_past<A: Allocator>(stored: &Stored<A>, row: &Stored<A>) -> bool
     ensures { result ≡ is_past stored.now row.now }
 {
     row.realm == stored.realm && !row.key.comes_before(stored.key)
 }
 
 /// Adds or replaces a row.
-fn put_in<A: Allocator>(rows: &mut Vec<Stored, A>, stored: Stored) -> Result<(), AllocError>
+fn put_in<A: Allocator>(rows: &mut Vec<Stored<A>, A>, stored: Stored<A>) -> Result<(), AllocError>
     ensures ok { OnOk result (rows.new.items ≡ put_in stored rows.old.items) }
     ensures err { OnErr result (rows.new.items ≡ rows.old.items) }
 {
@@ -443,45 +472,56 @@ fn put_in<A: Allocator>(rows: &mut Vec<Stored, A>, stored: Stored) -> Result<(),
 }
 
 /// Whether a row stands at a key of its realm.
-fn stands_at(row: &Stored, key: Key) -> bool
+fn stands_at<A: Allocator>(row: &Stored<A>, key: Key) -> bool
     ensures { result ≡ is_same row.now.key key }
 {
     row.key == key
 }
 
 /// Removes a row.
-fn remove_from<A: Allocator>(rows: &mut Vec<Stored, A>, realm: &Realm, key: Key)
+fn remove_from<A: Allocator>(rows: &mut Vec<Stored<A>, A>, realm: &Realm, key: Key)
     ensures { rows.new.items ≡ filter (is_other realm.now key) rows.old.items }
 {
     rows.retain(|row| !(row.realm == *realm && row.key == key));
 }
 
 /// Whether a row is of this realm.
-fn is_of(stored: &Stored, realm: &Realm) -> bool
+fn is_of<A: Allocator>(stored: &Stored<A>, realm: &Realm) -> bool
     ensures { result ≡ bytes_eq stored.now.realm realm.now }
 {
     stored.realm == *realm
 }
 
 /// The rows of a realm, in order.
-fn part_of(alloc: Global, rows: &[Stored], realm: &Realm) -> Result<Vec<(Key, Row)>, AllocError>
+fn part_of<A: Allocator, B: Allocator>(
+    alloc: Global,
+    heap: B,
+    rows: &[Stored<A>],
+    realm: &Realm,
+) -> Result<Vec<(Key, Row), B>, AllocError>
     ensures { IfOk result (λ entries. entries.items ≡ part realm.now rows.now) }
 {
-    let mut entries = Vec::new(alloc);
+    let mut entries = Vec::new(heap);
     for stored in rows {
         if is_of(stored, realm) {
-            let row = stored.row.copy(alloc)?;
-            entries.push((stored.key, row))?;
+            entries.push(entry_of(alloc, stored)?)?;
         }
     }
     Ok(entries)
 }
 
+/// The key of a row, and an equal row.
+fn entry_of<A: Allocator>(alloc: Global, stored: &Stored<A>) -> Result<(Key, Row), AllocError>
+    ensures { IfOk result (λ entry. entry ≡ (stored.now.key, stored.now.row)) }
+{
+    Ok((stored.key, stored.row.copy(alloc)?.into_row()))
+}
+
 /// The names of realms, in order.
-fn names_of(alloc: Global, known: &[Known]) -> Result<Vec<Realm>, AllocError>
+fn names_of<B: Allocator>(heap: B, known: &[Known]) -> Result<Vec<Realm, B>, AllocError>
     ensures { IfOk result (λ names. names.items ≡ map (λ k. k.realm) known.now) }
 {
-    let mut names = Vec::with_capacity(alloc, known.len())?;
+    let mut names = Vec::with_capacity(heap, known.len())?;
     for k in known {
         names.push_reserved(k.realm.copy()?);
     }

@@ -7,12 +7,13 @@ ghost use Rattle.tip_rows.specs.Reading.{Gives, Fails, checked, is_member, versi
 ghost use Rattle.tip_rows.specs.declared.text.RowFault.TheVariants.{BadRow};
 
 use crate::branches::Branches;
+use crate::heap_row::HeapRow;
 use crate::label::{Label, LabelFault};
 use crate::parts::Parts;
 use crate::row::Row;
 use crate::subordinates::Subordinates;
 use crate::text::RowFault;
-use std::alloc::Global;
+use std::alloc::{Allocator, Global};
 use tip_line::{Address, Id, WordFault};
 
 /// How the branches of a text are spelled.
@@ -23,53 +24,80 @@ enum Version {
 }
 
 /// The row that a text is.
-#[tactic(auto, unfolding(crate::specs::Reading::row_in))]
 pub fn row_of(alloc: Global, text: &[u8]) -> Result<Row, RowFault>
+    ensures { Gives result (row_in (slice_split (λ octet. eqb octet 32) text.now)) }
+{
+    Ok(row_on(alloc, alloc, text)?.into_row())
+}
+
+/// The row that a text is, with its lists on this heap.
+#[tactic(auto, unfolding(crate::specs::Reading::row_in))]
+pub fn row_on<A: Allocator + Copy>(
+    alloc: Global,
+    heap: A,
+    text: &[u8],
+) -> Result<HeapRow<A>, RowFault>
     ensures { Gives result (row_in (slice_split (λ octet. eqb octet 32) text.now)) }
 {
     let mut words = Parts::of(text, b' ');
     let first = required(&mut words)?;
     let kind = required(&mut words)?;
-    row_of_kind(alloc, version_of(first)?, kind, words)
+    row_of_kind(alloc, heap, version_of(first)?, kind, words)
 }
 
 #[tactic(auto, unfolding(crate::specs::Reading::kind_in))]
-fn row_of_kind(alloc: Global, version: Version, kind: &[u8], words: Parts) -> Result<Row, RowFault>
+fn row_of_kind<A: Allocator + Copy>(
+    alloc: Global,
+    heap: A,
+    version: Version,
+    kind: &[u8],
+    words: Parts,
+) -> Result<HeapRow<A>, RowFault>
     ensures { Gives result (kind_in version kind.now words.entry) }
 {
     if kind == b"P".as_slice() {
-        prepared_of(alloc, version, words)
+        prepared_of(alloc, heap, version, words)
     } else if kind == b"C".as_slice() {
-        committed_of(alloc, version, words)
+        committed_of(alloc, heap, version, words)
     } else {
         Err(RowFault::BadRow)
     }
 }
 
 #[tactic(auto, unfolding(crate::specs::Reading::prepared_in))]
-fn prepared_of(alloc: Global, version: Version, mut words: Parts) -> Result<Row, RowFault>
+fn prepared_of<A: Allocator + Copy>(
+    alloc: Global,
+    heap: A,
+    version: Version,
+    mut words: Parts,
+) -> Result<HeapRow<A>, RowFault>
     ensures { Gives result (prepared_in version words.entry) }
 {
     let address = required(&mut words)?;
     let superior = required(&mut words)?;
     let branches = required(&mut words)?;
-    Ok(Row::Prepared {
-        address: address_of(alloc, address)?,
-        superior: id_of(alloc, superior)?,
-        branches: branches_of(alloc, version, branches)?,
-        subordinates: subordinates_of(alloc, words)?,
-    })
+    Ok(HeapRow::prepared(
+        address_of(alloc, address)?,
+        id_of(alloc, superior)?,
+        branches_of(alloc, heap, version, branches)?,
+        subordinates_of(alloc, heap, words)?,
+    ))
 }
 
 #[tactic(auto, unfolding(crate::specs::Reading::committed_in))]
-fn committed_of(alloc: Global, version: Version, mut words: Parts) -> Result<Row, RowFault>
+fn committed_of<A: Allocator + Copy>(
+    alloc: Global,
+    heap: A,
+    version: Version,
+    mut words: Parts,
+) -> Result<HeapRow<A>, RowFault>
     ensures { Gives result (committed_in version words.entry) }
 {
     let branches = required(&mut words)?;
-    Ok(Row::Committed {
-        branches: branches_of(alloc, version, branches)?,
-        subordinates: subordinates_of(alloc, words)?,
-    })
+    Ok(HeapRow::committed(
+        branches_of(alloc, heap, version, branches)?,
+        subordinates_of(alloc, heap, words)?,
+    ))
 }
 
 /// Takes the next part, which must be there.
@@ -96,20 +124,30 @@ fn version_of(word: &[u8]) -> Result<Version, RowFault>
 }
 
 #[tactic(auto, unfolding(crate::specs::Reading::branches_in))]
-fn branches_of(alloc: Global, version: Version, word: &[u8]) -> Result<Branches, RowFault>
+fn branches_of<A: Allocator>(
+    alloc: Global,
+    heap: A,
+    version: Version,
+    word: &[u8],
+) -> Result<Branches<A>, RowFault>
     ensures { Gives result (branches_in version word.now) }
 {
-    match Branches::new(items_of(alloc, version, word)?) {
+    match Branches::new(items_of(alloc, heap, version, word)?) {
         Ok(branches) => Ok(branches),
         Err(_) => Err(RowFault::BadRow),
     }
 }
 
 #[tactic(auto, using(crate::proofs::PartsLemmas::branch_taken, crate::proofs::PartsLemmas::branch_refused, crate::proofs::PartsLemmas::branches_taken), unfolding(crate::specs::Reading::items_in))]
-fn items_of(alloc: Global, version: Version, word: &[u8]) -> Result<Vec<(u8, Label)>, RowFault>
+fn items_of<A: Allocator>(
+    alloc: Global,
+    heap: A,
+    version: Version,
+    word: &[u8],
+) -> Result<Vec<(u8, Label), A>, RowFault>
     ensures { MatchResult result (λ items. items_in version word.now ≡ Some items.items) (λ fault. Fails fault (items_in version word.now)) }
 {
-    let mut items = Vec::new(alloc);
+    let mut items = Vec::new(heap);
     if word == b"-".as_slice() {
         return Ok(items);
     }
@@ -165,10 +203,14 @@ fn is_member(octet: u8) -> bool
 }
 
 #[tactic(auto, using(crate::proofs::PartsLemmas::subordinate_taken, crate::proofs::PartsLemmas::subordinate_alone, crate::proofs::PartsLemmas::subordinate_refused, crate::proofs::PartsLemmas::subordinates_taken))]
-fn subordinates_of(alloc: Global, mut words: Parts) -> Result<Subordinates, RowFault>
+fn subordinates_of<A: Allocator>(
+    alloc: Global,
+    heap: A,
+    mut words: Parts,
+) -> Result<Subordinates<A>, RowFault>
     ensures { Gives result (subordinates_onto [] words.entry) }
 {
-    let mut items = Vec::new(alloc);
+    let mut items = Vec::new(heap);
     while let Some(word) = words.next() {
         let next = required(&mut words)?;
         let subordinate = subordinate_of(alloc, word, next)?;

@@ -1,5 +1,7 @@
 //! Rows in memory on a heap of a fixed size, where each growth is refused in turn and then made.
-use crate::{Key, MemRows, Refused, Row, RowLog};
+use crate::heap_row::HeapRow;
+use crate::reading::row_on;
+use crate::{Key, LoadFault, MemRows, Refused, Row, RowFault, RowLog};
 use linked_list_allocator::LocalHeap;
 use std::alloc::{AllocError, Global};
 use std::test::Fail;
@@ -7,6 +9,15 @@ use tip_line::Realm;
 
 /// How many octets the heap has.
 const HEAP_LEN: usize = 8192;
+
+/// In how many octets a heap hands out memory, at least.
+const UNIT: usize = 16;
+
+/// How many units are enough for each call.
+const ENOUGH: usize = 128;
+
+/// A row whose two lists grow more than once as it is read.
+const LONG: &str = "2 P a.x s1 1:a,2:b,3:c,4:d,5:e p.x p1 p.x p2 p.x p3 p.x p4 p.x p5";
 
 /// All that is left of a heap, in blocks of half the length each time.
 fn rest_of<'a>(
@@ -78,32 +89,66 @@ fn a_refused_start_leaves_all(rt: HostRuntime) -> Result<(), Fail> {
     Ok(())
 }
 
+/// The text of a row on a heap.
+fn text_of(alloc: Global, row: &HeapRow<&LocalHeap>) -> Result<String, AllocError> {
+    row.copy(alloc)?.into_row().print(alloc)
+}
+
+/// Four rows of a realm, with no list of their own.
+fn four_rows<'a>(
+    alloc: Global,
+    heap: &'a LocalHeap,
+    realm: &Realm,
+) -> Result<MemRows<&'a LocalHeap>, Fail> {
+    let mut rows = MemRows::new_in(alloc, heap);
+    let row = Row::parse(alloc, b"2 C -")?;
+    for number in 5..9u32 {
+        let key = Key::new(1, 9, number).ok_or("a key")?;
+        rows.put(realm, key, &row)?;
+    }
+    Ok(rows)
+}
+
+/// Whether four rows, with this much room on their heap, refuse a row more: then they stand, and take it once there is room.
+fn is_refused(
+    alloc: Global,
+    realm: &Realm,
+    key: Key,
+    row: &Row,
+    units: usize,
+) -> Result<bool, Fail> {
+    let heap = LocalHeap::new(alloc, HEAP_LEN)?;
+    let mut rows = four_rows(alloc, &heap, realm)?;
+    let texts = texts_of(alloc, &mut rows, realm)?;
+    let others = heap.free().saturating_sub(units.wrapping_mul(UNIT));
+    let rest = Vec::<u8, &LocalHeap>::with_capacity(&heap, others)?;
+    let used = heap.used();
+    if rows.put(realm, key, row).is_ok() {
+        return Ok(false);
+    }
+    if texts_of(alloc, &mut rows, realm)? != texts || rows.faults() != 1 || heap.used() != used {
+        return Err(Fail::from("the refusal has changed something"));
+    }
+    drop(rest);
+    rows.put(realm, key, row)?;
+    Ok(true)
+}
+
 #[test]
 fn a_refused_row_leaves_all_rows(rt: HostRuntime) -> Result<(), Fail> {
     let alloc = rt.alloc();
-    let heap = LocalHeap::new(alloc, HEAP_LEN)?;
     let north = Realm::new(alloc, b"north")?;
-    let mut rows = MemRows::new_in(alloc, &heap);
-    for (number, text) in [
-        (5, "2 C 5:b5"),
-        (6, "2 C 6:b6"),
-        (7, "2 C 7:b7"),
-        (8, "2 C 8:b8"),
-        (1, "2 C 1:b1"),
-    ] {
+    let row = Row::parse(alloc, LONG.as_bytes())?;
+    for number in [1, 6] {
         let key = Key::new(1, 9, number).ok_or("a key")?;
-        let row = Row::parse(alloc, text.as_bytes())?;
-        let (texts, faults) = (texts_of(alloc, &mut rows, &north)?, rows.faults());
-        let rest = rest_of(alloc, &heap)?;
-        if rows.put(&north, key, &row).is_err() {
-            assert_eq!(rt; texts_of(alloc, &mut rows, &north)?, texts);
-            assert_eq!(rt; rows.faults(), faults.wrapping_add(1));
-            drop(rest);
-            assert_eq!(rt; rows.put(&north, key, &row), Ok(()));
+        let mut refused = 0usize;
+        for units in 0..ENOUGH {
+            if is_refused(alloc, &north, key, &row, units)? {
+                refused = refused.wrapping_add(1);
+            }
         }
-        assert_eq!(rt; rows.load(&north)?.rows.len(), texts.len().wrapping_add(1));
+        assert!(rt; 0 < refused && refused < ENOUGH);
     }
-    assert_eq!(rt; rows.faults(), 2);
     Ok(())
 }
 
@@ -113,7 +158,7 @@ fn a_full_heap_refuses_growths_alone(rt: HostRuntime) -> Result<(), Fail> {
     let heap = LocalHeap::new(alloc, HEAP_LEN)?;
     let (north, south) = (Realm::new(alloc, b"north")?, Realm::new(alloc, b"south")?);
     let key = Key::new(1, 9, 1).ok_or("a key")?;
-    let row = Row::parse(alloc, b"2 C 1:b1")?;
+    let row = Row::parse(alloc, b"2 C -")?;
     let mut rows = MemRows::new_in(alloc, &heap);
     rows.start_at(&north, 7)?;
     let rest = rest_of(alloc, &heap)?;
@@ -126,5 +171,98 @@ fn a_full_heap_refuses_growths_alone(rt: HostRuntime) -> Result<(), Fail> {
     let _rest = rest_of(alloc, &heap)?;
     assert_eq!(rt; rows.put(&north, key, &row), Ok(()));
     assert_eq!(rt; rows.remove(&north, key), Ok(()));
+    Ok(())
+}
+
+#[test]
+fn a_text_has_room_or_is_refused(rt: HostRuntime) -> Result<(), Fail> {
+    let alloc = rt.alloc();
+    let row = Row::parse(alloc, LONG.as_bytes())?;
+    let mut refused = 0usize;
+    for units in 1..=ENOUGH {
+        let heap = LocalHeap::new(alloc, units * UNIT)?;
+        match row.print(&heap) {
+            Ok(text) => assert_eq!(rt; text.as_str(), LONG),
+            Err(AllocError) => refused = refused.wrapping_add(1),
+        }
+    }
+    assert!(rt; 0 < refused && refused < ENOUGH);
+    Ok(())
+}
+
+#[test]
+fn a_copy_has_room_or_is_refused(rt: HostRuntime) -> Result<(), Fail> {
+    let alloc = rt.alloc();
+    let row = HeapRow::of(alloc, &Row::parse(alloc, LONG.as_bytes())?)?;
+    let mut refused = 0usize;
+    for units in 1..=ENOUGH {
+        let heap = LocalHeap::new(alloc, units * UNIT)?;
+        match row.copy(&heap) {
+            Ok(copy) => assert_eq!(rt; text_of(alloc, &copy)?.as_str(), LONG),
+            Err(AllocError) => refused = refused.wrapping_add(1),
+        }
+    }
+    assert!(rt; 0 < refused && refused < ENOUGH);
+    Ok(())
+}
+
+#[test]
+fn a_reading_has_room_or_wants_memory(rt: HostRuntime) -> Result<(), Fail> {
+    let alloc = rt.alloc();
+    let mut refused = 0usize;
+    for units in 1..=ENOUGH {
+        let heap = LocalHeap::new(alloc, units * UNIT)?;
+        match row_on(alloc, &heap, LONG.as_bytes()) {
+            Ok(row) => assert_eq!(rt; text_of(alloc, &row)?.as_str(), LONG),
+            Err(fault) => {
+                assert_eq!(rt; fault, RowFault::Memory);
+                refused = refused.wrapping_add(1);
+            }
+        }
+    }
+    assert!(rt; 0 < refused && refused < ENOUGH);
+    Ok(())
+}
+
+#[test]
+fn a_load_has_room_or_wants_memory(rt: HostRuntime) -> Result<(), Fail> {
+    let alloc = rt.alloc();
+    let north = Realm::new(alloc, b"north")?;
+    let rows_heap = LocalHeap::new(alloc, HEAP_LEN)?;
+    let rows = four_rows(alloc, &rows_heap, &north)?;
+    let mut refused = 0usize;
+    for units in 1..=ENOUGH {
+        let heap = LocalHeap::new(alloc, units * UNIT)?;
+        match rows.load_in(&heap, &north) {
+            Ok(loaded) => assert_eq!(rt; loaded.rows.len(), 4),
+            Err(fault) => {
+                assert_eq!(rt; fault, LoadFault::Memory);
+                refused = refused.wrapping_add(1);
+            }
+        }
+    }
+    assert!(rt; 0 < refused && refused < ENOUGH);
+    Ok(())
+}
+
+#[test]
+fn names_have_room_or_want_memory(rt: HostRuntime) -> Result<(), Fail> {
+    let alloc = rt.alloc();
+    let mut rows = MemRows::new(alloc);
+    for name in ["a", "b", "c", "d", "e"] {
+        rows.know(&Realm::new(alloc, name.as_bytes())?)?;
+    }
+    let mut refused = 0usize;
+    for units in 1..=ENOUGH {
+        let heap = LocalHeap::new(alloc, units * UNIT)?;
+        match rows.realms_in(&heap) {
+            Ok(names) => assert_eq!(rt; names.len(), 5),
+            Err(fault) => {
+                assert_eq!(rt; fault, LoadFault::Memory);
+                refused = refused.wrapping_add(1);
+            }
+        }
+    }
+    assert!(rt; 0 < refused && refused < ENOUGH);
     Ok(())
 }

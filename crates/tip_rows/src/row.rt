@@ -2,6 +2,7 @@
 ghost use Rattle.std.specs.Prelude.{◌≡◌, IfOk};
 
 use crate::branches::Branches;
+use crate::heap_row::HeapRow;
 use crate::subordinates::Subordinates;
 use std::alloc::{AllocError, Global};
 use tip_line::{Address, Id};
@@ -28,25 +29,6 @@ impl Row {
     pub fn copy(&self, alloc: Global) -> Result<Row, AllocError>
         ensures { IfOk result (λ row. row ≡ self.now) }
     {
-        Ok(match self {
-            Row::Prepared {
-                address,
-                superior,
-                branches,
-                subordinates,
-            } => Row::Prepared {
-                address: address.copy()?,
-                superior: superior.copy()?,
-                branches: branches.copy(alloc)?,
-                subordinates: subordinates.copy(alloc)?,
-            },
-            Row::Committed {
-                branches,
-                subordinates,
-            } => Row::Committed {
-                branches: branches.copy(alloc)?,
-                subordinates: subordinates.copy(alloc)?,
-            },
-        })
+        Ok(HeapRow::of(alloc, self)?.into_row())
     }
 }

@@ -1,17 +1,17 @@
 //! The subordinates of a row.
 ghost use Rattle.std.specs.Prelude.{◌≡◌, IfOk};
 
-use std::alloc::{AllocError, Global};
+use std::alloc::{AllocError, Allocator, Global};
 use std::marker::Model;
 use tip_line::{Address, Id};
 
 /// The subordinates that voted yes, in the order enlisted: where each is, and the identifier that it gave.
 #[derive(Debug, Drop)]
-pub struct Subordinates {
-    items: Vec<(Address, Id)>,
+pub struct Subordinates<A: Allocator = Global> {
+    items: Vec<(Address, Id), A>,
 }
 
-impl Model for Subordinates {
+impl<A: Allocator> Model for Subordinates<A> {
     ghost use Rattle.std.specs.Prelude.{List, ℕ};
 
     ghost Value = { List (List ℕ × List ℕ) };
@@ -19,9 +19,9 @@ impl Model for Subordinates {
     ghost view = { λ s. s.items.items };
 }
 
-impl Subordinates {
+impl<A: Allocator> Subordinates<A> {
     /// These subordinates.
-    pub fn new(items: Vec<(Address, Id)>) -> Subordinates
+    pub fn new(items: Vec<(Address, Id), A>) -> Subordinates<A>
         ensures { result ≡ items.items }
     {
         Subordinates { items }
@@ -34,17 +34,17 @@ impl Subordinates {
         &self.items
     }
 
-    /// Equal subordinates, or want of memory.
-    pub fn copy(&self, alloc: Global) -> Result<Subordinates, AllocError>
+    /// Equal subordinates on this heap, or want of memory.
+    pub fn copy<B: Allocator>(&self, heap: B) -> Result<Subordinates<B>, AllocError>
         ensures { IfOk result (λ subordinates. subordinates ≡ self.now) }
     {
         Ok(Subordinates {
-            items: copied_subordinates(alloc, &self.items)?,
+            items: copied_subordinates(heap, &self.items)?,
         })
     }
 
     /// The subordinates, without taking memory.
-    pub fn into_vec(self) -> Vec<(Address, Id)>
+    pub fn into_vec(self) -> Vec<(Address, Id), A>
         ensures { result.items ≡ self }
     {
         self.items
@@ -52,13 +52,13 @@ impl Subordinates {
 }
 
 /// Equal subordinates.
-fn copied_subordinates(
-    alloc: Global,
+fn copied_subordinates<A: Allocator>(
+    heap: A,
     subordinates: &[(Address, Id)],
-) -> Result<Vec<(Address, Id)>, AllocError>
+) -> Result<Vec<(Address, Id), A>, AllocError>
     ensures { IfOk result (λ items. items.items ≡ subordinates.now) }
 {
-    let mut items = Vec::with_capacity(alloc, subordinates.len())?;
+    let mut items = Vec::with_capacity(heap, subordinates.len())?;
     for (address, id) in subordinates {
         items.push_reserved((address.copy()?, id.copy()?));
     }

@@ -9,7 +9,7 @@ use crate::label::Label;
 use crate::reading::row_of;
 use crate::row::Row;
 use crate::subordinates::Subordinates;
-use std::alloc::{AllocError, Global};
+use std::alloc::{AllocError, Allocator, Global};
 use std::fmt;
 use thiserror::Error;
 
@@ -23,11 +23,11 @@ pub enum RowFault {
 }
 
 impl Row {
-    /// The one text that is written, in version 2.
-    pub fn print(&self, alloc: Global) -> Result<String, AllocError>
+    /// The one text that is written, in version 2, on this heap.
+    pub fn print<A: Allocator>(&self, heap: A) -> Result<String<A>, AllocError>
         ensures { IfOk result (λ text. string_bytes text ≡ written self.now) }
     {
-        self.to_string(alloc)
+        self.to_string(heap)
     }
 
     /// The row that a text is, in either version.
@@ -63,7 +63,7 @@ impl fmt::Display for Row {
 }
 
 /// One word: number, colon and label of each branch, with commas, or a dash where there is none.
-impl fmt::Display for Branches {
+impl<A: Allocator> fmt::Display for Branches<A> {
     ghost use Rattle.std.specs.Prelude.{Some};
     ghost use Rattle.tip_rows.specs.Rows.{branches_word};
 
@@ -81,7 +81,7 @@ impl fmt::Display for Branches {
 }
 
 /// Two words for each subordinate, with a space before each word.
-impl fmt::Display for Subordinates {
+impl<A: Allocator> fmt::Display for Subordinates<A> {
     ghost use Rattle.std.specs.Prelude.{Some};
     ghost use Rattle.tip_rows.specs.Rows.{subordinates_text};
 

@@ -11,7 +11,7 @@ returns-in-Some-clause-ok g c =
     let d = c.index.result.now in
     let at : position (is_past c.args.stored) rows ≡ Some c.in-Some.place = rw (← c.deref.ensures.value) (sym c.in-Some.ensures) in
     let found = position-Some (is_past c.args.stored) rows c.in-Some.place d at in
-    let same : is_same (get_or rows c.in-Some.place d).key c.args.stored.key ≡ true = rw (← c.index.ensures) (sym c.stands_at.ensures ∙ c.if-stands_at.true) in
+    let same : is_same (get_or rows c.in-Some.place d).key c.args.stored.key ≡ true = rw (← c.index.ensures, ← c.stored.view_is) (sym c.stands_at.ensures ∙ c.if-stands_at.true) in
     put_over c.args.stored d rows c.in-Some.place found.0 found.1 found.2 same
 
 pub returns-in_ok-insert-in-Some-2-clause-ok : goal.returns-in_ok-insert-in-Some-2-clause-ok
@@ -20,7 +20,7 @@ returns-in_ok-insert-in-Some-2-clause-ok g c =
     let d = c.index.result.now in
     let at : position (is_past c.args.stored) rows ≡ Some c.in-Some.place = rw (← c.deref.ensures.value) (sym c.in-Some.ensures) in
     let found = position-Some (is_past c.args.stored) rows c.in-Some.place d at in
-    let same : is_same (get_or rows c.in-Some.place d).key c.args.stored.key ≡ false = rw (← c.index.ensures) (sym c.stands_at.ensures ∙ c.if-stands_at.false) in
+    let same : is_same (get_or rows c.in-Some.place d).key c.args.stored.key ≡ false = rw (← c.index.ensures, ← c.stored.view_is) (sym c.stands_at.ensures ∙ c.if-stands_at.false) in
     rw c.in_ok-insert-in-Some-2.ensures.items (put_before c.args.stored d rows c.in-Some.place found.0 found.1 found.2 same)
 
 pub returns-in_ok-push-in-None-clause-ok : goal.returns-in_ok-push-in-None-clause-ok

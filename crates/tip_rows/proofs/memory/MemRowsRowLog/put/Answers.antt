@@ -1,6 +1,5 @@
 use Rattle.std.proofs.Common.{refl, sym, ap, inr, ◌∙◌}
-use Rattle.tip_rows.specs.Memory.{log_of}
-use Rattle.tip_rows.specs.declared.memory.Stored.{Stored}
+use Rattle.tip_rows.specs.Memory.{Stored, log_of}
 use Rattle.tip_rows.proofs.MemoryLemmas.{shows}
 use Rattle.tip_rows.proofs.OrderLemmas.{Shows-put}
 use Rattle.tip_rows.proofs.memory.MemRowsRowLog.put.Goals as goal
