@@ -1,6 +1,6 @@
 //! Fresh boxes as plain data, for all that lies above this crate.
 
-ghost use Rattle.std.specs.Prelude.{◌≡◌, ◌≤◌, ◌==◌, IfOk, IfErr, length, map, take, drop, vec_len};
+ghost use Rattle.std.specs.Prelude.{◌≡◌, ◌≤◌, ◌==◌, [], IfOk, IfErr, length, map, take, drop, vec_len};
 ghost use Rattle.tip_branch.specs.Always.{Always};
 ghost use Rattle.tip_branch.specs.Lots.{plans_of};
 ghost use Rattle.tip_branch.specs.Members.{fresh_members};
@@ -47,6 +47,28 @@ impl HeldFresh {
         match fresh.plans(alloc) {
             Ok(plans) => Ok(HeldFresh::of(fresh, plans)),
             Err(_) => Err(AllocFailed { value: fresh }),
+        }
+    }
+
+    /// No boxes, which takes no memory.
+    pub fn none(alloc: Global) -> HeldFresh
+        requires { Always }
+        ensures { result ≡ [] }
+    {
+        HeldFresh {
+            boxes: Vec::new(alloc),
+            plans: Vec::new(alloc),
+        }
+    }
+
+    /// No boxes, of the kind of these, which takes no memory.
+    pub fn empty_like(&self, alloc: Global) -> HeldFresh
+        requires { Always }
+        ensures { result ≡ [] }
+    {
+        HeldFresh {
+            boxes: Vec::new(alloc),
+            plans: Vec::new(alloc),
         }
     }
 

@@ -3,12 +3,10 @@ use Rattle.std.proofs.Common.{◌≡◌, ◌≢◌, ℕ, List, [], ◌∷◌, �
 use Rattle.std.specs.Prelude.{map}
 use Rattle.std.proofs.lemmas.Bool.Decides.{nat_tests}
 use Rattle.std.proofs.lemmas.Bool.{cases_eq}
-use Rattle.std.proofs.lemmas.List.Elements.{All-push}
 use Rattle.tip_machine.specs.States.{State}
 use Rattle.tip_machine.specs.Steps.{step, nowhere}
 use Rattle.tip_machine.specs.Runs.{answers, after, own, unstored}
-use Rattle.tip_machine.specs.declared.answer.Answer.{Answer}
-use Rattle.tip_machine.specs.declared.event.Event.{Event}
+use Rattle.tip_machine.specs.Types.{Answer, Event}
 use Rattle.tip_machine.specs.declared.event.Outcome.TheVariants.{NoChange}
 use Rattle.tip_machine.specs.declared.event.InRealm.{InRealm}
 use Rattle.tip_core.specs.Hosted.{Hosted, realm, Steps}
@@ -30,12 +28,16 @@ after-push : (state : State) (events : List Event) (event : Event) → after sta
 after-push state [] event = refl
 after-push state (e ∷ events) event = after-push (step state e NoChange).state events event
 
+map-push : {S T : Type 0} (f : S → T) (xs : List S) (x : S) → map f (xs ++ x ∷ []) ≡ map f xs ++ f x ∷ []
+map-push f [] x = refl
+map-push f (y ∷ xs) x = ap (λ ys. f y ∷ ys) (map-push f xs x)
+
 -- nothing has happened yet
 pub isolated_none : (hosted : Hosted) → IsIsolated hosted [] [] hosted
 isolated_none hosted = record {
   answers = λ place state here. refl;
   states = λ place state here. here;
-  absent = λ place none. (λ k d lt. absurd (omega (arith, lt)), none);
+  absent = λ place none. (refl, none);
 }
 
 -- the realms are the same, each by itself
@@ -64,7 +66,7 @@ isolated_more old mid new events said event answer at before now = record {
   absent = λ place none. elim (cases_eq place event.realm) [
     | inl same ↦
         let gone = now.absent (ap (realm mid) (sym same) ∙ (before.absent place none).1) in
-        (rw (own-push_same place said answer (same ∙ sym at)) (All-push (λ a. a ≡ nowhere) (own place said) answer.item (before.absent place none).0 gone.0), ap (realm new) same ∙ gone.1)
-    | inr differ ↦ (rw (own-push_other place said answer (λ e. differ (e ∙ at))) (before.absent place none).0, now.others place differ ∙ (before.absent place none).1)
+        (rw (own-push_same place said answer (same ∙ sym at), own-push_same place events event same, map-push nowhere (own place events) event.item, (before.absent place none).0, gone.0) refl, ap (realm new) same ∙ gone.1)
+    | inr differ ↦ (rw (own-push_other place said answer (λ e. differ (e ∙ at)), own-push_other place events event differ) (before.absent place none).0, now.others place differ ∙ (before.absent place none).1)
   ];
 }

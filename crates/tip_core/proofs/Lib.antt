@@ -1,3 +1,5 @@
 pub mod Tables
+pub mod Alone
+pub mod Doing
 pub mod Stepping
 pub mod Isolated

@@ -5,9 +5,8 @@ use Rattle.tip_table.specs.Lists.{changed}
 use Rattle.tip_table.proofs.Standing.{write, write_others}
 use Rattle.tip_machine.specs.Connections.{has_number}
 use Rattle.tip_machine.specs.States.{State}
-use Rattle.tip_machine.specs.declared.connection.Connection.{Connection}
-use Rattle.tip_core.specs.Tables.{state_at, Becomes}
-use Rattle.tip_core.specs.declared.realms.Realms.{Realms}
+use Rattle.tip_machine.specs.Types.{Connection}
+use Rattle.tip_core.specs.Tables.{Realms, state_at, Becomes}
 
 -- the realm with its connections in place of those
 with_connections : State → List Connection → State

@@ -1,15 +1,13 @@
 -- What a core stands for, and what one event does to it.
-use Rattle.std.specs.Prelude.{ℕ, Bool, false, ◌≡◌, ◌≢◌, ◌≤◌, List, Option, Some, None, option_map, slice_get}
+use Rattle.std.specs.Prelude.{ℕ, Bool, false, ◌≡◌, ◌≢◌, ◌≤◌, List, [], Option, Some, None, option_map, slice_get}
 use Rattle.tip_table.specs.Kept.{Kept, of}
-use Rattle.tip_machine.specs.States.{State}
-use Rattle.tip_machine.specs.Rules.{seated, may_take_on}
+use Rattle.tip_machine.specs.States.{State, seated}
+use Rattle.tip_machine.specs.Requests.{may_take_on}
 use Rattle.tip_machine.specs.Steps.{step, wants, nowhere}
+use Rattle.tip_machine.specs.Types.{Answer, Connection, Event}
 use Rattle.tip_machine.specs.declared.head.Head.{Head}
-use Rattle.tip_machine.specs.declared.connection.Connection.{Connection}
-use Rattle.tip_machine.specs.declared.answer.Answer.{Answer}
 use Rattle.tip_machine.specs.declared.event.Change.{Change}
-use Rattle.tip_machine.specs.declared.event.Event.{Event}
-use Rattle.tip_machine.specs.declared.event.Event.TheVariants.{Open, Line, Lost}
+use Rattle.tip_machine.specs.declared.event.Event.TheVariants.{Open}
 use Rattle.tip_machine.specs.declared.event.Outcome.{Outcome}
 use Rattle.tip_machine.specs.declared.event.Seat.{Seat}
 
@@ -18,9 +16,9 @@ pub record Hosted : Type 0 where
   pub heads : List Head
   pub connections : Kept Connection
 
--- the realm at a place in the order of declaration
+-- the realm at a place in the order of declaration. No transaction is made yet
 abbrev pub realm : Hosted → ℕ → Option State
-realm hosted place = option_map (λ head. record { head = head; connections = of hosted.connections place }) (slice_get hosted.heads place)
+realm hosted place = option_map (λ head. record { head = head; connections = of hosted.connections place; transactions = [] }) (slice_get hosted.heads place)
 
 -- how many connections can be made without memory
 abbrev pub free : Hosted → ℕ
@@ -30,13 +28,12 @@ free hosted = hosted.connections.free
 pub record Steps (old new : Hosted) (place : ℕ) (event : Event) (outcome : Outcome) (answer : Answer) : Type 0 where
   pub own : (state : State) → realm old place ≡ Some state → (answer ≡ (step state event outcome).answer) × (realm new place ≡ Some (step state event outcome).state)
   pub others : (other : ℕ) → other ≢ place → realm new other ≡ realm old other
-  pub absent : realm old place ≡ None → (answer ≡ nowhere) × (realm new place ≡ None)
+  pub absent : realm old place ≡ None → (answer ≡ nowhere event) × (realm new place ≡ None)
 
 -- how many connections an event may make
 abbrev pub connections_for : Event → ℕ
-connections_for Open = 1
-connections_for (Line seat heard) = 0
-connections_for (Lost seat) = 0
+connections_for (Open boxes) = 1
+connections_for other = 0
 
 -- what a Room has
 pub record Granted : Type 0 where

@@ -1,6 +1,6 @@
 -- What is seen of an answer in the making.
 use Rattle.std.specs.Prelude.{ℕ}
-use Rattle.tip_machine.specs.declared.answer.Answer.{Answer}
+use Rattle.tip_machine.specs.Types.{Answer}
 
 pub record Made : Type 0 where
   pub answer : Answer

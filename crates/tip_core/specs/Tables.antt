@@ -1,11 +1,15 @@
 -- How the shared tables stand for the realms.
-use Rattle.std.specs.Prelude.{ℕ, ◌≡◌, ◌≢◌, [], length, slice_index_or}
+use Rattle.std.specs.Prelude.{ℕ, ◌≡◌, ◌≢◌, List, [], ◌∷◌, length, slice_index_or, false, None}
 use Rattle.tip_table.specs.Kept.{of}
 use Rattle.tip_machine.specs.Heads.{IsCounted}
-use Rattle.tip_machine.specs.States.{State, Work}
+use Rattle.tip_machine.specs.States.{Attempt, State, Work}
+use Rattle.tip_machine.specs.Types.{Connection}
 use Rattle.tip_machine.specs.declared.head.Head.{Head}
 use Rattle.tip_core.specs.Makings.{Made}
-use Rattle.tip_core.specs.declared.realms.Realms.{Realms}
+use Rattle.tip_core.specs.declared.realms.Realms as declared
+
+abbrev pub Realms : Type 0
+Realms = declared.Realms Connection
 
 -- stands where there is no realm
 abbrev pub no_head : Head
@@ -13,14 +17,15 @@ no_head = record {
   name = [];
   address = [];
   limits = record { connections = 0; transactions = 0; branches = 0; boxes = 0; entries = 0 };
+  branches = [];
   epoch = 0;
   given = 0;
   entries = 0;
 }
 
--- one realm
+-- one realm. No transaction is made yet
 abbrev pub state_at : ℕ → Realms → State
-state_at realm tables = record { head = slice_index_or tables.heads.items realm no_head; connections = of tables.connections realm }
+state_at realm tables = record { head = slice_index_or tables.heads.items realm no_head; connections = of tables.connections realm; transactions = [] }
 
 -- the realm becomes this state, and every other realm stays
 pub record Becomes (old new : Realms) (realm : ℕ) (state : State) : Type 0 where
@@ -40,3 +45,23 @@ pub record Does (old new : Realms) (realm : ℕ) (made : Made) (work : Work) : T
 -- each realm's counts are as they can be
 abbrev pub AreCounted : Realms → Type 0
 AreCounted tables = (realm : ℕ) → IsCounted (state_at realm tables).head
+
+-- the attempt asks for no change of the rows, and its work was done
+abbrev pub IsDone : Realms → Realms → ℕ → Made → Attempt → Type 0
+IsDone old new realm made (Attempt.Done work) = Does old new realm made work
+IsDone old new realm made (Attempt.Asks change stored refused) = ⊥
+
+-- a connection that another manager opened, and that is on no transaction: nothing is owed or awaited
+pub record IsAlone (connection : Connection) : Type 0 where
+  pub dialled : connection.dialled ≡ false
+  pub owed : connection.owed ≡ None
+  pub awaited : connection.awaited ≡ None
+  pub role : connection.role ≡ None
+
+abbrev pub AreAlone : List Connection → Type 0
+AreAlone [] = Unit {0}
+AreAlone (connection ∷ connections) = IsAlone connection × AreAlone connections
+
+-- each realm's connections are alone, as long as no transaction is served
+abbrev pub AreAllAlone : Realms → Type 0
+AreAllAlone tables = (realm : ℕ) → AreAlone (state_at realm tables).connections

@@ -1,5 +1,6 @@
 //! The machines of all realms.
-ghost use Rattle.std.specs.Prelude.{◌≡◌, ℕ, [], IfOk, IsOk, OnOk, map, take, length, slice_get, option_map};
+ghost use Rattle.std.specs.Prelude.{◌≡◌, ℕ, [], None, IfOk, IsOk, OnOk, map, take, length, slice_get, option_map};
+ghost use Rattle.tip_branch.specs.Always.{Always};
 ghost use Rattle.tip_machine.specs.Heads.{starting};
 ghost use Rattle.tip_machine.specs.States.{started};
 ghost use Rattle.tip_core.specs.Hosted.{realm as realm_at, may_take_in, IsRoomFor, Steps};
@@ -10,11 +11,11 @@ use crate::room::Room;
 use std::alloc::{AllocError, Global};
 use std::marker::Model;
 use tip_line::Refusal;
-use tip_machine::{Answer, Event, Head, InRealm, Outcome, Seat, Start};
+use tip_machine::{Answer, Connection, Event, Head, InRealm, Outcome, Seat, Start};
 use tip_table::Table;
 
 /// What a list of events came to.
-#[derive(Debug, Drop)]
+#[derive(Drop)]
 pub struct Run {
     /// The answers to the first events, in order.
     pub answers: Vec<InRealm<Answer>>,
@@ -25,24 +26,38 @@ pub struct Run {
 /// All realms of the process, each by its place in the order of declaration.
 #[derive(Drop)]
 pub struct Core {
-    realms: Realms,
+    realms: Realms<Connection>,
 }
 
 impl Model for Core {
     ghost use Rattle.tip_core.specs.Hosted.{Hosted};
-    ghost use Rattle.tip_core.specs.Tables.{AreCounted};
+    ghost use Rattle.tip_core.specs.Tables.{AreAllAlone, AreCounted};
 
     ghost Value = { Hosted };
 
     ghost view = { λ c. record { heads = c.realms.heads.items; connections = c.realms.connections } };
 
-    ghost invariant = { λ c. AreCounted c.realms };
+    ghost invariant = { λ c. AreCounted c.realms × AreAllAlone c.realms };
 }
 
 impl Core {
-    /// The realms at their start.
+    /// No realms.
+    pub fn new(alloc: Global) -> Core
+        requires { Always }
+        ensures { (place : ℕ) → realm_at result place ≡ None }
+    {
+        Core {
+            realms: Realms {
+                heads: Vec::new(alloc),
+                connections: Table::new(alloc),
+            },
+        }
+    }
+
+    /// These realms start, in place of those that were.
     #[tactic(auto, using(crate::proofs::Stepping::starting_counted, crate::proofs::Stepping::new_realm))]
-    pub fn new(alloc: Global, starts: Vec<Start>) -> Result<Core, AllocError>
+    pub fn start(self, alloc: Global, starts: Vec<Start>) -> Result<Core, AllocError>
+        requires { Always }
         ensures { IfOk result (λ core. (place : ℕ) → realm_at core place ≡ option_map (λ start. started (starting start)) (slice_get starts.items place)) }
     {
         Ok(Core {
@@ -54,14 +69,14 @@ impl Core {
     }
 
     /// Room for an event. The realms stay as they are.
+    #[tactic(auto, using(crate::proofs::Stepping::wants_here))]
     pub fn room(&mut self, alloc: Global, realm: usize, event: &Event) -> Result<Room, AllocError>
+        requires { Always }
         ensures realms { (place : ℕ) → realm_at self.new place ≡ realm_at self.old place }
         ensures ok { IfOk result (IsRoomFor self.new realm event.now) }
     {
         let room = Room::new(alloc, 2, None)?;
-        if let Event::Open = event {
-            self.realms.connections.reserve()?;
-        }
+        self.realms.reserve(event)?;
         Ok(room)
     }
 
@@ -73,7 +88,7 @@ impl Core {
     {
         let mut making = room.into_making();
         if realm >= self.realms.heads.len() {
-            making.refuse(Refusal::NoRealm);
+            making.turn_down(Refusal::NoRealm, event);
             return making.finish();
         }
         self.realms.step(realm, event, outcome, &mut making);
@@ -90,6 +105,7 @@ impl Core {
 
     /// Events of all realms, one after another; no rows are stored. Each realm answers as if it were alone.
     pub fn run(&mut self, alloc: Global, events: Vec<InRealm<Event>>) -> Run
+        requires { Always }
         ensures isolated { IsIsolated self.old (take (length result.answers.items) events.items) result.answers.items self.new }
         ensures all { IsOk result.end → length result.answers.items ≡ length events.items }
     {

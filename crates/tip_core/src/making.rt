@@ -1,11 +1,13 @@
 //! An answer in the making.
 ghost use Rattle.std.specs.Prelude.{◌≡◌, ◌+◌, ◌<◌, ◌≤◌, [], ◌∷◌, ◌++◌, Some, IfOk};
 ghost use Rattle.tip_machine.specs.Answers.{silence};
+ghost use Rattle.tip_machine.specs.Steps.{returned};
 
 use std::alloc::{AllocError, Global};
 use std::marker::Model;
+use tip_branch::{HeldFresh, HeldParty};
 use tip_line::Refusal;
-use tip_machine::{Answer, Item, Seat, Told, ToldLines};
+use tip_machine::{Answer, Event, Item, Seat, Told, ToldLines};
 
 /// The answer as far as it goes, with room for what may still go out.
 #[derive(Drop)]
@@ -13,6 +15,9 @@ pub struct Making {
     refusal: Option<Refusal>,
     opened: Option<Seat>,
     told: Vec<Told>,
+    work: Option<HeldParty>,
+    spent: Option<HeldParty>,
+    unused: Option<HeldFresh>,
     entry: Option<u32>,
 }
 
@@ -23,7 +28,7 @@ impl Model for Making {
     ghost Value = { Made };
 
     ghost view = { λ m. record {
-      answer = record { refusal = m.refusal; opened = m.opened; told = m.told.items; entry = m.entry };
+      answer = record { refusal = m.refusal; opened = m.opened; told = m.told.items; work = m.work; spent = m.spent; unused = m.unused; entry = m.entry };
       free = vec_capacity m.told - vec_len m.told;
     } };
 }
@@ -38,6 +43,9 @@ impl Making {
             refusal: None,
             opened: None,
             told: Vec::with_capacity(alloc, lines)?,
+            work: None,
+            spent: None,
+            unused: None,
             entry: None,
         })
     }
@@ -68,6 +76,43 @@ impl Making {
         self.entry = Some(entry);
     }
 
+    /// A party is to be let go.
+    pub fn spend(&mut self, party: HeldParty)
+        ensures { self.new ≡ record self.old { answer = record self.old.answer { spent = Some party } } }
+    {
+        self.spent = Some(party);
+    }
+
+    /// Boxes that no transaction took are handed back.
+    pub fn hand_back(&mut self, boxes: HeldFresh)
+        ensures { self.new ≡ record self.old { answer = record self.old.answer { unused = Some boxes } } }
+    {
+        self.unused = Some(boxes);
+    }
+
+    /// The event can't happen: what it brought goes back.
+    pub fn turn_down(&mut self, why: Refusal, event: Event)
+        requires { self.old.answer ≡ silence }
+        ensures answer { self.new.answer ≡ returned why event }
+    {
+        self.refuse(why);
+        match event {
+            Event::Open { boxes } => self.hand_back(boxes),
+            Event::Dial {
+                address: _,
+                purpose: _,
+                boxes,
+            } => self.hand_back(boxes),
+            Event::Voted(party) => self.spend(party),
+            Event::Settled(party) => self.spend(party),
+            Event::Line { .. }
+            | Event::Lost { .. }
+            | Event::AskPush { .. }
+            | Event::AskPull { .. }
+            | Event::Resume { .. } => {}
+        }
+    }
+
     /// The answer as it is now.
     pub fn finish(self) -> Answer
         ensures { result ≡ self.answer }
@@ -76,12 +121,18 @@ impl Making {
             refusal,
             opened,
             told,
+            work,
+            spent,
+            unused,
             entry,
         } = self;
         Answer {
             refusal,
             opened,
             told: ToldLines::new(told),
+            work,
+            spent,
+            unused,
             entry,
         }
     }

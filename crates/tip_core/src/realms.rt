@@ -1,26 +1,29 @@
 //! The tables of all realms, and what one change of them does to one realm.
-ghost use Rattle.std.specs.Prelude.{◌≡◌, ◌≢◌, ◌↔◌, ℕ, ◌+◌, ◌<◌, ◌≤◌, [], ◌∷◌, ◌++◌, length, None, Some, IfSome};
+ghost use Rattle.std.specs.Prelude.{◌≡◌, ◌≢◌, ◌↔◌, ℕ, ◌+◌, ◌<◌, ◌≤◌, [], ◌∷◌, ◌++◌, length, None, Some, IfSome, OnOk};
 ghost use Rattle.std.specs.List.{find};
 ghost use Rattle.tip_table.specs.Kept.{StandsAt, of};
 ghost use Rattle.tip_table.specs.Lists.{changed, without};
 ghost use Rattle.tip_machine.specs.Connections.{has_number, identified, moved};
-ghost use Rattle.tip_machine.specs.Rules.{may_take_on, seated};
+ghost use Rattle.tip_machine.specs.Requests.{may_take_on};
+ghost use Rattle.tip_machine.specs.States.{seated};
 ghost use Rattle.tip_machine.specs.Steps.{is_open};
+ghost use Rattle.tip_core.specs.Hosted.{connections_for};
 ghost use Rattle.tip_core.specs.Tables.{state_at, Becomes};
 
 use crate::query::Numbered;
+use std::alloc::AllocError;
 use tip_line::{Address, CommandName, ResponseName};
-use tip_machine::{Connection, Head, Seat};
+use tip_machine::{Connection, Event, Head, Seat};
 use tip_table::Table;
 
 /// All realms: what is declared and counted of each, and the table of all connections.
 #[derive(Drop)]
-pub struct Realms {
+pub struct Realms<C = Connection> {
     pub heads: Vec<Head>,
-    pub connections: Table<Connection>,
+    pub connections: Table<C>,
 }
 
-impl Realms {
+impl Realms<Connection> {
     /// Whether the realm's journal has room for an entry.
     pub fn is_open(&self, realm: usize) -> bool
         requires { realm < length self.now.heads.items }
@@ -106,6 +109,18 @@ impl Realms {
         self.connections.count(realm)
     }
 
+    /// Makes room for what an event may add.
+    pub fn reserve(&mut self, event: &Event) -> Result<(), AllocError>
+        ensures ok { OnOk result (connections_for event.now ≤ self.new.connections.free) }
+        ensures items { (realm : ℕ) → of self.new.connections realm ≡ of self.old.connections realm }
+        ensures heads { self.new.heads ≡ self.old.heads }
+    {
+        if let Event::Open { .. } = event {
+            self.connections.reserve()?;
+        }
+        Ok(())
+    }
+
     /// A connection more, in room that is there.
     #[tactic(auto, using(tip_table::proofs::Standing::standing))]
     pub fn add(&mut self, realm: usize, connection: Connection)
@@ -117,11 +132,12 @@ impl Realms {
 
     /// Takes a connection out.
     #[tactic(auto, using(tip_table::proofs::Standing::standing))]
-    pub fn end(&mut self, realm: usize, number: u32, place: usize)
+    pub fn end(&mut self, realm: usize, number: u32, place: usize) -> Connection
         requires { StandsAt self.old.connections realm (has_number number) place }
-        ensures { Becomes self.old self.new realm (record (state_at realm self.old) { connections = without (has_number number) (state_at realm self.old).connections }) }
+        ensures taken { find (has_number number) (state_at realm self.old).connections ≡ Some result }
+        ensures left { Becomes self.old self.new realm (record (state_at realm self.old) { connections = without (has_number number) (state_at realm self.old).connections }) }
     {
-        self.connections.remove(place);
+        self.connections.remove(place)
     }
 
     /// A connection goes on by the connection table.

@@ -1,134 +1,293 @@
--- The connections that an event does not name.
-use Rattle.std.proofs.Common.{◌≡◌, ◌≢◌, ℕ, ◌+◌, ◌≤◌, List, [], ◌∷◌, ◌++◌, Option, Some, None, refl, arith, sym}
-use Rattle.std.specs.Prelude.{◌&&◌, nat_le, nat_lt, length}
-use Rattle.std.specs.List.{find}
+-- The transactions and the connections that a step leaves alone.
+use Rattle.std.proofs.Common.{◌≡◌, ◌≢◌, Bool, true, false, ℕ, ◌+◌, List, [], ◌∷◌, ◌++◌, Option, Some, None, cond, refl, ap, arith, sym, ◌∙◌, subst}
+use Rattle.std.specs.Prelude.{◌&&◌, ◌==◌, find, length, map, take}
+use Rattle.std.specs.List.{list_any}
+use Rattle.std.specs.Option.{IfSome, option_map_or}
+use Rattle.std.proofs.lemmas.Bool.{and_left, or_parts}
 use Rattle.std.proofs.lemmas.Bool.Decides.{nat_tests}
-use Rattle.tip_line.specs.Command.{name_of}
-use Rattle.tip_line.specs.declared.command.Command.{Command}
-use Rattle.tip_line.specs.declared.command.Command.TheVariants.{Identify, Begin, Push, Pull, Prepare, Commit, Abort, Query, Reconnect, Multiplex, Tls, Error}
+use Rattle.std.proofs.lemmas.Option.{same_Some, none-some}
+use Rattle.tip_branch.specs.declared.branch.Plan.{Plan}
 use Rattle.tip_line.specs.declared.command.CommandName.{CommandName}
-use Rattle.tip_line.specs.declared.command.CommandName.TheVariants as command
-use Rattle.tip_line.specs.declared.refusal.Refusal.TheVariants.{Full, Busy}
 use Rattle.tip_line.specs.declared.response.ResponseName.{ResponseName}
-use Rattle.tip_line.specs.declared.response.ResponseName.TheVariants as response
-use Rattle.tip_conn.specs.Table.{admit_of, next_of}
-use Rattle.tip_conn.specs.declared.state.State.{State as ConnectionState}
-use Rattle.tip_conn.specs.declared.state.Turn.{Turn}
-use Rattle.tip_conn.specs.declared.state.Admit.{Admit}
-use Rattle.tip_conn.specs.declared.state.Admit.TheVariants.{Serve, Wrong}
+use Rattle.tip_rows.specs.Keys.{Place as Key, is_same}
+use Rattle.tip_rows.proofs.OrderLemmas.{same_place}
 use Rattle.tip_table.specs.Lists.{changed, without}
+use Rattle.tip_machine.specs.Types.{Answer, Connection, Event, Transaction}
 use Rattle.tip_machine.specs.Answers.{response_name}
-use Rattle.tip_machine.specs.Connections.{has_number, accepted, moved_to, moved, identified, may_take}
-use Rattle.tip_machine.specs.Served.{is_served}
-use Rattle.tip_machine.specs.States.{State, Work}
-use Rattle.tip_machine.specs.Rules.{gone, closed, wrong, reply, identify, query, serve, serve_if, commanded, hear, line, lost, added, opened, seated, refuse}
-use Rattle.tip_machine.specs.Steps.{entered, frozen, is_open, step, Names}
-use Rattle.tip_machine.proofs.Keeping.{either}
-use Rattle.tip_machine.specs.declared.answer.Said.{Said}
-use Rattle.tip_machine.specs.declared.connection.Connection.{Connection}
-use Rattle.tip_machine.specs.declared.event.Heard.{Heard}
-use Rattle.tip_machine.specs.declared.event.Heard.TheVariants.{Command as ACommand, Response as AResponse, Malformed}
+use Rattle.tip_machine.specs.Connections.{accepted, asks_for, awaiting, dialled, has_number, is_on, is_superior_of, moved, names}
+use Rattle.tip_machine.specs.Transactions.{begun, has_key, next_key}
+use Rattle.tip_machine.specs.States.{State, Work, connection_of, has_place, seated, transaction_of}
+use Rattle.tip_machine.specs.Changes.{alter, change, end}
+use Rattle.tip_machine.specs.Commands.{make, making}
+use Rattle.tip_machine.specs.Order.{ordered}
+use Rattle.tip_machine.specs.Reactions.{Reacted, Reaction, answers, demanded_as, demands, react, reacted, reacts, stays}
+use Rattle.tip_machine.specs.Requests.{added, dial, opened}
+use Rattle.tip_machine.specs.Served.{Serving}
+use Rattle.tip_machine.specs.Steps.{attempt, chosen, entered, frozen, is_open, step_serving, IsOff, Names, TouchesOne}
+use Rattle.tip_machine.specs.declared.connection.Awaited.{Awaited}
+use Rattle.tip_machine.specs.declared.connection.Purpose.{Purpose}
+use Rattle.tip_machine.specs.declared.connection.Role.{Role}
+use Rattle.tip_machine.specs.declared.connection.Role.TheVariants.{Superior, Subordinate}
+use Rattle.tip_machine.specs.declared.event.Event.TheVariants.{Open, Dial}
 use Rattle.tip_machine.specs.declared.event.Outcome.{Outcome}
-use Rattle.tip_machine.specs.declared.event.Event.{Event}
-use Rattle.tip_machine.specs.declared.event.Event.TheVariants.{Open, Line, Lost}
+use Rattle.tip_machine.specs.declared.event.Seat.{Seat}
+use Rattle.tip_machine.specs.declared.transaction.Origin.{Origin}
+use Rattle.tip_machine.proofs.Walks.{Closed, Ends, Is, chosen_ends, either, or_any, seated-number}
+use Rattle.tip_machine.proofs.Lists.{find-added, find-changed, find-without, none-changed, none-map, none-without}
+use Rattle.tip_machine.proofs.RuleWalks.{moved-number}
+use Rattle.tip_machine.proofs.AttemptWalks.{attempt-goes, each_event, is_opening}
 
--- Lists
+-- Keys and numbers
 
-find-changed : (number other : ℕ) (f : Connection → Connection) (xs : List Connection) → other ≢ number → ((x : Connection) → (f x).number ≡ x.number) → find (has_number other) (changed (has_number number) f xs) ≡ find (has_number other) xs
-find-changed number other f [] differ same = refl
-find-changed number other f (x ∷ xs) differ same = grind (arith, nat_tests, same x, find-changed number other f xs differ same)
+same_turned : (key other : Key) → is_same key other ≡ false → is_same other key ≡ false
+same_turned key other differ = grind (arith, nat_tests)
 
-find-without : (number other : ℕ) (xs : List Connection) → other ≢ number → find (has_number other) (without (has_number number) xs) ≡ find (has_number other) xs
-find-without number other [] differ = refl
-find-without number other (x ∷ xs) differ = grind (arith, nat_tests, find-without number other xs differ)
+key_apart : (key other at : Key) → at ≡ key → is_same key other ≡ false → is_same other at ≡ false
+key_apart key other at is differ = subst (λ p. is_same other p ≡ false) (sym is) (same_turned key other differ)
 
-find-added : (other : ℕ) (xs : List Connection) (x : Connection) → other ≢ x.number → find (has_number other) (xs ++ x ∷ []) ≡ find (has_number other) xs
-find-added other [] x differ = grind (arith, nat_tests)
-find-added other (y ∷ xs) x differ = grind (arith, nat_tests, find-added other xs x differ)
+number_apart : (n other : ℕ) (c : Connection) → other ≢ n → has_number n c ≡ true → has_number other c ≡ false
+number_apart n other c differ is = grind (arith, nat_tests)
 
-moved_to-number : (place : Option (ConnectionState × Turn)) (x : Connection) → (moved_to place x).number ≡ x.number
-moved_to-number None x = refl
-moved_to-number (Some place) x = refl
+-- Reactions
 
-moved-number : (command : CommandName) (response : ResponseName) (x : Connection) → (moved command response x).number ≡ x.number
-moved-number command response x = moved_to-number (next_of command x.state response) x
+-- what holds of a connection, of each that goes on by the table and of each that awaits something, holds of one that reacted
+module _ (P : Connection → Type 0) (c : Connection) (same : P c) where
+  either-keeps : {T : Type 0} (f : T → Reacted) (o : Option T) → ((x : T) → P (f x).connection) → P (option_map_or f o (stays c)).connection
+  either-keeps f None each = same
+  either-keeps f (Some x) each = each x
+
+  pub reacted-keeps : (reaction : Reaction) (key : Key) → ((command : CommandName) (response : ResponseName) → P (moved command response c)) → ((awaited : Awaited) → P (awaiting awaited c)) → P (reacted reaction key c).connection
+  reacted-keeps reaction key moves awaits = step (is_on key c) (went c.owed) where
+    went : (owed : Option CommandName) → P (reacts reaction owed c).connection
+    went (Some command) = either-keeps (answers command c) (reaction.owed command) (λ said. moves command (response_name said))
+    went None = either-keeps (demands c) (demanded_as reaction c.role c) (λ demand. awaits demand.awaited)
+
+    step : (b : Bool) → P (reacts reaction c.owed c).connection → P (cond b (reacts reaction c.owed c) (stays c)).connection
+    step true p = p
+    step false p = same
+
+pub number-reacted : (key : Key) (reaction : Reaction) (c : Connection) → (reacted reaction key c).connection.number ≡ c.number
+number-reacted key reaction c = reacted-keeps (λ d. d.number ≡ c.number) c refl reaction key (λ command response. moved-number command response c) (λ awaited. refl)
+
+stays_off : (b : Bool) (this : Reacted) (c : Connection) → b ≡ false → (cond b this (stays c)).connection ≡ c
+stays_off true this c off = absurd (cc)
+stays_off false this c off = refl
+
+-- is it of this number, and on the transaction of this key?
+abbrev is_there : Key → ℕ → Connection → Bool
+is_there key n c = has_number n c && is_on key c
+
+off_first : (test on : Bool) → test && on ≡ false → test ≡ true → on ≡ false
+off_first true on off passes = off
+off_first false on off passes = absurd (cc)
+
+-- one of the number that is not on the transaction stays
+reacted_off : (key : Key) (reaction : Reaction) (n : ℕ) (c : Connection) → is_there key n c ≡ false → has_number n c ≡ true → (reacted reaction key c).connection ≡ c
+reacted_off key reaction n c off is = stays_off (is_on key c) (reacts reaction c.owed c) c (off_first (has_number n c) (is_on key c) off is)
+
+find-cons : (test : Connection → Bool) (b : Bool) (c d : Connection) (xs ys : Option Connection) → test d ≡ b → test c ≡ b → (b ≡ true → d ≡ c) → xs ≡ ys → cond (test d) (Some d) xs ≡ cond (test c) (Some c) ys
+find-cons test true c d xs ys e f same rest = rw (e, f) (ap Some (same refl))
+find-cons test false c d xs ys e f same rest = rw (e, f) rest
+
+off-after : (b on more : Bool) → more ≡ b → (b ≡ true → on ≡ false) → more && on ≡ false
+off-after true on more same off = rw same (off refl)
+off-after false on more same off = rw same refl
+
+module _ (key : Key) (reaction : Reaction) (n : ℕ) where
+  abbrev become : Connection → Connection
+  become c = (reacted reaction key c).connection
+
+  number-become : (c : Connection) → has_number n (become c) ≡ has_number n c
+  number-become c = ap (λ m. m == n) (number-reacted key reaction c)
+
+  find-reacted : (cs : List Connection) → list_any (is_there key n) cs ≡ false → find (has_number n) (map become cs) ≡ find (has_number n) cs
+  find-reacted [] off = refl
+  find-reacted (c ∷ cs) off =
+      let parts = or_parts (is_there key n c) (list_any (is_there key n) cs) off in
+      find-cons (has_number n) (has_number n c) c (become c) _ _ (number-become c) refl (reacted_off key reaction n c parts.0) (find-reacted cs parts.1)
+
+  become_off : (c : Connection) → is_there key n c ≡ false → is_there key n (become c) ≡ false
+  become_off c off =
+      off-after (has_number n c) (is_on key (become c)) (has_number n (become c)) (number-become c)
+      (λ is. ap (is_on key) (reacted_off key reaction n c off is) ∙ off_first (has_number n c) (is_on key c) off is)
+
+-- The connection of a superior is on its transaction
+
+superior-on : (key : Key) (role : Option Role) → asks_for key role ≡ true → names key role ≡ true
+superior-on key None asks = absurd (cc)
+superior-on key (Some (Superior other)) asks = asks
+superior-on key (Some (Subordinate other part)) asks = absurd (cc)
+
+there_absurd : (key : Key) (n : ℕ) (d : Connection) → n ≡ d.number → is_on key d ≡ true → is_there key n d ≡ false → ⊥
+there_absurd key n d same on off = grind (arith, nat_tests, same, on, off)
+
+superior-first : (key : Key) (n : ℕ) (d c : Connection) (rest : Option Connection) (b : Bool) → is_superior_of key d ≡ b → is_there key n d ≡ false → (rest ≡ Some c → n ≢ c.number) → cond b (Some d) rest ≡ Some c → n ≢ c.number
+superior-first key n d c rest true superior off later is = λ same. there_absurd key n d (same ∙ ap (λ (c : Connection). c.number) (sym (same_Some d c is))) (superior-on key d.role superior) off
+superior-first key n d c rest false superior off later is = later is
+
+superior-other : (key : Key) (n : ℕ) (cs : List Connection) (c : Connection) → list_any (is_there key n) cs ≡ false → find (is_superior_of key) cs ≡ Some c → n ≢ c.number
+superior-other key n [] c off is = absurd (none-some c is)
+superior-other key n (d ∷ cs) c off is =
+    let parts = or_parts (is_there key n d) (list_any (is_there key n) cs) off in
+    superior-first key n d c (find (is_superior_of key) cs) (is_superior_of key d) refl parts.0 (superior-other key n cs c parts.1) is
 
 -- Rules
 
--- the connection of this number is as it was
-Same : ℕ → Work → Work → Type 0
-Same other before after = find (has_number other) after.state.connections ≡ find (has_number other) before.state.connections
+-- connections that the event does not name, and that are off the transaction, stay so
+record Leaves (event : Event) (key : Key) (w v : Work) : Type 0 where
+  transactions : (other : Key) → is_same key other ≡ false → transaction_of other v.state ≡ transaction_of other w.state
+  connections : (n : ℕ) → ¬ Names event n → IsOff key n w.state → (connection_of n v.state ≡ connection_of n w.state) × IsOff key n v.state
 
-gone-same : (number other : ℕ) (work : Work) → other ≢ number → Same other work (gone number work)
-unfolding gone Same
-gone-same number other work differ = find-without number other work.state.connections differ
+module _ (event : Event) (key : Key) where
+  says : (w : Work) (answer : Answer) → Leaves event key w (record w { answer = answer })
+  says w answer = record { transactions = λ other differ. refl; connections = λ n unnamed off. (refl, off) }
 
-closed-same : (number other : ℕ) (work : Work) → other ≢ number → Same other work (closed number work)
-unfolding closed gone Same
-closed-same number other work differ = find-without number other work.state.connections differ
+  goes_on : (a b c : Work) → Leaves event key a b → Leaves event key b c → Leaves event key a c
+  goes_on a b c f g = record {
+    transactions = λ other differ. g.transactions other differ ∙ f.transactions other differ;
+    connections = λ n unnamed off. let first = f.connections n unnamed off in let second = g.connections n unnamed first.1 in (second.0 ∙ first.0, second.1);
+  }
 
-wrong-same : (number other : ℕ) (work : Work) → other ≢ number → Same other work (wrong number work)
-unfolding wrong closed gone Same
-wrong-same number other work differ = find-without number other work.state.connections differ
+  altered : (f : Transaction → Transaction) (w : Work) → ((t : Transaction) → (f t).key ≡ t.key) → Leaves event key w (alter key f w)
+  altered f w same = record {
+    transactions = λ other differ. find-changed (has_key other) (has_key key) f w.state.transactions (λ t is. let at = sym (same_place key t.key is) in (key_apart key other t.key at differ, key_apart key other (f t).key (same t ∙ at) differ));
+    connections = λ n unnamed off. (refl, off);
+  }
 
-reply-same : (number other : ℕ) (command : CommandName) (said : Said) (work : Work) → other ≢ number → Same other work (reply number command said work)
-unfolding reply Same
-reply-same number other command said work differ = find-changed number other (moved command (response_name said)) work.state.connections differ (moved-number command (response_name said))
+  ended : (w : Work) → Leaves event key w (end key w)
+  ended w = record {
+    transactions = λ other differ. find-without (has_key other) (has_key key) w.state.transactions (λ t is. key_apart key other t.key (sym (same_place key t.key is)) differ);
+    connections = λ n unnamed off. (refl, off);
+  }
 
-identify-same : (number lowest highest : ℕ) (peer : Option (List ℕ)) (other : ℕ) (work : Work) → other ≢ number → Same other work (identify number lowest highest peer work)
-unfolding identify Same
-identify-same number lowest highest peer other work differ = either (Same other work) (nat_le lowest 3 && nat_le 3 highest) _ (wrong number work) (find-changed number other (identified peer) work.state.connections differ (moved-number command.Identify response.Identified)) (wrong-same number other work differ)
+  added_to : (t : Transaction) (w : Work) → t.key ≡ key → Leaves event key w (record w { state = record w.state { transactions = w.state.transactions ++ t ∷ [] } })
+  added_to t w is = record {
+    transactions = λ other differ. find-added (has_key other) w.state.transactions t (key_apart key other t.key is differ);
+    connections = λ n unnamed off. (refl, off);
+  }
 
-serve-same : (number other : ℕ) (c : Command) (work : Work) → other ≢ number → Same other work (serve number c work)
-unfolding query
-serve-same number other (Identify lowest highest peer secondary) work differ = identify-same number lowest highest peer other work differ
-serve-same number other (Query superior) work differ = reply-same number other _ _ work differ
-serve-same number other (Multiplex protocol) work differ = reply-same number other _ _ work differ
-serve-same number other Tls work differ = reply-same number other _ _ work differ
-serve-same number other Error work differ = closed-same number other work differ
-serve-same number other Begin work differ = wrong-same number other work differ
-serve-same number other (Push superior) work differ = wrong-same number other work differ
-serve-same number other (Pull superior subordinate) work differ = wrong-same number other work differ
-serve-same number other Prepare work differ = wrong-same number other work differ
-serve-same number other Commit work differ = wrong-same number other work differ
-serve-same number other Abort work differ = wrong-same number other work differ
-serve-same number other (Reconnect subordinate) work differ = wrong-same number other work differ
+  unnamed_other : (n other : ℕ) → Names event n → ¬ Names event other → other ≢ n
+  unnamed_other n other named unnamed = λ same. unnamed (subst (Names event) (sym same) named)
 
-serve_if-same : (admit : Admit) (number other : ℕ) (c : Command) (work : Work) → other ≢ number → Same other work (serve_if admit number c work)
-serve_if-same Serve number other c work differ = either (Same other work) (is_served (name_of c)) (serve number c work) (wrong number work) (serve-same number other c work differ) (wrong-same number other work differ)
-serve_if-same Wrong number other c work differ = wrong-same number other work differ
+  changed_at : (n : ℕ) (f : Connection → Connection) (w : Work) → Names event n → ((c : Connection) → (f c).number ≡ c.number) → Leaves event key w (record w { state = record w.state { connections = changed (has_number n) f w.state.connections } })
+  changed_at n f w named same = record {
+    transactions = λ other differ. refl;
+    connections = λ other unnamed off.
+        let differ = unnamed_other n other named unnamed in
+        let apart : (c : Connection) → has_number n c ≡ true → has_number other c ≡ false = λ c is. number_apart n other c differ is in
+        let after : (c : Connection) → has_number n c ≡ true → has_number other (f c) ≡ false = λ c is. ap (λ m. m == other) (same c) ∙ apart c is in (
+          find-changed (has_number other) (has_number n) f w.state.connections (λ c is. (apart c is, after c is)),
+          none-changed (is_there key other) (has_number n) f w.state.connections (λ c is none. and_left (has_number other (f c)) (is_on key (f c)) (after c is)) off,
+        );
+  }
 
-hear-same : (number other : ℕ) (connection : Connection) (heard : Heard) (work : Work) → other ≢ number → Same other work (hear number connection heard work)
-unfolding commanded
-hear-same number other connection (ACommand c) work differ = serve_if-same (admit_of connection.state connection.side (name_of c)) number other c work differ
-hear-same number other connection (AResponse response) work differ = wrong-same number other work differ
-hear-same number other connection Malformed work differ = wrong-same number other work differ
+  -- taken out: one that others differ from
+  taken_out : (n other : ℕ) (cs : List Connection) → other ≢ n → list_any (is_there key other) cs ≡ false → (find (has_number other) (without (has_number n) cs) ≡ find (has_number other) cs) × (list_any (is_there key other) (without (has_number n) cs) ≡ false)
+  taken_out n other cs differ off = (find-without (has_number other) (has_number n) cs (λ c is. number_apart n other c differ is), none-without (is_there key other) (has_number n) cs off)
 
-line-same : (number other : ℕ) (connection : Option Connection) (heard : Heard) (work : Work) → other ≢ number → Same other work (line number connection heard work)
-unfolding line Same
-line-same number other None heard work differ = refl
-line-same number other (Some connection) heard work differ = either (Same other work) (may_take connection) (hear number connection heard work) (refuse Busy work) (hear-same number other connection heard work differ) refl
+  taken : (n : ℕ) (w : Work) → Names event n → Leaves event key w (record w { state = record w.state { connections = without (has_number n) w.state.connections } })
+  taken n w named = record {
+    transactions = λ other differ. refl;
+    connections = λ other unnamed off. taken_out n other w.state.connections (unnamed_other n other named unnamed) off;
+  }
 
-lost-same : (number other : ℕ) (connection : Option Connection) (work : Work) → other ≢ number → Same other work (lost number connection work)
-unfolding lost Same
-lost-same number other None work differ = refl
-lost-same number other (Some connection) work differ = gone-same number other work differ
+  displaced : (c : Connection) (w v : Work) → find (is_superior_of key) w.state.connections ≡ Some c → Leaves event key w v → Leaves event key w (record v { state = record v.state { connections = without (has_number c.number) v.state.connections } })
+  displaced c w v is leaves = record {
+    transactions = leaves.transactions;
+    connections = λ other unnamed off.
+        let before = leaves.connections other unnamed off in
+        let out = taken_out c.number other v.state.connections (superior-other key other w.state.connections c off is) before.1 in
+        (out.0 ∙ before.0, out.1);
+  }
 
-opened-same : (other : ℕ) (work : Work) → other ≤ work.state.head.given → Same other work (opened work)
-unfolding opened added Same
-opened-same other work le = either (Same other work) (nat_lt (length work.state.connections) work.state.head.limits.connections) (added accepted work) (refuse Full work) (find-added other work.state.connections (accepted (work.state.head.given + 1)) (λ e. absurd (omega (arith, le, e)))) refl
+  has_reacted : (reaction : Reaction) (w : Work) → Leaves event key w (react reaction key w)
+  unfolding react
+  has_reacted reaction w = record {
+    transactions = λ other differ. refl;
+    connections = λ n unnamed off. (find-reacted key reaction n w.state.connections off, none-map (is_there key n) (λ c. (reacted reaction key c).connection) w.state.connections (become_off key reaction n) off);
+  }
 
--- Steps
+  has_made : (from : Origin) (c : Connection) (w : Work) → Names event c.number → next_key w.state.head c ≡ key → Leaves event key w (make from c w)
+  unfolding make
+  has_made from c w named on =
+      let next = next_key w.state.head c in
+      let branches = w.state.head.limits.branches in
+      let counted = change c.number (making branches next) w in
+      goes_on w counted _ (changed_at c.number (making branches next) w named (λ c. refl)) (added_to (begun w.state.head next from (take branches c.boxes)) counted on)
 
-Stays : ℕ → State → Work → Type 0
-Stays other state work = find (has_number other) work.state.connections ≡ find (has_number other) state.connections
+  closed_by_leaves : Closed (Leaves event key) (Names event) (Is key)
+  closed_by_leaves = record {
+    same = λ w. says w w.answer;
+    then = goes_on;
+    tells = λ w told. says w _;
+    works = λ w party. says w _;
+    spends = λ w party. says w _;
+    hands = λ w boxes. says w _;
+    alters = λ at f w on same. subst (λ p. Leaves event key w (alter p f w)) (sym on) (altered f w same);
+    ends = λ at w on. subst (λ p. Leaves event key w (end p w)) (sym on) (ended w);
+    makes = λ from c w named on is. has_made from c w named on;
+    changes = λ n f w named same made. changed_at n f w named same;
+    reacts = λ reaction at w on. subst (λ p. Leaves event key w (react reaction p w)) (sym on) (has_reacted reaction w);
+    takes = taken;
+    displaces = λ at c w v on is leaves. displaced c w v (subst (λ p. find (is_superior_of p) w.state.connections ≡ Some c) on is) leaves;
+  }
 
-stays : (state : State) (event : Event) (outcome : Outcome) (other : ℕ) → other ≤ state.head.given → ¬ Names event other → Stays other state (step state event outcome)
-unfolding Same Stays
-stays state Open outcome other le unnamed = either (Stays other state) (is_open state) (opened (entered state)) (frozen state) (opened-same other (entered state) le) refl
-stays state (Line seat heard) outcome other le unnamed = either (Stays other state) (is_open state) (line seat.number (seated seat (entered state).state) heard (entered state)) (frozen state) (line-same seat.number other (seated seat (entered state).state) heard (entered state) (λ e. unnamed (sym e))) refl
-stays state (Lost seat) outcome other le unnamed = either (Stays other state) (is_open state) (lost seat.number (seated seat (entered state).state) (entered state)) (frozen state) (lost-same seat.number other (seated seat (entered state).state) (entered state) (λ e. unnamed (sym e))) refl
+-- Events
 
-pub others_stay : (state : State) (event : Event) (outcome : Outcome) (number : ℕ) → number ≤ state.head.given → ¬ Names event number → find (has_number number) (step state event outcome).state.connections ≡ find (has_number number) state.connections
-unfolding Stays
-others_stay state event outcome number le unnamed = stays state event outcome number le unnamed
+abbrev Touches : Event → State → Work → Type 0
+Touches event state v = (key : Key) × TouchesOne key event state v.state
+
+untouched : (event : Event) (old new : State) → new.connections ≡ old.connections → new.transactions ≡ old.transactions → (key : Key) × TouchesOne key event old new
+untouched event old new connections transactions = (
+  or_any None,
+  record {
+    transactions = λ other differ. ap (find (has_key other)) transactions;
+    connections = λ n le unnamed off. ap (find (has_number n)) connections;
+  },
+)
+
+-- a connection more, with a number that was not given yet
+added-touches : (event : Event) (new : ℕ → Connection) (state : State) → ((n : ℕ) → (new n).number ≡ n) → Touches event state (added new (entered state))
+unfolding added
+added-touches event new state numbered = (
+  or_any None,
+  record {
+    transactions = λ other differ. refl;
+    connections = λ n le unnamed off. let last = numbered (state.head.given + 1) in find-added (has_number n) state.connections (new (state.head.given + 1)) (grind (arith, nat_tests, last, le));
+  },
+)
+
+opened-touches : (event : Event) (boxes : List Plan) (state : State) → Touches event state (opened boxes (entered state))
+unfolding opened
+opened-touches event boxes state = either (Touches event state) (has_place (length boxes) (entered state).state) (added (accepted boxes) (entered state)) _ (added-touches event (accepted boxes) state (λ n. refl)) (untouched event state (entered state).state refl refl)
+
+dial-touches : (event : Event) (serves : Bool) (address : List ℕ) (purpose : Purpose) (boxes : List Plan) (state : State) → Touches event state (dial serves address purpose boxes (entered state))
+unfolding dial
+dial-touches event serves address purpose boxes state = either (Touches event state) (serves && has_place (length boxes) (entered state).state) _ _ (added-touches event (dialled address purpose boxes) state (λ n. refl)) (untouched event state (entered state).state refl refl)
+
+-- a connection that was found by a seat of the event is one that it names
+each : (event : Event) (state : State) (seat : Seat) → Names event seat.number → (found : Option Connection) → seated seat state ≡ found → IfSome found (λ c. Names event c.number)
+each event state seat names None is = tt
+each event state seat names (Some c) is = subst (Names event) (sym (seated-number seat state c is)) names
+
+others : (serving : Serving) (event : Event) (state : State) → is_opening event ≡ false → Ends (Touches event state) (attempt serving event (entered state))
+others serving event state not =
+    attempt-goes (Leaves event) (Names event) (closed_by_leaves event) (entered state) (Touches event state)
+    (λ key v leaves. (key, record { transactions = leaves.transactions; connections = λ n le unnamed off. (leaves.connections n unnamed off).0 }))
+    (λ why. untouched event state (entered state).state refl refl) (λ party. untouched event state (entered state).state refl refl) serving event not
+    (λ seat names. each event (entered state).state seat names (seated seat (entered state).state) refl)
+
+attempt-touches : (serving : Serving) (event : Event) (state : State) → Ends (Touches event state) (attempt serving event (entered state))
+attempt-touches serving event state =
+    each_event (λ event. Ends (Touches event state) (attempt serving event (entered state)))
+    (λ boxes. opened-touches (Open boxes) boxes state)
+    (λ address purpose boxes. dial-touches (Dial address purpose boxes) serving.dials address purpose boxes state)
+    (λ event not. others serving event state not)
+    event
+
+went-touches : (serving : Serving) (state : State) (event : Event) (outcome : Outcome) → Touches event state (ordered state (chosen (attempt serving event (entered state)) outcome))
+unfolding ordered
+went-touches serving state event outcome = chosen_ends (Touches event state) (attempt serving event (entered state)) outcome (attempt-touches serving event state)
+
+pub touches : (serving : Serving) (state : State) (event : Event) (outcome : Outcome) → (key : Key) × TouchesOne key event state (step_serving serving state event outcome).state
+touches serving state event outcome = either (Touches event state) (is_open state) _ (frozen event state) (went-touches serving state event outcome) (untouched event state state refl refl)

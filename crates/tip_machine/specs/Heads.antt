@@ -15,7 +15,7 @@ are_allowed limits =
 
 -- a realm at its start: nothing was counted yet
 abbrev pub starting : Start → Head
-starting start = record { name = start.name; address = start.address; limits = start.limits; epoch = start.epoch; given = 0; entries = 0 }
+starting start = record { name = start.name; address = start.address; limits = start.limits; branches = start.branches; epoch = start.epoch; given = 0; entries = 0 }
 
 -- a realm was given no more connections than it counted entries
 abbrev pub IsCounted : Head → Type 0

@@ -1,9 +1,8 @@
 -- Whole runs of one realm, and what belongs to one realm in a list of many realms' events.
 use Rattle.std.specs.Prelude.{ℕ, ◌==◌, List, [], ◌∷◌, if◌then◌else◌}
+use Rattle.tip_machine.specs.Types.{Answer, Event}
 use Rattle.tip_machine.specs.States.{State}
 use Rattle.tip_machine.specs.Steps.{step}
-use Rattle.tip_machine.specs.declared.answer.Answer.{Answer}
-use Rattle.tip_machine.specs.declared.event.Event.{Event}
 use Rattle.tip_machine.specs.declared.event.Outcome.{Outcome}
 use Rattle.tip_machine.specs.declared.event.Outcome.TheVariants.{NoChange}
 use Rattle.tip_machine.specs.declared.event.InRealm.{InRealm}

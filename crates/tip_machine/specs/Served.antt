@@ -1,7 +1,14 @@
--- The commands that are not served yet: each is answered ERROR, and the connection is closed.
+-- What is served. The rules are the whole machine's; each takes what is served as a parameter, so that the machine that runs
+-- today and the one that is to come have the same rules.
 use Rattle.std.specs.Prelude.{Bool, true, false}
 use Rattle.tip_line.specs.declared.command.CommandName.{CommandName}
 use Rattle.tip_line.specs.declared.command.CommandName.TheVariants.{Identify, Begin, Push, Pull, Prepare, Commit, Abort, Query, Reconnect, Multiplex, Tls, Error}
+
+pub record Serving : Type 0 where
+  -- a command that is not served is answered ERROR, and the connection is closed
+  pub commands : CommandName → Bool
+  -- where connections are not dialled yet, a realm has none free to dial: Full
+  pub dials : Bool
 
 abbrev pub is_served : CommandName → Bool
 is_served Identify = true
@@ -16,3 +23,11 @@ is_served Reconnect = false
 is_served Multiplex = true
 is_served Tls = true
 is_served Error = true
+
+-- what is served today
+abbrev pub today : Serving
+today = record { commands = is_served; dials = false }
+
+-- the whole machine
+abbrev pub everything : Serving
+everything = record { commands = λ command. true; dials = true }

@@ -1,52 +1,85 @@
 -- The step of one realm: what it answers to an event, and what it is afterwards.
-use Rattle.std.specs.Prelude.{◌≡◌, ℕ, ◌+◌, nat_lt, Bool, Option, Some, None, if◌then◌else◌}
+use Rattle.std.specs.Prelude.{◌≡◌, ◌≤◌, ◌<◌, ◌⊎◌, ℕ, ◌+◌, ◌&&◌, nat_lt, count_by, Bool, false, List, Option, Some, None, if◌then◌else◌}
+use Rattle.std.specs.List.{list_any}
+use Rattle.tip_line.specs.declared.refusal.Refusal.{Refusal}
+use Rattle.tip_txn.specs.declared.answer.Phase.TheVariants.{Aborted}
 use Rattle.tip_line.specs.declared.refusal.Refusal.TheVariants.{NoRealm, Frozen}
+use Rattle.tip_rows.specs.Keys.{Place as Key, is_same}
+use Rattle.tip_machine.specs.Types.{Answer, Connection, Event, Transaction}
 use Rattle.tip_machine.specs.Answers.{silence}
-use Rattle.tip_machine.specs.States.{State, Work, Attempt}
-use Rattle.tip_machine.specs.Rules.{opened, line, lost, seated}
-use Rattle.tip_machine.specs.declared.answer.Answer.{Answer}
+use Rattle.tip_machine.specs.Connections.{has_number, is_on}
+use Rattle.tip_machine.specs.States.{State, Work, Attempt, connection_of, identified_by, seated, transaction_of}
+use Rattle.tip_machine.specs.Order.{ordered}
+use Rattle.tip_machine.specs.Requests.{ask_pull, ask_push, dial, line, lost, opened, owner, resume, settled, voted}
+use Rattle.tip_machine.specs.Served.{Serving, today}
 use Rattle.tip_machine.specs.declared.event.Change.{Change}
 use Rattle.tip_machine.specs.declared.event.Seat.{Seat}
 use Rattle.tip_machine.specs.declared.event.Outcome.{Outcome}
 use Rattle.tip_machine.specs.declared.event.Outcome.TheVariants.{NoChange, Stored, Refused}
-use Rattle.tip_machine.specs.declared.event.Event.{Event}
-use Rattle.tip_machine.specs.declared.event.Event.TheVariants.{Open, Line, Lost}
+use Rattle.tip_machine.specs.declared.event.Event.TheVariants.{Open, Dial, Line, Voted, Settled, Lost, AskPush, AskPull, Resume}
 
--- the event takes the next entry of the realm's journal
+-- the event takes the next entry of the realm's journal (ours)
 abbrev pub entered : State → Work
 entered state = record {
   state = record state { head = record state.head { entries = state.head.entries + 1 } };
   answer = record silence { entry = Some (state.head.entries + 1) };
 }
 
--- the rule of each event
-abbrev pub attempt : Event → Work → Attempt
-attempt Open work = Attempt.Done (opened work)
-attempt (Line seat heard) work = Attempt.Done (line seat.number (seated seat work.state) heard work)
-attempt (Lost seat) work = Attempt.Done (lost seat.number (seated seat work.state) work)
+-- the rule of each event (ours)
+abbrev pub attempt : Serving → Event → Work → Attempt
+attempt serving (Open boxes) work = Attempt.Done (opened boxes work)
+attempt serving (Dial address purpose boxes) work = Attempt.Done (dial serving.dials address purpose boxes work)
+attempt serving (Line seat heard) work = line serving (seated seat work.state) heard work
+attempt serving (Voted party) work = voted (owner party work.state) party work
+attempt serving (Settled party) work = settled (owner party work.state) party work
+attempt serving (Lost seat) work = Attempt.Done (lost (seated seat work.state) work)
+attempt serving (AskPush seat id) work = Attempt.Done (ask_push (seated seat work.state) id work)
+attempt serving (AskPull seat superior) work = Attempt.Done (ask_pull (seated seat work.state) superior work)
+attempt serving (Resume id) work = resume (identified_by id work.state) work
 
--- the work, by what became of the change; an outcome that says nothing of it counts as a refusal
-abbrev pub settled : Attempt → Outcome → Work
-settled (Attempt.Done work) outcome = work
-settled (Attempt.Asks change stored refused) Stored = stored
-settled (Attempt.Asks change stored refused) Refused = refused
-settled (Attempt.Asks change stored refused) NoChange = refused
+-- the work, by what became of the change; an outcome that says nothing of it counts as a refusal (ours)
+abbrev pub chosen : Attempt → Outcome → Work
+chosen (Attempt.Done work) outcome = work
+chosen (Attempt.Asks change stored refused) Stored = stored
+chosen (Attempt.Asks change stored refused) Refused = refused
+chosen (Attempt.Asks change stored refused) NoChange = refused
 
+-- the change that an attempt asks for
 abbrev pub wanted : Attempt → Option Change
 wanted (Attempt.Done work) = None
 wanted (Attempt.Asks change stored refused) = Some change
 
--- has the realm room for an entry?
+-- has the realm room for an entry? (ours)
 abbrev pub is_open : State → Bool
 is_open state = nat_lt state.head.entries state.head.limits.entries
 
--- a realm whose journal is full stays as it is, and takes no entry
-abbrev pub frozen : State → Work
-frozen state = record { state = state; answer = record silence { refusal = Some Frozen } }
+-- an event that can't happen leaves nothing behind: its party is let go, and its boxes are handed back (ours)
+abbrev pub returned : Refusal → Event → Answer
+returned why (Open boxes) = record silence { refusal = Some why; unused = Some boxes }
+returned why (Dial address purpose boxes) = record silence { refusal = Some why; unused = Some boxes }
+returned why (Voted party) = record silence { refusal = Some why; spent = Some party }
+returned why (Settled party) = record silence { refusal = Some why; spent = Some party }
+returned why other = record silence { refusal = Some why }
+
+-- a realm whose journal is full stays as it is, and takes no entry (ours)
+abbrev pub frozen : Event → State → Work
+frozen event state = record { state = state; answer = returned Frozen event }
 
 -- ONE STEP of the machine of one realm
+abbrev pub step_serving : Serving → State → Event → Outcome → Work
+step_serving serving state event outcome = if is_open state then ordered state (chosen (attempt serving event (entered state)) outcome) else frozen event state
+
+-- the change of the stored rows that an event wants, before its outcome is known
+abbrev pub wants_serving : Serving → State → Event → Option Change
+wants_serving serving state event = if is_open state then wanted (attempt serving event (entered state)) else None
+
+-- the step of today
 abbrev pub step : State → Event → Outcome → Work
-step state event outcome = if is_open state then settled (attempt event (entered state)) outcome else frozen state
+step = step_serving today
+
+-- what is wanted today
+abbrev pub wants : State → Event → Option Change
+wants = wants_serving today
 
 -- a state that differs in the count of entries, if at all
 abbrev pub ChangesTheEntriesAlone : State → State → Type 0
@@ -54,18 +87,46 @@ ChangesTheEntriesAlone old new = new ≡ record old { head = record old.head { e
 
 -- the event is one of the connection of this number
 abbrev pub Names : Event → ℕ → Type 0
-Names Open number = ⊥
 Names (Line seat heard) number = seat.number ≡ number
 Names (Lost seat) number = seat.number ≡ number
+Names (AskPush seat id) number = seat.number ≡ number
+Names (AskPull seat superior) number = seat.number ≡ number
+Names other number = ⊥
+
+-- no connection of this number is on the transaction of this key
+abbrev pub IsOff : Key → ℕ → State → Type 0
+IsOff key number state = list_any (λ connection. has_number number connection && is_on key connection) state.connections ≡ false
+
+-- what changes is the transaction of this key, connections on it, the one that the event names, and a new one
+pub record TouchesOne (key : Key) (event : Event) (old new : State) : Type 0 where
+  pub transactions : (other : Key) → is_same key other ≡ false → transaction_of other new ≡ transaction_of other old
+  pub connections : (number : ℕ) → number ≤ old.head.given → ¬ Names event number → IsOff key number old → connection_of number new ≡ connection_of number old
+
+-- is its number one that was not given yet?
+abbrev pub is_beyond : ℕ → Connection → Bool
+is_beyond given connection = nat_lt given connection.number
+
+-- each connection has a number that was given, and no other has it
+pub record AreNumbered (state : State) : Type 0 where
+  pub given : list_any (is_beyond state.head.given) state.connections ≡ false
+  pub apart : (number : ℕ) → count_by (has_number number) state.connections ≤ 1
+
+-- is the transaction of this key one that this connection has still to make?
+abbrev pub is_to_make : Key → Connection → Bool
+is_to_make key connection = has_number key.connection connection && nat_lt connection.made key.number
+
+-- this key is given: each of an earlier start is, and of this start those that a connection has made; where it is gone, all
+abbrev pub IsGiven : Key → State → Type 0
+IsGiven key state = (key.epoch < state.head.epoch) ⊎ ((key.epoch ≡ state.head.epoch) × (key.connection ≤ state.head.given) × (list_any (is_to_make key) state.connections ≡ false))
+
+-- no transaction of this identifier is open, or it is aborted
+abbrev pub IsForgotten : List ℕ → State → Type 0
+IsForgotten id state = (transaction : Transaction) → identified_by id state ≡ Some transaction → transaction.txn.phase ≡ Aborted
 
 -- the seat of the next connection
 abbrev pub IsNext : State → Seat → Type 0
 IsNext state seat = seat ≡ record { epoch = state.head.epoch; number = state.head.given + 1 }
 
--- the change of the stored rows that an event wants, before its outcome is known
-abbrev pub wants : State → Event → Option Change
-wants state event = if is_open state then wanted (attempt event (entered state)) else None
-
--- what is answered for a realm that is not there
-abbrev pub nowhere : Answer
-nowhere = record silence { refusal = Some NoRealm }
+-- what is answered for a realm that is not there (ours)
+abbrev pub nowhere : Event → Answer
+nowhere event = returned NoRealm event

@@ -2,12 +2,49 @@
 ghost use Rattle.std.specs.Prelude.{◌≡◌};
 ghost use Rattle.tip_machine.specs.Connections.{accepted, identified, may_take, moved, turned};
 
+use tip_branch::HeldFresh;
 use tip_conn::{Side, State, Turn, after_named};
-use tip_line::{Address, CommandName, ResponseName};
+use tip_line::{Address, CommandName, Id, ResponseName};
+use tip_rows::Key;
+use tip_txn::Part;
 
-/// A connection, as its realm knows it.
+/// What a connection is on a transaction.
+#[derive(Clone, Copy, Debug, PartialEq, Eq)]
+pub enum Role {
+    /// Our superior asks on it.
+    Superior(Key),
+    /// We ask one of our subordinates on it.
+    Subordinate { key: Key, part: Part },
+}
+
+/// What a connection that we open is for, once it is identified.
 #[derive(Debug, Drop)]
-pub struct Connection {
+pub enum Purpose {
+    /// Whatever will be asked.
+    Plain,
+    /// To ask our superior whether its transaction still exists, for ours of this identifier.
+    Query(Id),
+    /// To reach again the subordinate of this number in the row of our transaction.
+    Reconnect(Id, u32),
+}
+
+/// The command whose response we await.
+#[derive(Debug, Drop)]
+pub enum Awaited {
+    Identify(Purpose),
+    Push,
+    Pull,
+    Prepare,
+    Commit,
+    Abort,
+    /// For our transaction of this key.
+    Query(Key),
+    Reconnect,
+}
+
+/// A connection, as its realm knows it. `B` is how boxes are held.
+#[derive(Drop)]
+pub struct Connection<B = HeldFresh> {
     /// Counted from 1 since the realm's start.
     pub number: u32,
     /// Whether we opened it, and so are its primary at first (RFC 2371, section 4).
@@ -17,12 +54,22 @@ pub struct Connection {
     pub side: Side,
     /// Where the other side is, if it said so.
     pub peer: Option<Address>,
+    /// Boxes for the transactions to be made on it.
+    pub boxes: B,
+    /// The command that we owe a response.
+    pub owed: Option<CommandName>,
+    /// The command whose response we await.
+    pub awaited: Option<Awaited>,
+    /// The transaction that it is on, and as what.
+    pub role: Option<Role>,
+    /// How many transactions were made on it.
+    pub made: u32,
 }
 
-impl Connection {
+impl Connection<HeldFresh> {
     /// A connection that another manager has just opened.
-    pub fn accepted(number: u32) -> Connection
-        ensures { result ≡ accepted number }
+    pub fn accepted(number: u32, boxes: HeldFresh) -> Connection<HeldFresh>
+        ensures { result ≡ accepted boxes number }
     {
         Connection {
             number,
@@ -30,6 +77,11 @@ impl Connection {
             state: State::Initial,
             side: Side::Secondary,
             peer: None,
+            boxes,
+            owed: None,
+            awaited: None,
+            role: None,
+            made: 0,
         }
     }
 
@@ -37,10 +89,7 @@ impl Connection {
     pub fn may_take(&self) -> bool
         ensures { result ≡ may_take self.now }
     {
-        match self.side {
-            Side::Primary => false,
-            Side::Secondary => true,
-        }
+        self.owed.is_none() && (self.side == Side::Secondary || self.awaited.is_some())
     }
 
     /// Goes on by the connection table, now that this command was answered so.
@@ -50,6 +99,11 @@ impl Connection {
         if let Some((state, turn)) = after_named(self.state, command, response) {
             self.side = self.turned(turn);
             self.state = state;
+            self.owed = None;
+            self.awaited = None;
+            if state == State::Idle {
+                self.role = None;
+            }
         }
     }
 
@@ -59,6 +113,13 @@ impl Connection {
     {
         self.go(CommandName::Identify, ResponseName::Identified);
         self.peer = peer;
+    }
+
+    /// The boxes that no transaction took.
+    pub fn into_boxes(self) -> HeldFresh
+        ensures { result ≡ self.boxes }
+    {
+        self.boxes
     }
 
     /// The side that we are on after this turn.

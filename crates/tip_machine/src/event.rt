@@ -2,8 +2,10 @@
 ghost use Rattle.std.specs.Prelude.{◌≡◌, IfOk};
 ghost use Rattle.tip_machine.specs.Events.{IsHeard, heard_of};
 
+use crate::connection::Purpose;
 use std::alloc::{AllocError, Global};
-use tip_line::{Command, ParseFault, Response};
+use tip_branch::{HeldFresh, HeldParty};
+use tip_line::{Address, Command, Id, ParseFault, Response};
 use tip_rows::{Key, Row};
 
 /// Names one connection of a realm: no later connection has the same seat.
@@ -44,15 +46,46 @@ impl Heard {
     }
 }
 
-/// What happens to a realm.
-#[derive(Debug, Drop)]
-pub enum Event {
-    /// Another manager has opened a connection.
-    Open,
+/// What happens to a realm. `B` is how boxes are held, and `P` how parties are.
+#[derive(Drop)]
+pub enum Event<B = HeldFresh, P = HeldParty> {
+    /// Another manager has opened a connection; these boxes are for its transactions.
+    Open {
+        boxes: B,
+    },
+    /// We have opened a connection to another manager.
+    Dial {
+        address: Address,
+        purpose: Purpose,
+        boxes: B,
+    },
     /// A line came on a connection.
-    Line { seat: Seat, heard: Heard },
+    Line {
+        seat: Seat,
+        heard: Heard,
+    },
+    /// A party has voted and comes back.
+    Voted(P),
+    /// A party was told the outcome and comes back.
+    Settled(P),
     /// A connection broke, or its input ended.
-    Lost { seat: Seat },
+    Lost {
+        seat: Seat,
+    },
+    /// Our transaction of this identifier is to be pushed to the other side.
+    AskPush {
+        seat: Seat,
+        id: Id,
+    },
+    /// The other side's transaction of this identifier is to be pulled here.
+    AskPull {
+        seat: Seat,
+        superior: Id,
+    },
+    /// What is left of a committed transaction is to be tried again.
+    Resume {
+        id: Id,
+    },
 }
 
 /// A change of the realm's stored rows.

@@ -3,6 +3,7 @@ ghost use Rattle.std.specs.Prelude.{◌≡◌};
 ghost use Rattle.tip_machine.specs.Heads.{are_allowed, starting};
 
 use tip_line::{Address, Realm};
+use tip_rows::Branches;
 
 /// How much a realm may have at one time.
 #[derive(Clone, Copy, Debug, PartialEq, Eq)]
@@ -39,6 +40,8 @@ pub struct Start {
     /// Where other managers reach this realm.
     pub address: Address,
     pub limits: Limits,
+    /// The local branches of each transaction, by number and label.
+    pub branches: Branches,
     /// How often the realm was started, this start included.
     pub epoch: u32,
 }
@@ -49,6 +52,7 @@ pub struct Head {
     pub name: Realm,
     pub address: Address,
     pub limits: Limits,
+    pub branches: Branches,
     pub epoch: u32,
     /// The connections that it was given since its start. Each has its number by this count, from 1.
     pub given: u32,
@@ -65,12 +69,14 @@ impl Head {
             name,
             address,
             limits,
+            branches,
             epoch,
         } = start;
         Head {
             name,
             address,
             limits,
+            branches,
             epoch,
             given: 0,
             entries: 0,

@@ -1,29 +1,66 @@
-//! Laws of the machine, each carried by a function that does nothing.
-ghost use Rattle.std.specs.Prelude.{◌≡◌, ◌≤◌, ℕ, IsSome, Some};
-ghost use Rattle.std.specs.List.{find};
-ghost use Rattle.tip_machine.specs.Connections.{has_number};
-ghost use Rattle.tip_machine.specs.States.{State};
-ghost use Rattle.tip_machine.specs.Steps.{step, ChangesTheEntriesAlone, IsNext, Names};
-ghost use Rattle.tip_machine.specs.declared.event.Event.{Event};
+//! Laws of the machine, each carried by a function that does nothing. They hold whatever is served.
+ghost use Rattle.std.specs.Prelude.{◌≡◌, ◌≤◌, ◌<◌, [], ℕ, List, IsSome, Some, None, map};
+ghost use Rattle.tip_txn.specs.Decisions.{Decides};
+ghost use Rattle.tip_txn.specs.Parts.{answers_of};
+ghost use Rattle.tip_txn.specs.declared.part.Participant.{Participant};
+ghost use Rattle.tip_line.specs.declared.command.CommandName.TheVariants as command;
+ghost use Rattle.tip_rows.specs.Keys.{Place as Key};
+ghost use Rattle.tip_machine.specs.Changes.{reply};
+ghost use Rattle.tip_machine.specs.Commands.{pull, query, reconnect};
+ghost use Rattle.tip_machine.specs.Served.{Serving};
+ghost use Rattle.tip_machine.specs.States.{State, Work, transaction_of};
+ghost use Rattle.tip_machine.specs.Steps.{step_serving, AreNumbered, ChangesTheEntriesAlone, IsForgotten, IsGiven, IsNext, TouchesOne};
+ghost use Rattle.tip_machine.specs.Transactions.{decision};
+ghost use Rattle.tip_machine.specs.Types.{Connection, Event};
+ghost use Rattle.tip_machine.specs.declared.answer.Said.TheVariants as said;
 ghost use Rattle.tip_machine.specs.declared.event.Outcome.{Outcome};
 ghost use Rattle.tip_machine.specs.declared.event.Seat.{Seat};
 
 /// What is refused has not happened: at most the journal has an entry more.
-#[tactic(auto, using(crate::proofs::Refusals::quiet))]
+#[tactic(auto, using(crate::proofs::Stepping::quiet))]
 pub fn a_refusal_changes_the_entries_alone()
-    ensures { (state : State) (event : Event) (outcome : Outcome) → IsSome (step state event outcome).answer.refusal → ChangesTheEntriesAlone state (step state event outcome).state }
+    ensures { (serving : Serving) (state : State) (event : Event) (outcome : Outcome) → IsSome (step_serving serving state event outcome).answer.refusal →
+        ChangesTheEntriesAlone state (step_serving serving state event outcome).state }
 {}
 
-/// A new connection has the next number of its start, and the count of numbers never falls.
-#[tactic(auto, using(crate::proofs::Numbers::numbered, crate::proofs::Numbers::rising))]
+/// A new connection has the next number of its start, the count of numbers never falls, and no two connections have one.
+#[tactic(auto, using(crate::proofs::Stepping::numbered, crate::proofs::Stepping::rising))]
 pub fn numbers_of_connections_rise()
-    ensures numbered { (state : State) (event : Event) (outcome : Outcome) (seat : Seat) → (step state event outcome).answer.opened ≡ Some seat → IsNext state seat × ((step state event outcome).state.head.given ≡ seat.number) }
-    ensures rising { (state : State) (event : Event) (outcome : Outcome) → state.head.given ≤ (step state event outcome).state.head.given }
+    ensures numbered { (serving : Serving) (state : State) (event : Event) (outcome : Outcome) (seat : Seat) → (step_serving serving state event outcome).answer.opened ≡ Some seat →
+        IsNext state seat × ((step_serving serving state event outcome).state.head.given ≡ seat.number) }
+    ensures rising { (serving : Serving) (state : State) (event : Event) (outcome : Outcome) → state.head.given ≤ (step_serving serving state event outcome).state.head.given }
+    ensures none { (state : State) → state.connections ≡ [] → AreNumbered state }
+    ensures apart { (serving : Serving) (state : State) (event : Event) (outcome : Outcome) → AreNumbered state → AreNumbered (step_serving serving state event outcome).state }
 {}
 
-/// A step touches the connection that its event names, and a new one; each other connection stays.
-#[tactic(auto, using(crate::proofs::Others::others_stay))]
-pub fn other_connections_stay()
-    ensures { (state : State) (event : Event) (outcome : Outcome) (number : ℕ) → number ≤ state.head.given → ¬ Names event number →
-        find (has_number number) (step state event outcome).state.connections ≡ find (has_number number) state.connections }
+/// A step changes at most one transaction, and only connections that are on it, the one that its event names, and a new one.
+#[tactic(auto, using(crate::proofs::Others::touches))]
+pub fn at_most_one_transaction_changes()
+    ensures { (serving : Serving) (state : State) (event : Event) (outcome : Outcome) → (key : Key) × TouchesOne key event state (step_serving serving state event outcome).state }
+{}
+
+/// An identifier is never made twice: a new transaction has a key that was not given before, that is given then, and that
+/// stays so, also in each later start.
+#[tactic(auto, using(crate::proofs::Identifiers::new_was_not_given, crate::proofs::Identifiers::new_is_given, crate::proofs::Identifiers::given_stays, crate::proofs::Identifiers::given_later))]
+pub fn an_identifier_is_never_made_twice()
+    ensures new { (serving : Serving) (state : State) (event : Event) (outcome : Outcome) (key : Key) → transaction_of key state ≡ None → IsSome (transaction_of key (step_serving serving state event outcome).state) →
+        ¬ IsGiven key state }
+    ensures given { (serving : Serving) (state : State) (event : Event) (outcome : Outcome) (key : Key) → AreNumbered state → transaction_of key state ≡ None → IsSome (transaction_of key (step_serving serving state event outcome).state) →
+        IsGiven key (step_serving serving state event outcome).state }
+    ensures stays { (serving : Serving) (state : State) (event : Event) (outcome : Outcome) (key : Key) → IsGiven key state → IsGiven key (step_serving serving state event outcome).state }
+    ensures later { (old new : State) (key : Key) → old.head.epoch < new.head.epoch → IsGiven key old → IsGiven key new }
+{}
+
+/// The decision that the machine computes is the decision of two-phase commit over the set of answers.
+#[tactic(auto, using(crate::proofs::Deciding::decides))]
+pub fn the_decision_is_that_of_two_phase_commit()
+    ensures { (parts : List Participant) → Decides (answers_of parts) (decision (map (λ part. part.answer) parts)) }
+{}
+
+/// A transaction that is aborted is answered as one that never was: presumed abort.
+#[tactic(auto, using(crate::proofs::Forgotten::queried, crate::proofs::Forgotten::pulled, crate::proofs::Forgotten::reconnected))]
+pub fn an_aborted_transaction_is_as_one_that_never_was()
+    ensures query { (id : List ℕ) (connection : Connection) (work : Work) → IsForgotten id work.state → query id connection work ≡ reply connection.number command.Query said.QueriedNotFound work }
+    ensures pull { (id subordinate : List ℕ) (connection : Connection) (work : Work) → IsForgotten id work.state → pull id subordinate connection work ≡ reply connection.number command.Pull said.NotPulled work }
+    ensures reconnect { (id : List ℕ) (connection : Connection) (work : Work) → IsForgotten id work.state → reconnect id connection work ≡ reply connection.number command.Reconnect said.NotReconnected work }
 {}

@@ -1,20 +1,22 @@
 -- The realms of a scene, and the code's values that stand for them.
 use Rattle.std.proofs.Common.{◌≡◌, ◌≢◌, ◌+◌, ◌<◌, ◌≤◌, ◌++◌, ◌∷◌, [], ℕ, suc, zero, List, Bool, true, false, not, ◌==◌, Option, Some, None, length, get_or, arith, refl, sym, ap, ◌∙◌, subst}
-use Rattle.std.specs.Prelude.{Result, Ok, Err, OnOk, slice_get, slice_set, is_some, is_none, IfSome, if◌then◌else◌}
+use Rattle.std.specs.Prelude.{Result, Ok, Err, OnOk, slice_get, slice_set, is_some, is_none, if◌then◌else◌}
 use Rattle.std.specs.List.{position_or_len}
 use Rattle.std.specs.Str.{bytes_eq}
 use Rattle.std.proofs.lemmas.Bool.{false≢true}
+use Rattle.std.proofs.lemmas.List.{append-nil}
 use Rattle.std.proofs.lemmas.Option.{same_Some, none-some, slice_get_within, slice_get_past, slice_get-get_or}
-use Rattle.std.proofs.lemmas.Slice.Eq.{bytes_eq-Decides}
 use Rattle.std.specs.Cmp.{unsigned_Decides}
 use Rattle.tipd.proofs.Hearing.{lines_behind}
+use Rattle.tip_branch.specs.declared.branch.Plan.{Plan}
 use Rattle.tip_core.specs.Hosted.{Hosted, realm, Steps}
 use Rattle.tip_line.specs.declared.refusal.Refusal.{Refusal}
+use Rattle.tip_line.specs.declared.refusal.Refusal.TheVariants.{NoRealm}
 use Rattle.tip_machine.specs.Steps.{step}
-use Rattle.tip_machine.specs.declared.answer.Answer.{Answer}
+use Rattle.tip_machine.specs.Types.{Answer}
 use Rattle.tip_machine.specs.declared.event.Event.TheVariants as event
 use Rattle.tip_machine.specs.declared.event.Outcome.TheVariants.{NoChange}
-use Rattle.tipd.specs.Printing.{answer_text}
+use Rattle.tipd.specs.Printing.{answer_text, refusal_text}
 use Rattle.tipd.specs.declared.playing.Place.{Place}
 use Rattle.tip_line.specs.Reading.{items_of}
 use Rattle.tipd.specs.Scenes.{Acting, Scene, Reading, Done, takes, feeds, loses, opens, opens_at, on_acting, on_reading, with_done, with_opened, place_of, is_named, lines_of}
@@ -219,51 +221,43 @@ unmoved core core' actors scene place is nobody others absent = record {
   none = λ other behind. none_still core core' scene place others absent other (is.none other behind) (other == place) refl;
 }
 
-opened_at : (core core' : Hosted) (actors actors' : List Actor) (scene : Scene) (place : ℕ) (acting : Option Acting) (answer : Answer) (printed printed' name : List ℕ) →
-    IsScene core actors scene → slice_get scene place ≡ acting → IfSome acting (λ a. a.name ≡ name) → Steps core core' place event.Open NoChange answer →
-    ((actor : Actor) → slice_get actors place ≡ Some actor → IsGiven actors actors' place actor answer.opened) → (slice_get actors place ≡ None → actors' ≡ actors) → printed' ≡ printed ++ answer_text name answer →
-    IsMoved core' actors' printed printed' (opens_at name place acting scene)
-opened_at core core' actors actors' scene place None answer printed printed' name is s so steps given absent text =
-    let none = steps.absent (is.none place (past scene place s)) in
-    record {
-      text = text ∙ ap (λ a. printed ++ answer_text name a) none.0;
-      scene = scene;
-      is = refl;
-      stands = rw (absent (no_partner actors scene place is.count s)) (unmoved core core' actors scene place is s steps.others none.1);
-    }
-opened_at core core' actors actors' scene place (Some acting) answer printed printed' name is s so steps given absent text =
-    let mate = partner scene actors place acting (sym is.count) s in
-    let own = is.each place mate.0 acting mate.1 s in
-    let gave = given mate.0 mate.1 in
-    let work = step acting.state event.Open NoChange in
-    let went = steps.own acting.state own.state_is in
-    rw gave.actors_are (is_moved core core' actors scene place mate.0 gave.actor' acting (opens acting) printed printed' is mate.1 s steps.others (record {
+pub opens_so : (core core' : Hosted) (place : ℕ) (boxes : List Plan) (answer : Answer) → boxes ≡ [] → Steps core core' place (event.Open boxes) NoChange answer → Steps core core' place (event.Open []) NoChange answer
+opens_so core core' place boxes answer none steps = subst (λ b. Steps core core' place (event.Open b) NoChange answer) none steps
+
+-- a realm that is there opens a connection
+pub opened_there : (core core' : Hosted) (actors actors' : List Actor) (scene : Scene) (place : ℕ) (actor : Actor) (answer : Answer) (printed printed' name : List ℕ) →
+    IsScene core actors scene → place ≡ place_of name scene → slice_get actors place ≡ Some actor → Steps core core' place (event.Open []) NoChange answer →
+    IsGiven actors actors' place actor answer.opened → printed' ≡ printed ++ answer_text actor.name answer →
+    IsMoved core' actors' printed printed' (opens_at name (place_of name scene) (slice_get scene (place_of name scene)) scene)
+opened_there core core' actors actors' scene place actor answer printed printed' name is at a steps gave text =
+    let mate = partner actors scene place actor is.count a in
+    let own = is.each place actor mate.0 a mate.1 in
+    let went = steps.own mate.0.state own.state_is in
+    subst (λ p. IsMoved core' actors' printed printed' (opens_at name p (slice_get scene p) scene)) at
+    (subst (λ s. IsMoved core' actors' printed printed' (opens_at name place s scene)) (sym mate.1)
+    (rw gave.actors_are (is_moved core core' actors scene place actor gave.actor' mate.0 (opens mate.0) printed printed' is a mate.1 steps.others (record {
       name = gave.name ∙ own.name;
       state_is = went.1;
-      readings = subst (λ (b : Answer). AreReadings gave.actor'.readers.items (with_opened b.opened acting.readings)) went.0 (gave.readings acting.readings own.readings);
-    }) (text ∙ ap (λ n. printed ++ answer_text n answer) (sym so) ∙ ap (λ b. printed ++ answer_text acting.name b) went.0))
+      readings = subst (λ (b : Answer). AreReadings gave.actor'.readers.items (with_opened b.opened mate.0.readings)) went.0 (gave.readings mate.0.readings own.readings);
+    }) (text ∙ ap (λ n. printed ++ answer_text n answer) own.name ∙ ap (λ b. printed ++ answer_text mate.0.name b) went.0))))
 
-name_first : (x : Acting) (scene : Scene) (name : List ℕ) (acting : Acting) → (slice_get scene (position_or_len (is_named name) scene) ≡ Some acting → acting.name ≡ name) → (same : Bool) → is_named name x ≡ same → slice_get (x ∷ scene) (position_or_len (is_named name) (x ∷ scene)) ≡ Some acting → acting.name ≡ name
-name_first x scene name acting more true e s = ap (λ (a : Acting). a.name) (sym (same_Some x acting (sym (ap (λ b. slice_get (x ∷ scene) (if not b then 1 + position_or_len (is_named name) scene else 0)) e) ∙ s))) ∙ (bytes_eq-Decides x.name name).0 e
-name_first x scene name acting more false e s =
-    let next : 1 + position_or_len (is_named name) scene ≡ suc (position_or_len (is_named name) scene) = omega arith in
-    more (sym (ap (λ b. slice_get (x ∷ scene) (if not b then 1 + position_or_len (is_named name) scene else 0)) e ∙ ap (slice_get (x ∷ scene)) next) ∙ s)
+refused_alone : (refused : List ℕ) → refused ≡ refused ++ [] ++ []
+refused_alone refused = sym (append-nil refused) ∙ sym (append-nil (refused ++ []))
 
-name_at : (scene : Scene) (name : List ℕ) (acting : Acting) → slice_get scene (position_or_len (is_named name) scene) ≡ Some acting → acting.name ≡ name
-name_at [] name acting s = absurd (none-some acting s)
-name_at (x ∷ scene) name acting s = name_first x scene name acting (name_at scene name acting) (is_named name x) refl s
-
-named_so : (core : Hosted) (actors : List Actor) (scene : Scene) (name : List ℕ) (acting : Option Acting) → slice_get scene (place_of name scene) ≡ acting → IfSome acting (λ a. a.name ≡ name)
-named_so core actors scene name None s = tt
-named_so core actors scene name (Some acting) s = name_at scene name acting s
-
-pub opened_realm : (core core' : Hosted) (actors actors' : List Actor) (scene : Scene) (place : ℕ) (answer : Answer) (printed printed' name : List ℕ) →
-    IsScene core actors scene → place ≡ place_of name scene → Steps core core' place event.Open NoChange answer →
-    ((actor : Actor) → slice_get actors place ≡ Some actor → IsGiven actors actors' place actor answer.opened) → (slice_get actors place ≡ None → actors' ≡ actors) → printed' ≡ printed ++ answer_text name answer →
-    IsMoved core' actors' printed printed' (opens_at name (place_of name scene) (slice_get scene (place_of name scene)) scene)
-opened_realm core core' actors actors' scene place answer printed printed' name is at steps given absent text =
-    subst (λ p. IsMoved core' actors' printed printed' (opens_at name p (slice_get scene p) scene)) at
-    (opened_at core core' actors actors' scene place (slice_get scene place) answer printed printed' name is refl (subst (λ p. IfSome (slice_get scene p) (λ a. a.name ≡ name)) (sym at) (named_so core actors scene name (slice_get scene (place_of name scene)) refl)) steps given absent text)
+-- a realm that is not there refuses
+pub opened_nowhere : (core core' : Hosted) (actors : List Actor) (scene : Scene) (place : ℕ) (answer : Answer) (printed printed' name : List ℕ) →
+    IsScene core actors scene → place ≡ place_of name scene → slice_get actors place ≡ None → Steps core core' place (event.Open []) NoChange answer → printed' ≡ printed ++ refusal_text name answer.refusal →
+    IsMoved core' actors printed printed' (opens_at name (place_of name scene) (slice_get scene (place_of name scene)) scene)
+opened_nowhere core core' actors scene place answer printed printed' name is at a steps text =
+    let nobody = no_partner scene actors place (sym is.count) a in
+    let none = steps.absent (is.none place (past scene place nobody)) in
+    subst (λ p. IsMoved core' actors printed printed' (opens_at name p (slice_get scene p) scene)) at
+    (subst (λ s. IsMoved core' actors printed printed' (opens_at name place s scene)) (sym nobody) (record {
+      text = text ∙ ap (λ (b : Answer). printed ++ refusal_text name b.refusal) none.0 ∙ ap (λ t. printed ++ t) (refused_alone (refusal_text name (Some NoRealm)));
+      scene = scene;
+      is = refl;
+      stands = unmoved core core' actors scene place is nobody steps.others none.1;
+    }))
 
 -- Where a connection stands
 

@@ -1,3 +1,4 @@
+pub mod FirstBranches
 pub mod Splitting
 pub mod Places
 pub mod Hearing
@@ -5,3 +6,7 @@ pub mod Taking
 pub mod Acting
 pub mod Staging
 pub mod Appending
+pub mod Cutting
+pub mod Transcribing
+pub mod Players
+pub mod Reading

@@ -16,14 +16,12 @@ use Rattle.tipd.specs.Fields.{move_by}
 use Rattle.tipd.specs.Printing.{start_text}
 use Rattle.tipd.specs.Scenes.{Acting, Scene, moved}
 use Rattle.tipd.specs.Scripts.{Move, move_of}
-use Rattle.tipd.specs.Stages.{AreActors, IsDeclared, IsStage}
+use Rattle.tipd.specs.Stages.{APlaying, AreActors, Declared, IsDeclared, IsStage}
 use Rattle.tipd.specs.Standing.{AreReadings, IsActing, IsScene, IsMoved}
-use Rattle.tipd.specs.Transcripts.{Stage, Declaring, Playing, Acted, acted, acted_by, acts, acts_if, acting_of, scene_of, starts_text, declared, is_other}
-use Rattle.tipd.specs.declared.declared.Declared.{Declared}
+use Rattle.tipd.specs.Transcripts.{Stage, Declaring, Playing, Acted, acted, acted_by, acts, acts_if, acting_of, scene_of, starts_text, declared, is_other, start_of}
 use Rattle.tipd.specs.declared.instruction.Instruction.{Instruction}
 use Rattle.tipd.specs.declared.instruction.Instruction.TheVariants as instruction
 use Rattle.tipd.specs.declared.playing.Actor.{Actor}
-use Rattle.tipd.specs.declared.playing.Playing.{Playing as APlaying}
 use Rattle.tipd.specs.declared.stage.Stage.TheVariants as stage
 
 -- Declarations
@@ -36,10 +34,10 @@ actors_push (a ∷ actors) (s ∷ starts) actor start are name none = (are.0, ar
 
 -- a realm more was declared
 pub declares : (realms realms' : Declared) (starts : List Start) (name address : List ℕ) (limits : Limits) (actor : Actor) → IsDeclared realms starts → list_all (is_other name) realms.starts.items ≡ true → length realms.starts.items < 64 → are_allowed limits ≡ true → is_realm name ≡ true → is_address address ≡ true → actor.name ≡ name → actor.readers.items ≡ [] →
-    realms'.actors.items ≡ realms.actors.items ++ actor ∷ [] → realms'.starts.items ≡ realms.starts.items ++ record { name = name; address = address; limits = limits; epoch = 1 } ∷ [] →
+    realms'.actors.items ≡ realms.actors.items ++ actor ∷ [] → realms'.starts.items ≡ realms.starts.items ++ start_of name address limits ∷ [] →
     (all : List Start) × (declared name address limits starts ≡ Some all) × IsDeclared realms' all
 declares realms realms' starts name address limits actor is new few allowed named reached actor_is no_readers actors_are starts_are =
-    let start : Start = record { name = name; address = address; limits = limits; epoch = 1 } in
+    let start = start_of name address limits in
     let other : list_all (is_other name) starts ≡ true = ap (list_all (is_other name)) (sym is.starts_are) ∙ new in
     let short : nat_lt (length starts) 64 ≡ true = let e = ap length is.starts_are in grind (arith, nat_tests) in (
       starts ++ start ∷ [],

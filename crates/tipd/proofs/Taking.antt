@@ -13,7 +13,7 @@ use Rattle.tip_machine.specs.States.{State}
 use Rattle.tip_machine.specs.declared.event.Event.TheVariants as event
 use Rattle.tip_machine.specs.declared.event.Heard.{Heard}
 use Rattle.tip_machine.specs.declared.event.Outcome.TheVariants.{NoChange}
-use Rattle.tip_machine.specs.declared.answer.Answer.{Answer}
+use Rattle.tip_machine.specs.Types.{Answer}
 use Rattle.tipd.specs.Printing.{answer_text}
 use Rattle.tipd.specs.Scenes.{Taken, takes, taken_on, closes, line_work, said_by, lines_of}
 use Rattle.tipd.specs.Standing.{gives, Says, Owes, Turns, TakesAll}

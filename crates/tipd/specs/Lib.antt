@@ -7,3 +7,4 @@ pub mod Transcripts
 pub mod Standing
 pub mod Stages
 pub mod Writing
+pub mod Players

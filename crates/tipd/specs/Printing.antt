@@ -3,12 +3,13 @@ use Rattle.std.specs.Prelude.{ℕ, List, [], ◌++◌, Option, Some, None, codes
 use Rattle.std.specs.Fmt.{decimal}
 use Rattle.std.specs.List.{flat_map}
 use Rattle.tip_line.specs.Refusal as refusal
+use Rattle.tip_line.specs.Command as command
 use Rattle.tip_line.specs.Response as response
 use Rattle.tip_line.specs.declared.refusal.Refusal.{Refusal}
-use Rattle.tip_machine.specs.Answers.{response_of}
-use Rattle.tip_machine.specs.declared.answer.Answer.{Answer}
+use Rattle.tip_machine.specs.Answers.{command_of, response_of}
+use Rattle.tip_machine.specs.Types.{Answer}
 use Rattle.tip_machine.specs.declared.answer.Item.{Item}
-use Rattle.tip_machine.specs.declared.answer.Item.TheVariants.{Say, Close}
+use Rattle.tip_machine.specs.declared.answer.Item.TheVariants.{Say, Ask, Close}
 use Rattle.tip_machine.specs.declared.answer.Told.{Told}
 use Rattle.tip_machine.specs.declared.event.Seat.{Seat}
 
@@ -24,7 +25,8 @@ opened_text realm (Some seat) = realm ++ codes " " ++ decimal seat.number ++ cod
 
 -- REALM CONNECTION say TEXT, or REALM CONNECTION close
 abbrev pub item_text : List ℕ → ℕ → Item → List ℕ
-item_text realm connection (Say said) = realm ++ codes " " ++ decimal connection ++ codes " say " ++ response.printed (response_of said) ++ codes "\n"
+item_text realm connection (Say said) = realm ++ codes " " ++ decimal connection ++ codes " say " ++ response.printed (response_of realm said) ++ codes "\n"
+item_text realm connection (Ask asked) = realm ++ codes " " ++ decimal connection ++ codes " say " ++ command.printed (command_of realm asked) ++ codes "\n"
 item_text realm connection Close = realm ++ codes " " ++ decimal connection ++ codes " close\n"
 
 abbrev pub told_text : List ℕ → Told → List ℕ

@@ -91,7 +91,7 @@ opens_by work acting = record {
 }
 
 abbrev pub opens : Acting → Done
-opens acting = opens_by (step acting.state event.Open NoChange) acting
+opens acting = opens_by (step acting.state (event.Open []) NoChange) acting
 
 -- octets come on a connection; where it is closed, what was read is gone
 abbrev pub feeds_by : Taken → ℕ → Reading → List ℕ → Acting → Done
@@ -126,7 +126,7 @@ abbrev pub with_done : ℕ → Done → Scene → Moved
 with_done place done scene = record { printed = done.printed; scene = Some (slice_set scene place done.acting) }
 
 abbrev pub opens_at : List ℕ → ℕ → Option Acting → Scene → Moved
-opens_at name place None scene = record { printed = answer_text name nowhere; scene = Some scene }
+opens_at name place None scene = record { printed = answer_text name (nowhere (event.Open [])); scene = Some scene }
 opens_at name place (Some acting) scene = with_done place (opens acting) scene
 
 -- on a connection that a realm has given; each other may not be named

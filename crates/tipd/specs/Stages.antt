@@ -5,12 +5,24 @@ use Rattle.tip_machine.specs.declared.head.Start.{Start}
 use Rattle.tipd.specs.Scenes.{Moved}
 use Rattle.tipd.specs.Standing.{IsScene, IsMoved}
 use Rattle.tipd.specs.Transcripts.{Stage, Declaring, Playing, Acted}
-use Rattle.tipd.specs.declared.declared.Declared.{Declared}
+use Rattle.tip_branch.specs.declared.branch.Plan.{Plan}
+use Rattle.tipd.specs.declared.declared.Declared as declarations
 use Rattle.tipd.specs.declared.fault.LineFault.{LineFault}
 use Rattle.tipd.specs.declared.fault.LineFault.TheVariants.{NotUnderstood, Memory}
 use Rattle.tipd.specs.declared.playing.Actor.{Actor}
-use Rattle.tipd.specs.declared.stage.Stage.{Stage as AStage}
+use Rattle.tipd.specs.declared.playing.Playing as playings
+use Rattle.tipd.specs.declared.stage.Stage as stages
 use Rattle.tipd.specs.declared.stage.Stage.TheVariants as stage
+
+-- the code's values: the realms declared, the realms at work, and the stage
+abbrev pub Declared : Type 0
+Declared = declarations.Declared Hosted (List Plan)
+
+abbrev pub APlaying : Type 0
+APlaying = playings.Playing Hosted (List Plan)
+
+abbrev pub AStage : Type 0
+AStage = stages.Stage Declared APlaying
 
 -- each realm that is declared has its name, and no connections
 abbrev pub AreActors : List Actor → List Start → Type 0

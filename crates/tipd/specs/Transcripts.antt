@@ -1,10 +1,11 @@
 -- THE TRANSCRIPT OF A SCRIPT: what its octets make tipd print, and where it ends.
-use Rattle.std.specs.Prelude.{◌≡◌, ℕ, ◌+◌, ◌==◌, ◌&&◌, List, [], ◌∷◌, ◌++◌, length, map, Bool, not, nat_le, nat_lt, Option, Some, None, option_map, Result, Ok, Err, if◌then◌else◌}
+use Rattle.std.specs.Prelude.{◌≡◌, ℕ, zero, suc, ◌+◌, ◌==◌, ◌&&◌, List, [], ◌∷◌, ◌++◌, length, map, Bool, not, nat_le, nat_lt, Option, Some, None, option_map, Result, Ok, Err, if◌then◌else◌}
 use Rattle.std.specs.List.{list_all, flat_map}
 use Rattle.std.specs.Io.KnownBytes.{Appends, Consumes}
 use Rattle.std.specs.Str.{bytes_eq}
 use Rattle.tip_line.specs.Words.{is_address, is_realm}
 use Rattle.tip_machine.specs.Heads.{are_allowed, starting}
+use Rattle.tip_rows.specs.Rows.{first_label}
 use Rattle.tip_machine.specs.States.{started}
 use Rattle.tip_machine.specs.declared.head.Limits.{Limits}
 use Rattle.tip_machine.specs.declared.head.Start.{Start}
@@ -26,8 +27,17 @@ pub record Acted : Type 0 where
 
 -- Declarations
 
+-- the branches of each transaction of a realm that names none: b1, b2 and so on, by number
+abbrev pub first_branches : ℕ → List (ℕ × List ℕ)
+first_branches zero = []
+first_branches (suc number) = first_branches number ++ (suc number, first_label (suc number)) ∷ []
+
 abbrev pub is_other : List ℕ → Start → Bool
 is_other name start = not (bytes_eq start.name name)
+
+-- a realm that is declared so starts in its first epoch
+abbrev pub start_of : List ℕ → List ℕ → Limits → Start
+start_of name address limits = record { name = name; address = address; limits = limits; branches = first_branches limits.branches; epoch = 1 }
 
 -- at most 64 realms, each with a name of its own, an address and limits that it may have
 abbrev pub may_be_declared : List ℕ → List ℕ → Limits → List Start → Bool
@@ -36,7 +46,7 @@ may_be_declared name address limits starts = list_all (is_other name) starts && 
 abbrev pub declared : List ℕ → List ℕ → Limits → List Start → Option (List Start)
 declared name address limits starts =
     if may_be_declared name address limits starts
-    then Some (starts ++ record { name = name; address = address; limits = limits; epoch = 1 } ∷ [])
+    then Some (starts ++ start_of name address limits ∷ [])
     else None
 
 -- The start

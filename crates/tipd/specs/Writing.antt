@@ -1,8 +1,7 @@
 -- What is written of one line.
 use Rattle.std.specs.Prelude.{◌≡◌, ℕ, List, ◌++◌, Option, Some, None, Result, Ok, Err}
 use Rattle.std.specs.Io.KnownBytes.{Appends}
-use Rattle.tipd.specs.declared.stage.Stage.{Stage as AStage}
-use Rattle.tipd.specs.Stages.{IsStage}
+use Rattle.tipd.specs.Stages.{AStage, IsStage}
 use Rattle.tipd.specs.Transcripts.{Acted, Stage}
 use Rattle.tipd.specs.declared.fault.PlayFault.{PlayFault}
 use Rattle.tipd.specs.declared.fault.PlayFault.TheVariants as fault

@@ -1,16 +1,21 @@
 //! The realms of a script, before they start.
-ghost use Rattle.std.specs.Prelude.{◌≡◌, ◌++◌, List, [], IfOk, OnOk, string_bytes};
+ghost use Rattle.std.specs.Prelude.{◌≡◌, ◌++◌, ◌&&◌, true, false, List, [], IfOk, OnOk, IsErrOf, string_bytes};
 ghost use Rattle.std.specs.List.{list_all, flat_map};
 ghost use Rattle.tip_machine.specs.declared.head.Start.{Start};
 ghost use Rattle.tipd.specs.Printing.{start_text};
 ghost use Rattle.tipd.specs.Stages.{Declares, IsDeclared};
 ghost use Rattle.tipd.specs.Standing.{IsScene};
-ghost use Rattle.tipd.specs.Transcripts.{declared, is_other, scene_of, starts_text};
+ghost use Rattle.tipd.specs.Transcripts.{declared, is_other, scene_of, start_of, starts_text};
+ghost use Rattle.tipd.specs.declared.fault.LineFault.TheVariants.{NotUnderstood};
+ghost use Rattle.tip_line.specs.Words.{is_address, is_realm};
+ghost use Rattle.tip_machine.specs.Heads.{are_allowed};
 
+use crate::branches::first_branches;
 use crate::fault::LineFault;
 use crate::playing::{Actor, Playing};
 use crate::printing::print_start;
 use std::alloc::{AllocError, Global};
+use tip_branch::HeldFresh;
 use tip_core::Core;
 use tip_line::{Address, Realm};
 use tip_machine::{Limits, Start};
@@ -20,16 +25,22 @@ const MOST_REALMS: usize = 64;
 
 /// The realms declared so far.
 #[derive(Drop)]
-pub struct Declared {
+pub struct Declared<C = Core, B = HeldFresh> {
+    core: C,
+    no_boxes: B,
     starts: Vec<Start>,
     actors: Vec<Actor>,
 }
 
-impl Declared {
-    pub fn new(alloc: Global) -> Declared
+impl Declared<Core, HeldFresh> {
+    /// None are declared. The core, which has no realms yet, and what a connection is given that comes without boxes, are
+    /// for their start.
+    pub fn new(alloc: Global, core: Core, no_boxes: HeldFresh) -> Declared<Core, HeldFresh>
         ensures { IsDeclared result [] }
     {
         Declared {
+            core,
+            no_boxes,
             starts: Vec::new(alloc),
             actors: Vec::new(alloc),
         }
@@ -51,16 +62,9 @@ impl Declared {
         {
             return Err(LineFault::NotUnderstood);
         }
-        let name = Realm::new(alloc, name.as_bytes())?;
-        let address = Address::new(alloc, address)?;
-        let actor = Actor::new(alloc, name.copy()?);
-        self.actors.push(actor)?;
-        self.starts.push(Start {
-            name,
-            address,
-            limits,
-            epoch: 1,
-        })?;
+        let start = start_of(alloc, name, address, limits)?;
+        self.actors.push(Actor::new(alloc, start.name.copy()?))?;
+        self.starts.push(start)?;
         Ok(self)
     }
 
@@ -69,11 +73,31 @@ impl Declared {
         ensures text { (starts : List Start) → IsDeclared self starts → IfOk result (λ playing. string_bytes printed.new ≡ string_bytes printed.old ++ starts_text starts) }
         ensures scene { (starts : List Start) → IsDeclared self starts → IfOk result (λ playing. IsScene playing.core playing.actors.items (scene_of starts)) }
     {
-        let Declared { starts, actors } = self;
-        let core = Core::new(alloc, starts)?;
+        let Declared {
+            core,
+            no_boxes,
+            starts,
+            actors,
+        } = self;
+        let core = core.start(alloc, starts)?;
         print_starts(printed, &actors)?;
-        Ok(Playing::new(core, actors))
+        Ok(Playing::new(core, no_boxes, actors))
     }
+}
+
+/// What is known of a realm at its start that is declared so.
+fn start_of(alloc: Global, name: &str, address: &[u8], limits: Limits) -> Result<Start, LineFault>
+    requires { are_allowed limits ≡ true }
+    ensures ok { IfOk result (λ start. (start ≡ start_of name.now address.now limits) × (is_realm name.now ≡ true) × (is_address address.now ≡ true)) }
+    ensures bad { IsErrOf result NotUnderstood → (is_realm name.now && is_address address.now) ≡ false }
+{
+    Ok(Start {
+        name: Realm::new(alloc, name.as_bytes())?,
+        address: Address::new(alloc, address)?,
+        limits,
+        branches: first_branches(alloc, limits.branches as u8)?,
+        epoch: 1,
+    })
 }
 
 /// Whether no realm has this name.

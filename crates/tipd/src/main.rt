@@ -1,6 +1,7 @@
 //! `tipd`: the command line, and the input and output of the process.
 #![tactic(auto)]
 
+mod branches;
 mod declared;
 mod fault;
 mod fields;

@@ -1,16 +1,20 @@
 //! Playing a script.
-ghost use Rattle.std.specs.Prelude.{◌≡◌, ◌≤◌, [], length, take, IfOk, IfErr, OnOk, OnErr};
-ghost use Rattle.std.specs.Io.KnownBytes.{Appends};
-ghost use Rattle.tipd.specs.Writing.{Acts, IsFrontOf};
+ghost use Rattle.std.specs.Prelude.{◌≡◌, ℕ, ◌^◌, ◌<◌, ◌≤◌, List, [], ◌∷◌, length, take, Option, IfSome, IfOk, IfErr, OnOk, OnErr};
+ghost use Rattle.std.specs.Io.{ReadsAtMost};
+ghost use Rattle.std.specs.Io.KnownBytes.{Appends, ReadConsumes};
+ghost use Rattle.tipd.specs.Players.{HasPlayed, Plays, PlaysOn};
 ghost use Rattle.tipd.specs.Stages.{IsStage};
-ghost use Rattle.tipd.specs.Transcripts.{Stage as AStage, acted};
-ghost use Rattle.tipd.specs.declared.fault.PlayFault.TheVariants.{Write as CannotWrite};
+ghost use Rattle.tipd.specs.Transcripts.{Stage as AStage, Transcribes, acted};
+ghost use Rattle.tipd.specs.Writing.{Acts, IsFrontOf};
+ghost use Rattle.tipd.specs.declared.fault.PlayFault.TheVariants.{Read as CannotRead, Write as CannotWrite};
 
 use crate::fault::{LineFault, PlayFault};
 use crate::script::OpenLine;
 use crate::stage::Stage;
 use std::alloc::Global;
 use std::io::{ErrorKind, Read, Write};
+use tip_branch::HeldFresh;
+use tip_core::Core;
 
 /// How many octets are read at once.
 const PIECE_LEN: usize = 8_192;
@@ -20,7 +24,9 @@ pub fn play<R: Read, W: Write>(
     alloc: Global,
     input: &mut R,
     output: &mut W,
-) -> Result<(), PlayFault> {
+) -> Result<(), PlayFault>
+    ensures { IfSome (R.remaining input.old) (λ script. Transcribes script (R.remaining input.new) (W.contents output.old) (W.contents output.new) result) }
+{
     let end = play_lines(alloc, input, output);
     let flushed = output.flush();
     end?;
@@ -32,11 +38,13 @@ fn play_lines<R: Read, W: Write>(
     alloc: Global,
     input: &mut R,
     output: &mut W,
-) -> Result<(), PlayFault> {
-    let mut player = Player::new(alloc)?;
+) -> Result<(), PlayFault>
+    ensures { IfSome (R.remaining input.old) (λ script. Transcribes script (R.remaining input.new) (W.contents output.old) (W.contents output.new) result) }
+{
+    let mut player = Player::new(alloc, Core::new(alloc), HeldFresh::none(alloc))?;
     let mut piece = [0u8; PIECE_LEN];
     for _ in 0..u32::MAX {
-        let len = input.read(&mut piece).map_err(|_| PlayFault::Read)?;
+        let len = read_some(input, &mut piece)?;
         if len == 0 {
             return player.end(alloc, output);
         }
@@ -45,10 +53,22 @@ fn play_lines<R: Read, W: Write>(
     Err(PlayFault::Read)
 }
 
+/// Reads some octets, and says how many: none at the end of the script.
+fn read_some<R: Read>(input: &mut R, piece: &mut [u8]) -> Result<usize, PlayFault>
+    ensures bound { ReadsAtMost result piece.new }
+    ensures bytes { ReadConsumes (R.remaining input.old) (R.remaining input.new) result piece.new }
+    ensures fault { IfErr result (λ fault. fault ≡ CannotRead) }
+{
+    match input.read(piece) {
+        Ok(len) => Ok(len),
+        Err(_) => Err(PlayFault::Read),
+    }
+}
+
 /// A script as far as it was read.
 #[derive(Drop)]
-struct Player {
-    stage: Stage,
+struct Player<S = Stage> {
+    stage: S,
     /// The line that is being read, and its number, from 1.
     open_line: OpenLine,
     number: u64,
@@ -56,11 +76,14 @@ struct Player {
     printed: String,
 }
 
-impl Player {
-    fn new(alloc: Global) -> Result<Player, PlayFault> {
+impl Player<Stage> {
+    fn new(alloc: Global, core: Core, no_boxes: HeldFresh) -> Result<Player, PlayFault>
+        ensures { (start : Option (List ℕ)) → Plays [] start start result }
+    {
+        let open_line = OpenLine::new(alloc)?;
         Ok(Player {
-            stage: Stage::new(alloc),
-            open_line: OpenLine::new(alloc)?,
+            stage: Stage::new(alloc, core, no_boxes),
+            open_line,
             number: 1,
             printed: String::new(alloc),
         })
@@ -72,10 +95,12 @@ impl Player {
         alloc: Global,
         octets: &[u8],
         output: &mut W,
-    ) -> Result<Player, PlayFault> {
+    ) -> Result<Player, PlayFault>
+        ensures { PlaysOn self octets.now (W.contents output.old) (W.contents output.new) result }
+    {
         let mut player = self;
-        for octet in octets.iter().copied() {
-            player = player.take_octet(alloc, octet, output)?;
+        for octet in octets {
+            player = player.take_octet(alloc, *octet, output)?;
         }
         Ok(player)
     }
@@ -85,7 +110,9 @@ impl Player {
         alloc: Global,
         octet: u8,
         output: &mut W,
-    ) -> Result<Player, PlayFault> {
+    ) -> Result<Player, PlayFault>
+        ensures { PlaysOn self (octet ∷ []) (W.contents output.old) (W.contents output.new) result }
+    {
         if octet == b'\n' {
             return self.play_line(alloc, output);
         }
@@ -96,8 +123,12 @@ impl Player {
         }
     }
 
-    /// Plays the line that has ended.
-    fn play_line<W: Write>(self, alloc: Global, output: &mut W) -> Result<Player, PlayFault> {
+    /// Plays the open line: its end was read, or that of the script.
+    // As a call it would have the player copied at each octet.
+    #[inline(always)]
+    fn play_line<W: Write>(self, alloc: Global, output: &mut W) -> Result<Player, PlayFault>
+        ensures { PlaysOn self (10 ∷ []) (W.contents output.old) (W.contents output.new) result }
+    {
         let Player {
             stage,
             mut open_line,
@@ -122,21 +153,14 @@ impl Player {
     }
 
     /// Plays what is left at the end of the script; the realms start, if they have not.
-    fn end<W: Write>(self, alloc: Global, output: &mut W) -> Result<(), PlayFault> {
+    fn end<W: Write>(self, alloc: Global, output: &mut W) -> Result<(), PlayFault>
+        ensures { (read : List ℕ) (start left : Option (List ℕ)) → HasPlayed self read start (W.contents output.old) → length read < 2 ^ 62 → Transcribes read left start (W.contents output.new) result }
+    {
         let Player {
             stage,
-            open_line,
-            number,
             mut printed,
-        } = self;
-        let stage = act(
-            stage,
-            alloc,
-            number,
-            open_line.as_slice(),
-            &mut printed,
-            output,
-        )?;
+            ..
+        } = self.play_line(alloc, output)?;
         printed.clear();
         stage.finish(alloc, &mut printed)?;
         write_front(output, printed.as_bytes())

@@ -1,5 +1,5 @@
 //! The realms of a script at work.
-ghost use Rattle.std.specs.Prelude.{◌≡◌, ◌++◌, ℕ, List, [], Some, None, IfOk, OnOk, slice_get, string_bytes};
+ghost use Rattle.std.specs.Prelude.{◌≡◌, ◌++◌, ℕ, List, [], Some, IfOk, OnOk, slice_get, slice_set, string_bytes};
 ghost use Rattle.tip_core.specs.Hosted.{realm as realm_at, Steps};
 ghost use Rattle.tip_machine.specs.States.{State};
 ghost use Rattle.tip_machine.specs.declared.event.Outcome.TheVariants.{NoChange};
@@ -7,13 +7,15 @@ ghost use Rattle.tip_line.specs.Reading.{Item};
 ghost use Rattle.std.specs.List.{position_or_len};
 ghost use Rattle.tipd.specs.Fields.{octets_of};
 ghost use Rattle.tipd.specs.declared.playing.Actor.{Actor};
+ghost use Rattle.tipd.specs.Printing.{answer_text};
 ghost use Rattle.tipd.specs.Scenes.{Acting, Reading, Scene, takes, opens_at, place_of, feeds, loses, with_done, with_opened};
 ghost use Rattle.tipd.specs.Standing.{has_name, IsFound, IsGiven, IsMoved, IsScene, AreReadings, Owes, TakesAll};
 
 use crate::instruction::Octets;
-use crate::printing::print;
+use crate::printing::{print, print_refusal};
 use crate::reader::Reader;
 use std::alloc::{AllocError, Global};
+use tip_branch::HeldFresh;
 use tip_core::Core;
 use tip_line::Realm;
 use tip_machine::{Answer, Event, Outcome, Seat};
@@ -37,6 +39,20 @@ impl Actor {
         }
     }
 
+    /// Another manager has opened a connection, if it was given one: who reads it is ready, and the answer is printed.
+    fn open(
+        &mut self,
+        alloc: Global,
+        answer: &Answer,
+        printed: &mut String,
+    ) -> Result<(), AllocError>
+        ensures { (actors : List Actor) (realm : ℕ) → slice_get actors realm ≡ Some self.old →
+            OnOk result (IsGiven actors (slice_set actors realm self.new) realm self.old answer.now.opened × (string_bytes printed.new ≡ string_bytes printed.old ++ answer_text self.old.name answer.now)) }
+    {
+        self.give(alloc, answer.opened)?;
+        print(printed, alloc, &self.name, answer)
+    }
+
     /// A reader for the connection of this seat, if one was given.
     fn give(&mut self, alloc: Global, opened: Option<Seat>) -> Result<(), AllocError>
         ensures name { self.new.name ≡ self.old.name }
@@ -51,8 +67,10 @@ impl Actor {
 
 /// All realms, each at its place in the order of declaration.
 #[derive(Drop)]
-pub struct Playing {
-    core: Core,
+pub struct Playing<C = Core, B = HeldFresh> {
+    core: C,
+    /// What a connection is given that comes without boxes.
+    no_boxes: B,
     actors: Vec<Actor>,
 }
 
@@ -63,12 +81,16 @@ pub struct Place {
     reader: usize,
 }
 
-impl Playing {
-    pub fn new(core: Core, actors: Vec<Actor>) -> Playing
+impl Playing<Core, HeldFresh> {
+    pub fn new(core: Core, no_boxes: HeldFresh, actors: Vec<Actor>) -> Playing<Core, HeldFresh>
         ensures core { result.core ≡ core }
         ensures actors { result.actors.items ≡ actors.items }
     {
-        Playing { core, actors }
+        Playing {
+            core,
+            no_boxes,
+            actors,
+        }
     }
 
     /// Another manager opens a connection.
@@ -82,20 +104,11 @@ impl Playing {
             OnOk result (IsMoved self.new.core self.new.actors.items (string_bytes printed.old) (string_bytes printed.new) (opens_at name.now (place_of name.now scene) (slice_get scene (place_of name.now scene)) scene)) }
     {
         let realm = self.realm_named(name);
-        let answer = step(&mut self.core, alloc, realm, Event::Open)?;
-        self.give(alloc, realm, answer.opened)?;
-        print(printed, name, &answer)
-    }
-
-    /// A reader for the connection that a realm has given, if it is there and has given one.
-    fn give(&mut self, alloc: Global, realm: usize, opened: Option<Seat>) -> Result<(), AllocError>
-        ensures realms { self.new.core ≡ self.old.core }
-        ensures there { (actor : Actor) → slice_get self.old.actors.items realm ≡ Some actor → OnOk result (IsGiven self.old.actors.items self.new.actors.items realm actor opened) }
-        ensures absent { slice_get self.old.actors.items realm ≡ None → OnOk result (self.new.actors.items ≡ self.old.actors.items) }
-    {
+        let boxes = self.no_boxes.empty_like(alloc);
+        let answer = step(&mut self.core, alloc, realm, Event::Open { boxes })?;
         match self.actors.get_mut(realm) {
-            Some(actor) => actor.give(alloc, opened),
-            None => Ok(()),
+            Some(actor) => actor.open(alloc, &answer, printed),
+            None => print_refusal(printed, name, answer.refusal),
         }
     }
 
@@ -120,7 +133,11 @@ impl Playing {
         ensures { (scene : Scene) (acting : Acting) (reading : Reading) → IsScene self.old.core self.old.actors.items scene → slice_get scene place.realm ≡ Some acting → slice_get acting.readings place.reader ≡ Some reading →
             OnOk result (IsMoved self.new.core self.new.actors.items (string_bytes printed.old) (string_bytes printed.new) (with_done place.realm (feeds (octets_of octets.entry) place.reader reading acting) scene)) }
     {
-        let Playing { core, actors } = self;
+        let Playing {
+            core,
+            no_boxes: _,
+            actors,
+        } = self;
         let Some(actor) = actors.get_mut(place.realm) else {
             return Ok(());
         };
@@ -128,14 +145,7 @@ impl Playing {
             return Ok(());
         };
         reader.feed(octets)?;
-        take_lines(
-            core,
-            alloc,
-            place.realm,
-            actor.name.as_str(),
-            reader,
-            printed,
-        )
+        take_lines(core, alloc, place.realm, &actor.name, reader, printed)
     }
 
     /// A connection is lost.
@@ -148,7 +158,11 @@ impl Playing {
         ensures { (scene : Scene) (acting : Acting) (reading : Reading) → IsScene self.old.core self.old.actors.items scene → slice_get scene place.realm ≡ Some acting → slice_get acting.readings place.reader ≡ Some reading →
             OnOk result (IsMoved self.new.core self.new.actors.items (string_bytes printed.old) (string_bytes printed.new) (with_done place.realm (loses place.reader reading acting) scene)) }
     {
-        let Playing { core, actors } = self;
+        let Playing {
+            core,
+            no_boxes: _,
+            actors,
+        } = self;
         let Some(actor) = actors.get_mut(place.realm) else {
             return Ok(());
         };
@@ -157,7 +171,7 @@ impl Playing {
         };
         let answer = step(core, alloc, place.realm, Event::Lost { seat: reader.seat })?;
         reader.restart_if(alloc, answer.refusal.is_none())?;
-        print(printed, actor.name.as_str(), &answer)
+        print(printed, alloc, &actor.name, &answer)
     }
 
     /// The place of a realm; one behind all realms where it is not declared.
@@ -184,7 +198,7 @@ fn take_lines(
     core: &mut Core,
     alloc: Global,
     realm: usize,
-    name: &str,
+    name: &Realm,
     reader: &mut Reader,
     printed: &mut String,
 ) -> Result<(), AllocError>
@@ -194,7 +208,7 @@ fn take_lines(
     while let Some(heard) = reader.next(alloc)? {
         let seat = reader.seat;
         let answer = step(core, alloc, realm, Event::Line { seat, heard })?;
-        print(printed, name, &answer)?;
+        print(printed, alloc, name, &answer)?;
         if answer.closes(seat.number) {
             reader.restart(alloc)?;
             return Ok(());

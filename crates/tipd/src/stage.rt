@@ -12,19 +12,22 @@ use crate::fault::LineFault;
 use crate::instruction::Instruction;
 use crate::playing::Playing;
 use std::alloc::{AllocError, Global};
+use tip_branch::HeldFresh;
+use tip_core::Core;
 
 /// The realms, before and after their start. The first line that declares none starts them.
 #[derive(Drop)]
-pub enum Stage {
-    Declaring(Declared),
-    Playing(Playing),
+pub enum Stage<D = Declared, P = Playing> {
+    Declaring(D),
+    Playing(P),
 }
 
-impl Stage {
-    pub fn new(alloc: Global) -> Stage
+impl Stage<Declared, Playing> {
+    /// No realms are declared; `Declared::new` says what the core and the boxes are for.
+    pub fn new(alloc: Global, core: Core, no_boxes: HeldFresh) -> Stage<Declared, Playing>
         ensures { IsStage result (Begins []) }
     {
-        Stage::Declaring(Declared::new(alloc))
+        Stage::Declaring(Declared::new(alloc, core, no_boxes))
     }
 
     /// Does what a line says.

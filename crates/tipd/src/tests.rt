@@ -66,7 +66,7 @@ fn a_line_that_is_not_understood_ends_the_script(rt: HostRuntime) -> Result<(), 
     Ok(())
 }
 
-/// Writes so many times, and then no more.
+/// Writes so many times, and then no more, nor does it flush.
 #[derive(Drop)]
 struct Failing {
     writes: u32,
@@ -82,6 +82,9 @@ impl Write for Failing {
     }
 
     fn flush(&mut self) -> io::Result<()> {
+        if self.writes == 0 {
+            return Err(io::Error::from(io::ErrorKind::BrokenPipe));
+        }
         Ok(())
     }
 }
@@ -90,6 +93,9 @@ impl Write for Failing {
 fn output_that_fails_ends_the_script(rt: HostRuntime) -> Result<(), Fail> {
     let script = b"realm north n.x 8 8 1 8 100\nopen north -\nopen north -\n";
     let mut output = Failing { writes: 1 };
+    let end = play(rt.alloc(), &mut script.as_slice(), &mut output);
+    assert_eq!(rt; end, Err(PlayFault::Write));
+    let mut output = Failing { writes: 2 };
     let end = play(rt.alloc(), &mut script.as_slice(), &mut output);
     assert_eq!(rt; end, Err(PlayFault::Write));
     Ok(())

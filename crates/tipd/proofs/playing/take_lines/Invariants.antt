@@ -7,8 +7,8 @@ use Rattle.tipd.proofs.Taking.{Goes}
 use Rattle.tipd.proofs.playing.take_lines.Given as goal
 
 abbrev pub invariant-loop-heard : goal.invariant-loop-heard
-invariant-loop-heard l = (state : State) (items : List Item) (heard : List ℕ) → realm l.fn.core l.realm ≡ Some state → Owes l.fn.reader items heard →
+invariant-loop-heard g l = (state : State) (items : List Item) (heard : List ℕ) → realm l.fn.core l.realm ≡ Some state → Owes l.fn.reader items heard →
     Goes l.fn.core l.core l.realm l.fn.reader l.reader (string_bytes l.fn.printed) (string_bytes l.printed) l.name items heard state
 
 abbrev pub decreases-loop-heard : goal.decreases-loop-heard
-decreases-loop-heard l = length (gives l.reader [])
+decreases-loop-heard g l = length (gives l.reader [])

@@ -5,4 +5,4 @@ use Rattle.tipd.proofs.printing.print_told.Given as goal
 
 -- what was printed, and then the text of what is left, is what all print
 abbrev pub invariant-loop-told : goal.invariant-loop-told
-invariant-loop-told l = string_bytes l.printed ++ flat_map (told_text l.name) (drop l.told-index l.all) ≡ string_bytes l.fn.printed ++ flat_map (told_text l.name) l.all
+invariant-loop-told l = string_bytes l.printed ++ flat_map (told_text l.realm) (drop l.told-index l.all) ≡ string_bytes l.fn.printed ++ flat_map (told_text l.realm) l.all

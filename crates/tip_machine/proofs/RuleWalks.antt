@@ -1,0 +1,378 @@
+-- Each rule keeps what each single change keeps.
+use Rattle.std.proofs.Common.{◌≡◌, ℕ, List, Option, Some, None, refl}
+use Rattle.std.specs.Prelude.{◌&&◌, nat_le, not, find, is_some}
+use Rattle.std.specs.List.{list_any}
+use Rattle.std.specs.Option.{IfSome, option_and_then, option_map_or}
+use Rattle.std.proofs.lemmas.Option.{none-some}
+use Rattle.tip_branch.specs.Notes.{PartyNotes}
+use Rattle.tip_branch.specs.declared.member.Errand.{Errand}
+use Rattle.tip_branch.specs.declared.member.Errand.TheVariants as errand
+use Rattle.tip_line.specs.Command.{name_of}
+use Rattle.tip_line.specs.declared.command.Command.{Command}
+use Rattle.tip_line.specs.declared.command.Command.TheVariants.{Identify, Begin, Push, Pull, Prepare, Commit, Abort, Query, Reconnect, Multiplex, Tls, Error}
+use Rattle.tip_line.specs.declared.command.CommandName.{CommandName}
+use Rattle.tip_line.specs.declared.command.CommandName.TheVariants as command
+use Rattle.tip_line.specs.declared.response.ResponseName.{ResponseName}
+use Rattle.tip_conn.specs.Table.{admit_of, next_of}
+use Rattle.tip_conn.specs.declared.state.Admit.{Admit}
+use Rattle.tip_conn.specs.declared.state.Admit.TheVariants.{Serve, Wrong}
+use Rattle.tip_conn.specs.declared.state.State.{State as ConnectionState}
+use Rattle.tip_conn.specs.declared.state.Turn.{Turn}
+use Rattle.tip_rows.specs.Keys.{Place as Key}
+use Rattle.tip_txn.specs.Parts.{answer_at, answered, is_enlisted}
+use Rattle.tip_txn.specs.declared.answer.Answer.TheVariants.{Lost}
+use Rattle.tip_txn.specs.declared.answer.Decision.{Decision}
+use Rattle.tip_txn.specs.declared.answer.Decision.TheVariants as decision
+use Rattle.tip_txn.specs.declared.answer.Phase.{Phase}
+use Rattle.tip_txn.specs.declared.answer.Phase.TheVariants as phase
+use Rattle.tip_txn.specs.declared.part.Participant.{Participant}
+use Rattle.tip_machine.specs.Types.{Connection, PartyPlace, Transaction}
+use Rattle.tip_machine.specs.Answers.{response_name}
+use Rattle.tip_machine.specs.Connections.{is_on, is_superior_of, moved, moved_to, identified, awaiting, owing, taking}
+use Rattle.tip_machine.specs.Transactions.{decision_of, enlisting, entering, has_ready, is_active, is_done, is_known, is_prepared, is_spent, next_key, noting, standing_at}
+use Rattle.tip_machine.specs.States.{Attempt, State, Work, connection_of, has_room, identified_by, transaction_of}
+use Rattle.tip_machine.specs.Changes.{alter, change, end, reply, send, tell}
+use Rattle.tip_machine.specs.Reactions.{aborts, asks, commits, needs_nothing, promises, react}
+use Rattle.tip_machine.specs.Settling.{abort, agree, ask, asked_for_votes, commit, conclude, dispatch, dispatched, enter, errand_in, finish, give_out, leave, let_go, owed_to_superior, promise, release, settle, settle_in, wait}
+use Rattle.tip_machine.specs.Failing.{closed, fail, gone, lost_unanswered, missed, part_lost, superior_lost, wrong}
+use Rattle.tip_machine.specs.Commands.{begin, commanded, decide_abort, decide_commit, identify, make, obey, prepare, pull, pull_into, push, push_new, query, reconnect, reconnect_to, serve, serve_if, superior_role, take_over}
+use Rattle.tip_machine.specs.Served.{Serving}
+use Rattle.tip_machine.specs.declared.answer.Asked.{Asked}
+use Rattle.tip_machine.specs.declared.answer.Item.TheVariants.{Close}
+use Rattle.tip_machine.specs.declared.answer.Said.{Said}
+use Rattle.tip_machine.specs.declared.answer.Said.TheVariants as said
+use Rattle.tip_machine.specs.declared.connection.Awaited.{Awaited}
+use Rattle.tip_machine.specs.declared.connection.Role.{Role}
+use Rattle.tip_machine.specs.declared.connection.Role.TheVariants.{Superior, Subordinate}
+use Rattle.tip_machine.specs.declared.transaction.Origin.{Origin}
+use Rattle.tip_machine.specs.declared.transaction.Origin.TheVariants as origin
+use Rattle.tip_machine.specs.declared.transaction.PartyPlace.TheVariants.{Here, Out, Spent}
+use Rattle.tip_machine.proofs.Walks.{AtOne, Closed, Ends, Is, at_one, attempt_on_each, either, either_ends, found_passes, is_or_any, key_of, more_ends, on_asked, on_each, on_found, or_any}
+
+moved_to-number : (place : Option (ConnectionState × Turn)) (c : Connection) → (moved_to place c).number ≡ c.number
+moved_to-number None c = refl
+moved_to-number (Some place) c = refl
+
+pub moved-number : (command : CommandName) (response : ResponseName) (c : Connection) → (moved command response c).number ≡ c.number
+moved-number command response c = moved_to-number (next_of command c.state response) c
+
+moved_to-made : (place : Option (ConnectionState × Turn)) (c : Connection) → (moved_to place c).made ≡ c.made
+moved_to-made None c = refl
+moved_to-made (Some place) c = refl
+
+pub moved-made : (command : CommandName) (response : ResponseName) (c : Connection) → (moved command response c).made ≡ c.made
+moved-made command response c = moved_to-made (next_of command c.state response) c
+
+module _ (R : Work → Work → Type 0) (May : ℕ → Type 0) (On : Key → Type 0) (k : Closed R May On) where
+  -- Steps of work
+
+  reply-keeps : (n : ℕ) (command : CommandName) (said : Said) (w : Work) → May n → R w (reply n command said w)
+  unfolding reply
+  reply-keeps n command said w may = k.then w _ _ (k.tells w _) (k.changes n (moved command (response_name said)) _ may (moved-number command (response_name said)) (moved-made command (response_name said)))
+
+  pub send-keeps : (n : ℕ) (awaited : Awaited) (asked : Asked) (w : Work) → May n → R w (send n awaited asked w)
+  unfolding send
+  send-keeps n awaited asked w may = k.then w _ _ (k.tells w _) (k.changes n (awaiting awaited) _ may (λ c. refl) (λ c. refl))
+
+  pub taking-keeps : (n : ℕ) (role : Role) (w : Work) → May n → R w (change n (taking role) w)
+  taking-keeps n role w may = k.changes n (taking role) w may (λ c. refl) (λ c. refl)
+
+  pub standing-keeps : (place : PartyPlace) (key : Key) (w : Work) → On key → R w (alter key (standing_at place) w)
+  standing-keeps place key w on = k.alters key (standing_at place) w on (λ t. refl)
+
+  pub noting-keeps : (part : ℕ) (note : Participant → Participant) (key : Key) (w : Work) → On key → R w (alter key (noting part note) w)
+  noting-keeps part note key w on = k.alters key (noting part note) w on (λ t. refl)
+
+  pub enlisting-keeps : (part : Participant) (key : Key) (w : Work) → On key → R w (alter key (enlisting part) w)
+  enlisting-keeps part key w on = k.alters key (enlisting part) w on (λ t. refl)
+
+  -- Two-phase commit
+
+  enter-keeps : (phase : Phase) (key : Key) (w : Work) → On key → R w (enter phase key w)
+  enter-keeps phase key w on = k.alters key (entering phase) w on (λ t. refl)
+
+  give_out-keeps : (errand : Errand) (party : PartyNotes) (key : Key) (w : Work) → On key → R w (give_out errand party key w)
+  give_out-keeps errand party key w on = k.then w (alter key (standing_at (Out errand)) w) _ (standing-keeps (Out errand) key w on) (k.works _ _)
+
+  let_go-keeps : (party : PartyNotes) (key : Key) (w : Work) → On key → R w (let_go party key w)
+  let_go-keeps party key w on = k.then w (alter key (standing_at Spent) w) _ (standing-keeps Spent key w on) (k.spends _ _)
+
+  dispatched-keeps : (place : PartyPlace) (phase : Phase) (key : Key) (w : Work) → On key → R w (dispatched place phase key w)
+  dispatched-keeps (Here party) phase key w on = either (R w) (has_ready party) (give_out (errand_in phase) party key w) (let_go party key w) (give_out-keeps (errand_in phase) party key w on) (let_go-keeps party key w on)
+  dispatched-keeps (Out errand) phase key w on = k.same w
+  dispatched-keeps Spent phase key w on = k.same w
+
+  pub dispatch-keeps : (key : Key) (w : Work) → On key → R w (dispatch key w)
+  unfolding dispatch
+  dispatch-keeps key w on = on_each (R w) (transaction_of key w.state) (λ t. dispatched t.place t.txn.phase key) w (k.same w) (λ t is. dispatched-keeps t.place t.txn.phase key w on)
+
+  release-keeps : (key : Key) (w : Work) → On key → R w (release key w)
+  unfolding release
+  release-keeps key w on = on_each (R w) (transaction_of key w.state) _ w (k.same w) (λ t is. either (R w) (is_spent t.place && not (list_any (is_on key) w.state.connections)) (end key w) w (k.ends key w on) (k.same w))
+
+  pub abort-keeps : (key : Key) (w : Work) → On key → R w (abort key w)
+  unfolding abort
+  abort-keeps key w on =
+      let entered = enter phase.Aborted key w in
+      let told = react aborts key entered in
+      let sent = dispatch key told in
+      k.then w entered _ (enter-keeps phase.Aborted key w on) (k.then entered told _ (k.reacts aborts key entered on) (k.then told sent _ (dispatch-keeps key told on) (release-keeps key sent on)))
+
+  commit-keeps : (key : Key) (w : Work) → On key → R w (commit key w)
+  unfolding commit
+  commit-keeps key w on =
+      let entered = enter phase.Committed key w in
+      let told = react commits key entered in
+      k.then w entered _ (enter-keeps phase.Committed key w on) (k.then entered told _ (k.reacts commits key entered on) (dispatch-keeps key told on))
+
+  promise-keeps : (key : Key) (w : Work) → On key → R w (promise key w)
+  unfolding promise
+  promise-keeps key w on = k.then w (enter phase.Prepared key w) _ (enter-keeps phase.Prepared key w on) (k.reacts promises key _ on)
+
+  leave-keeps : (key : Key) (w : Work) → On key → R w (leave key w)
+  unfolding leave
+  leave-keeps key w on =
+      let told = react needs_nothing key w in
+      k.then w told _ (k.reacts needs_nothing key w on) (k.then told (dispatch key told) _ (dispatch-keeps key told on) (k.ends key _ on))
+
+  agree-keeps : (owed : Option CommandName) (from : Origin) (t : Transaction) (w : Work) → On t.key → Ends (R w) (agree owed from t w)
+  agree-keeps (Some command.Prepare) (origin.Subordinate (Some address) superior) t w on = (promise-keeps t.key w on, abort-keeps t.key w on)
+  agree-keeps (Some command.Commit) from t w on = (commit-keeps t.key w on, abort-keeps t.key w on)
+  agree-keeps other from t w on = k.same w
+
+  wait-keeps : (phase : Phase) (key : Key) (w : Work) → On key → R w (wait phase key w)
+  wait-keeps phase.Asking key w on = k.reacts asks key w on
+  wait-keeps other key w on = k.same w
+
+  conclude-keeps : (decision : Decision) (t : Transaction) (w : Work) → On t.key → Ends (R w) (conclude decision t w)
+  conclude-keeps decision.Wait t w on = wait-keeps t.txn.phase t.key w on
+  conclude-keeps decision.Commit t w on = agree-keeps (owed_to_superior t.key w.state) t.origin t w on
+  conclude-keeps decision.Abort t w on = abort-keeps t.key w on
+  conclude-keeps decision.ReadOnly t w on = leave-keeps t.key w on
+
+  pub finish-keeps : (v : Work) (t : Transaction) (w : Work) → On t.key → R v w → Ends (R v) (finish t w)
+  unfolding finish
+  finish-keeps v t w on r = either_ends (R v) (is_done t) _ _ (k.then v w _ r (k.ends t.key w on), r) r
+
+  settle_in-keeps : (phase : Phase) (t : Transaction) (w : Work) → On t.key → Ends (R w) (settle_in phase t w)
+  settle_in-keeps phase.Active t w on = conclude-keeps (decision_of t) t w on
+  settle_in-keeps phase.Asking t w on = conclude-keeps (decision_of t) t w on
+  settle_in-keeps phase.Prepared t w on = k.same w
+  settle_in-keeps phase.Committed t w on = finish-keeps w t (react commits t.key w) on (k.reacts commits t.key w on)
+  settle_in-keeps phase.Aborted t w on = abort-keeps t.key w on
+
+  settle-here : (key : Key) (w : Work) → On key → Ends (R w) (settle key w)
+  unfolding settle
+  settle-here key w on = attempt_on_each (R w) (transaction_of key w.state) (λ t. settle_in t.txn.phase t) w (k.same w) (λ t is. settle_in-keeps t.txn.phase t w (on_found On key w.state.transactions t is on))
+
+  -- what keeps what was kept
+  more : (a : Attempt) (v w : Work) → R v w → Ends (R w) a → Ends (R v) a
+  more a v w r p = more_ends (R w) (R v) (λ u. k.then v w u r) a p
+
+  pub settle-keeps : (v : Work) (key : Key) (w : Work) → On key → R v w → Ends (R v) (settle key w)
+  settle-keeps v key w on r = more (settle key w) v w r (settle-here key w on)
+
+  asked-keeps : (place : PartyPlace) (key : Key) (w : Work) → On key → R w (asked_for_votes place key w)
+  asked-keeps (Here party) key w on = give_out-keeps errand.Vote party key w on
+  asked-keeps (Out errand) key w on = k.same w
+  asked-keeps Spent key w on = k.same w
+
+  ask-keeps : (t : Transaction) (w : Work) → On t.key → Ends (R w) (ask t w)
+  unfolding ask
+  ask-keeps t w on =
+      let entered = enter phase.Asking t.key w in
+      settle-keeps w t.key (asked_for_votes t.place t.key entered) on (k.then w entered _ (enter-keeps phase.Asking t.key w on) (asked-keeps t.place t.key entered on))
+
+  -- Failing and closing
+
+  gone-keeps : (c : Connection) (w : Work) → May c.number → R w (gone c w)
+  unfolding gone
+  gone-keeps c w may = k.then w _ _ (k.takes c.number w may) (k.hands _ _)
+
+  displaced-keeps : (key : Key) (c : Connection) (w v : Work) → On key → find (is_superior_of key) w.state.connections ≡ Some c → R w v → R w (gone c v)
+  unfolding gone
+  displaced-keeps key c w v on is r = k.then w _ _ (k.displaces key c w v on is r) (k.hands _ _)
+
+  superior_lost-keeps : (phase : Phase) (key : Key) (w : Work) → On key → R w (superior_lost phase key w)
+  superior_lost-keeps phase.Active key w on = abort-keeps key w on
+  superior_lost-keeps phase.Asking key w on = abort-keeps key w on
+  superior_lost-keeps phase.Prepared key w on = k.same w
+  superior_lost-keeps phase.Committed key w on = k.same w
+  superior_lost-keeps phase.Aborted key w on = abort-keeps key w on
+
+  unanswered-keeps : (part : ℕ) (t : Transaction) (w : Work) → On t.key → R w (lost_unanswered part t w)
+  unanswered-keeps part t w on =
+      let noted = alter t.key (noting part (answered Lost)) w in
+      either (R w) (is_some (answer_at t.txn.parts part)) w (abort t.key noted) (k.same w) (k.then w noted _ (noting-keeps part (answered Lost) t.key w on) (abort-keeps t.key noted on))
+
+  part_lost-keeps : (phase : Phase) (part : ℕ) (t : Transaction) (w : Work) → On t.key → R w (part_lost phase part t w)
+  part_lost-keeps phase.Active part t w on = unanswered-keeps part t w on
+  part_lost-keeps phase.Asking part t w on = unanswered-keeps part t w on
+  part_lost-keeps phase.Prepared part t w on = k.same w
+  part_lost-keeps phase.Committed part t w on = k.same w
+  part_lost-keeps phase.Aborted part t w on = abort-keeps t.key w on
+
+  missed-keeps : (role : Option Role) (w : Work) → IfSome (key_of role) On → R w (missed role w)
+  missed-keeps None w on = k.same w
+  missed-keeps (Some (Superior key)) w on = on_each (R w) (transaction_of key w.state) _ w (k.same w) (λ t is. superior_lost-keeps t.txn.phase key w on)
+  missed-keeps (Some (Subordinate key part)) w on = on_each (R w) (transaction_of key w.state) _ w (k.same w) (λ t is. part_lost-keeps t.txn.phase part t w (on_found On key w.state.transactions t is on))
+
+  -- where it may be gone, it may fail
+  fail_from : (c : Connection) (v w : Work) → IfSome (key_of c.role) On → R v (gone c w) → R v (fail c w)
+  unfolding fail
+  fail_from c v w on r = k.then v (gone c w) _ r (missed-keeps c.role (gone c w) on)
+
+  pub fail-keeps : (c : Connection) (w : Work) → May c.number → IfSome (key_of c.role) On → R w (fail c w)
+  fail-keeps c w may on = fail_from c w w on (gone-keeps c w may)
+
+  pub closed-keeps : (c : Connection) (w : Work) → May c.number → IfSome (key_of c.role) On → R w (closed c w)
+  unfolding closed
+  closed-keeps c w may on = k.then w _ _ (k.tells w _) (fail-keeps c _ may on)
+
+  closed_earlier : (key : Key) (c : Connection) (w v : Work) → On key → find (is_superior_of key) w.state.connections ≡ Some c → R w v → R w (closed c v)
+  unfolding closed
+  closed_earlier key c w v on is r =
+      let told = tell c.number Close v in
+      fail_from c w told (on_asked On key c.role (found_passes (is_superior_of key) w.state.connections c is) on) (displaced-keeps key c w told on is (k.then w v told r (k.tells v _)))
+
+  pub wrong-keeps : (c : Connection) (w : Work) → May c.number → IfSome (key_of c.role) On → R w (wrong c w)
+  unfolding wrong
+  wrong-keeps c w may on = k.then w _ _ (k.tells w _) (closed-keeps c _ may on)
+
+  -- Commands
+
+  identify-keeps : (lowest highest : ℕ) (peer : Option (List ℕ)) (c : Connection) (w : Work) → May c.number → IfSome (key_of c.role) On → R w (identify lowest highest peer c w)
+  unfolding identify
+  identify-keeps lowest highest peer c w may on = either (R w) (nat_le lowest 3 && nat_le 3 highest) _ (wrong c w) (k.then w _ _ (k.tells w _) (k.changes c.number (identified peer) _ may (moved-number _ _) (moved-made _ _))) (wrong-keeps c w may on)
+
+  begin-keeps : (c : Connection) (w : Work) → May c.number → On (next_key w.state.head c) → connection_of c.number w.state ≡ Some c → R w (begin c w)
+  unfolding begin
+  begin-keeps c w may on is = either (R w) (has_room c w.state) _ _ (k.then w (make origin.Root c w) _ (k.makes origin.Root c w may on is) (reply-keeps c.number _ _ _ may)) (reply-keeps c.number _ _ w may)
+
+  push_new-keeps : (superior : List ℕ) (c : Connection) (w : Work) → May c.number → On (next_key w.state.head c) → connection_of c.number w.state ≡ Some c → R w (push_new superior c w)
+  push_new-keeps superior c w may on is = either (R w) (has_room c w.state) _ _ (k.then w (make (origin.Subordinate c.peer superior) c w) _ (k.makes _ c w may on is) (reply-keeps c.number _ _ _ may)) (reply-keeps c.number _ _ w may)
+
+  known-keeps : (found : Option Transaction) (superior : List ℕ) (c : Connection) (w : Work) → May c.number → On (next_key w.state.head c) → connection_of c.number w.state ≡ Some c → R w (option_map_or (λ t. reply c.number command.Push (said.AlreadyPushed t.key) w) found (push_new superior c w))
+  known-keeps None superior c w may on is = push_new-keeps superior c w may on is
+  known-keeps (Some t) superior c w may on is = reply-keeps c.number _ _ w may
+
+  push-keeps : (superior : List ℕ) (c : Connection) (w : Work) → May c.number → On (next_key w.state.head c) → connection_of c.number w.state ≡ Some c → R w (push superior c w)
+  unfolding push
+  push-keeps superior c w may on is = known-keeps (find (is_known c.peer superior) w.state.transactions) superior c w may on is
+
+  pull_into-keeps : (found : Option Transaction) (peer : Option (List ℕ)) (subordinate : List ℕ) (n : ℕ) (w : Work) → May n → IfSome found (λ t. On t.key) → R w (pull_into found peer subordinate n w)
+  pull_into-keeps (Some t) (Some address) subordinate n w may on =
+      either (R w) (is_active t.txn.phase && not (is_enlisted t.txn.parts address (Some subordinate))) _ _
+      (k.then w _ _ (reply-keeps n _ _ w may) (k.then _ _ _ (enlisting-keeps _ t.key _ on) (taking-keeps n _ _ may)))
+      (reply-keeps n _ _ w may)
+  pull_into-keeps None peer subordinate n w may on = reply-keeps n _ _ w may
+  pull_into-keeps (Some t) None subordinate n w may on = reply-keeps n _ _ w may
+
+  query-keeps : (superior : List ℕ) (c : Connection) (w : Work) → May c.number → R w (query superior c w)
+  unfolding query
+  query-keeps superior c w may = reply-keeps c.number _ _ w may
+
+  reconnected-keeps : (key : Key) (n : ℕ) (w : Work) → May n → R w (change n (taking (Superior key)) (reply n command.Reconnect said.Reconnected w))
+  reconnected-keeps key n w may = k.then w _ _ (reply-keeps n _ _ w may) (taking-keeps n _ _ may)
+
+  take_over-keeps : (key : Key) (n : ℕ) (earlier : Option Connection) (w : Work) → find (is_superior_of key) w.state.connections ≡ earlier → May n → On key → R w (take_over key n earlier w)
+  take_over-keeps key n None w is may on = reconnected-keeps key n w may
+  take_over-keeps key n (Some c) w is may on = closed_earlier key c w _ on is (reconnected-keeps key n w may)
+
+  reconnect_to-keeps : (found : Option Transaction) (n : ℕ) (w : Work) → May n → IfSome found (λ t. On t.key) → R w (reconnect_to found n w)
+  reconnect_to-keeps None n w may on = reply-keeps n _ _ w may
+  reconnect_to-keeps (Some t) n w may on = either (R w) (is_prepared t.txn.phase) (take_over t.key n (find (is_superior_of t.key) w.state.connections) w) _ (take_over-keeps t.key n _ w refl may on) (reply-keeps n _ _ w may)
+
+  prepare-keeps : (phase : Phase) (peer : Option (List ℕ)) (c : Connection) (t : Transaction) (w : Work) → On t.key → Ends (R w) (prepare phase peer c t w)
+  prepare-keeps phase.Active (Some address) c t w on = ask-keeps t w on
+  prepare-keeps phase.Active None c t w on = abort-keeps t.key w on
+  prepare-keeps phase.Asking peer c t w on = k.same w
+  prepare-keeps phase.Prepared peer c t w on = k.same w
+  prepare-keeps phase.Committed peer c t w on = k.same w
+  prepare-keeps phase.Aborted peer c t w on = abort-keeps t.key w on
+
+  decide_commit-keeps : (phase : Phase) (c : Connection) (t : Transaction) (w : Work) → May c.number → IfSome (key_of c.role) On → On t.key → Ends (R w) (decide_commit phase c t w)
+  decide_commit-keeps phase.Active c t w may role on = ask-keeps t w on
+  decide_commit-keeps phase.Asking c t w may role on = k.same w
+  decide_commit-keeps phase.Prepared c t w may role on = (commit-keeps t.key w on, closed-keeps c w may role)
+  decide_commit-keeps phase.Committed c t w may role on = k.same w
+  decide_commit-keeps phase.Aborted c t w may role on = abort-keeps t.key w on
+
+  decide_abort-keeps : (phase : Phase) (c : Connection) (t : Transaction) (w : Work) → May c.number → IfSome (key_of c.role) On → On t.key → Ends (R w) (decide_abort phase c t w)
+  decide_abort-keeps phase.Active c t w may role on = abort-keeps t.key w on
+  decide_abort-keeps phase.Asking c t w may role on = k.same w
+  decide_abort-keeps phase.Prepared c t w may role on = (abort-keeps t.key w on, closed-keeps c w may role)
+  decide_abort-keeps phase.Committed c t w may role on = k.same w
+  decide_abort-keeps phase.Aborted c t w may role on = abort-keeps t.key w on
+
+  on_obeyed : (role : Option Role) (state : State) (t : Transaction) → option_and_then (λ key. transaction_of key state) (superior_role role) ≡ Some t → IfSome (key_of role) On → On t.key
+  on_obeyed None state t is on = absurd (none-some t is)
+  on_obeyed (Some (Superior key)) state t is on = on_found On key state.transactions t is on
+  on_obeyed (Some (Subordinate key part)) state t is on = absurd (none-some t is)
+
+  obey-keeps : (command : CommandName) (rule : Transaction → Work → Attempt) (c : Connection) (w : Work) → May c.number → IfSome (key_of c.role) On → ((t : Transaction) (v : Work) → On t.key → Ends (R v) (rule t v)) → Ends (R w) (obey command rule c w)
+  obey-keeps command rule c w may on keeps =
+      let owed = change c.number (owing command) w in
+      more (obey command rule c w) w owed (k.changes c.number (owing command) w may (λ c. refl) (λ c. refl)) (attempt_on_each (R owed) (option_and_then (λ key. transaction_of key owed.state) (superior_role c.role)) rule owed (k.same owed) (λ t is. keeps t owed (on_obeyed c.role owed.state t is on)))
+
+-- Any command, where what is touched is the transaction of some one key
+module _ (R : Key → Work → Work → Type 0) (May : ℕ → Type 0) (k : (key : Key) → Closed (R key) May (Is key)) where
+  replied : (c : Connection) (command : CommandName) (said : Said) (w : Work) → May c.number → AtOne R w (reply c.number command said w)
+  replied c command said w may = let key = or_any None in (key, reply-keeps (R key) May (Is key) (k key) c.number command said w may)
+
+  pub closes : (c : Connection) (w : Work) → May c.number → AtOne R w (closed c w)
+  closes c w may = let key = or_any (key_of c.role) in (key, closed-keeps (R key) May (Is key) (k key) c w may (is_or_any (key_of c.role)))
+
+  pub goes_wrong : (c : Connection) (w : Work) → May c.number → AtOne R w (wrong c w)
+  goes_wrong c w may = let key = or_any (key_of c.role) in (key, wrong-keeps (R key) May (Is key) (k key) c w may (is_or_any (key_of c.role)))
+
+  identifies : (lowest highest : ℕ) (peer : Option (List ℕ)) (c : Connection) (w : Work) → May c.number → AtOne R w (identify lowest highest peer c w)
+  identifies lowest highest peer c w may = let key = or_any (key_of c.role) in (key, identify-keeps (R key) May (Is key) (k key) lowest highest peer c w may (is_or_any (key_of c.role)))
+
+  begins : (c : Connection) (w : Work) → May c.number → connection_of c.number w.state ≡ Some c → AtOne R w (begin c w)
+  begins c w may is = let key = next_key w.state.head c in (key, begin-keeps (R key) May (Is key) (k key) c w may refl is)
+
+  pushes : (superior : List ℕ) (c : Connection) (w : Work) → May c.number → connection_of c.number w.state ≡ Some c → AtOne R w (push superior c w)
+  pushes superior c w may is = let key = next_key w.state.head c in (key, push-keeps (R key) May (Is key) (k key) superior c w may refl is)
+
+  -- what is done with the transaction that was found
+  for_found : (found : Option Transaction) (w v : Work) → ((key : Key) → IfSome found (λ t. t.key ≡ key) → R key w v) → AtOne R w v
+  for_found None w v keeps = let key = or_any None in (key, keeps key tt)
+  for_found (Some t) w v keeps = (t.key, keeps t.key refl)
+
+  pulls : (superior subordinate : List ℕ) (c : Connection) (w : Work) → May c.number → AtOne R w (pull superior subordinate c w)
+  unfolding pull
+  pulls superior subordinate c w may = let found = identified_by superior w.state in for_found found w _ (λ key on. pull_into-keeps (R key) May (Is key) (k key) found c.peer subordinate c.number w may on)
+
+  reconnects : (subordinate : List ℕ) (c : Connection) (w : Work) → May c.number → AtOne R w (reconnect subordinate c w)
+  unfolding reconnect
+  reconnects subordinate c w may = let found = identified_by subordinate w.state in for_found found w _ (λ key on. reconnect_to-keeps (R key) May (Is key) (k key) found c.number w may on)
+
+  -- a rule of the superior's transaction
+  obeys : (command : CommandName) (rule : Transaction → Work → Attempt) (c : Connection) (w : Work) → May c.number → ((key : Key) → IfSome (key_of c.role) (Is key) → (t : Transaction) (v : Work) → t.key ≡ key → Ends (R key v) (rule t v)) → Ends (AtOne R w) (obey command rule c w)
+  obeys command rule c w may keeps =
+      let key = or_any (key_of c.role) in
+      let on = is_or_any (key_of c.role) in
+      at_one R w key (obey command rule c w) (obey-keeps (R key) May (Is key) (k key) command rule c w may on (keeps key on))
+
+  serves : (command : Command) (c : Connection) (w : Work) → May c.number → connection_of c.number w.state ≡ Some c → Ends (AtOne R w) (serve command c w)
+  serves (Identify lowest highest peer secondary) c w may is = identifies lowest highest peer c w may
+  serves Begin c w may is = begins c w may is
+  serves (Push superior) c w may is = pushes superior c w may is
+  serves (Pull superior subordinate) c w may is = pulls superior subordinate c w may
+  serves Prepare c w may is = obeys command.Prepare _ c w may (λ key role t v on. prepare-keeps (R key) May (Is key) (k key) t.txn.phase c.peer c t v on)
+  serves Commit c w may is = obeys command.Commit _ c w may (λ key role t v on. decide_commit-keeps (R key) May (Is key) (k key) t.txn.phase c t v may role on)
+  serves Abort c w may is = obeys command.Abort _ c w may (λ key role t v on. decide_abort-keeps (R key) May (Is key) (k key) t.txn.phase c t v may role on)
+  serves (Query superior) c w may is = let key = or_any None in (key, query-keeps (R key) May (Is key) (k key) superior c w may)
+  serves (Reconnect subordinate) c w may is = reconnects subordinate c w may
+  serves (Multiplex protocol) c w may is = replied c _ _ w may
+  serves Tls c w may is = replied c _ _ w may
+  serves Error c w may is = closes c w may
+
+  serves_if : (serving : Serving) (admit : Admit) (command : Command) (c : Connection) (w : Work) → May c.number → connection_of c.number w.state ≡ Some c → Ends (AtOne R w) (serve_if serving admit command c w)
+  serves_if serving Serve command c w may is = either_ends (AtOne R w) (serving.commands (name_of command)) (serve command c w) _ (serves command c w may is) (goes_wrong c w may)
+  serves_if serving Wrong command c w may is = goes_wrong c w may
+
+  pub is_commanded : (serving : Serving) (command : Command) (c : Connection) (w : Work) → May c.number → connection_of c.number w.state ≡ Some c → Ends (AtOne R w) (commanded serving command c w)
+  unfolding commanded
+  is_commanded serving command c w may is = serves_if serving (admit_of c.state c.side (name_of command)) command c w may is

@@ -1,0 +1,154 @@
+-- What a step leaves of a realm's counts, and what a refusal leaves.
+use Rattle.std.proofs.Common.{◌≡◌, ◌≤◌, Bool, ℕ, ◌+◌, List, Some, None, refl, ap, arith, sym, ◌∙◌, ◌⊎◌, inl, inr}
+use Rattle.std.specs.Prelude.{◌&&◌, IsSome, length}
+use Rattle.std.proofs.lemmas.Option.{same_Some, none-some}
+use Rattle.tip_branch.specs.declared.branch.Plan.{Plan}
+use Rattle.tip_line.specs.declared.refusal.Refusal.{Refusal}
+use Rattle.tip_line.specs.declared.refusal.Refusal.TheVariants.{Full, Frozen}
+use Rattle.tip_machine.specs.Types.{Event}
+use Rattle.tip_machine.specs.Heads.{IsCounted}
+use Rattle.tip_machine.specs.Connections.{accepted}
+use Rattle.tip_machine.specs.States.{Attempt, State, Work, has_place}
+use Rattle.tip_machine.specs.Changes.{refuse}
+use Rattle.tip_machine.specs.Order.{ordered}
+use Rattle.tip_machine.specs.Requests.{added, dial, hand_back, opened}
+use Rattle.tip_machine.specs.Served.{Serving}
+use Rattle.tip_machine.specs.Steps.{attempt, chosen, entered, frozen, is_open, returned, step_serving, ChangesTheEntriesAlone, IsNext}
+use Rattle.tip_machine.specs.declared.connection.Purpose.{Purpose}
+use Rattle.tip_machine.specs.declared.event.Event.TheVariants.{Open, Dial, Voted, Settled}
+use Rattle.tip_machine.specs.declared.event.Outcome.{Outcome}
+use Rattle.tip_machine.specs.declared.event.Seat.{Seat}
+use Rattle.tip_machine.proofs.AttemptWalks.{each_event}
+use Rattle.tip_machine.proofs.Walks.{Ends, chosen_ends, either, more_ends}
+use Rattle.tip_machine.proofs.Keeping.{Goes, event-goes, some_none}
+
+-- a connection is counted, and its seat is told
+pub record Opens (before after : Work) : Type 0 where
+  pub head : after.state.head ≡ record before.state.head { given = before.state.head.given + 1 }
+  pub opened : after.answer.opened ≡ Some (record { epoch = before.state.head.epoch; number = before.state.head.given + 1 })
+  pub refusal : after.answer.refusal ≡ before.answer.refusal
+
+abbrev pub Went : Work → Work → Type 0
+Went before after = Goes before after ⊎ Opens before after
+
+handed_back : (w : Work) (boxes : List Plan) → Went w (hand_back boxes (refuse Full w))
+handed_back w boxes = inl (record { head = refl; opened = refl; quiet = λ some. refl })
+
+opened-went : (boxes : List Plan) (w : Work) → Went w (opened boxes w)
+unfolding opened added
+opened-went boxes w = either (Went w) (has_place (length boxes) w.state) (added (accepted boxes) w) _ (inr (record { head = refl; opened = refl; refusal = refl })) (handed_back w boxes)
+
+dial-went : (serves : Bool) (address : List ℕ) (purpose : Purpose) (boxes : List Plan) (w : Work) → Went w (dial serves address purpose boxes w)
+unfolding dial added
+dial-went serves address purpose boxes w = either (Went w) (serves && has_place (length boxes) w.state) _ _ (inr (record { head = refl; opened = refl; refusal = refl })) (handed_back w boxes)
+
+went_each : (w : Work) (a : Attempt) → Ends (Goes w) a → Ends (Went w) a
+went_each w a goes = more_ends (Goes w) (Went w) (λ v gone. inl gone) a goes
+
+attempt-went : (serving : Serving) (event : Event) (w : Work) → w.answer.refusal ≡ None → Ends (Went w) (attempt serving event w)
+attempt-went serving event w none =
+    each_event (λ event. Ends (Went w) (attempt serving event w))
+    (λ boxes. opened-went boxes w)
+    (λ address purpose boxes. dial-went serving.dials address purpose boxes w)
+    (λ event not. went_each w (attempt serving event w) (event-goes serving event w not none))
+    event
+
+ordered-went : (w : Work) (state : State) (v : Work) → Went w v → Went w (ordered state v)
+unfolding ordered
+ordered-went w state v (inl goes) = inl (record { head = goes.head; opened = goes.opened; quiet = goes.quiet })
+ordered-went w state v (inr opens) = inr (record { head = opens.head; opened = opens.opened; refusal = opens.refusal })
+
+-- an event that takes an entry goes from `entered`
+step-went : (serving : Serving) (state : State) (event : Event) (outcome : Outcome) → Went (entered state) (ordered state (chosen (attempt serving event (entered state)) outcome))
+step-went serving state event outcome = ordered-went (entered state) state _ (chosen_ends (Went (entered state)) (attempt serving event (entered state)) outcome (attempt-went serving event (entered state) refl))
+
+returned-opened : (why : Refusal) (event : Event) → (returned why event).opened ≡ None
+returned-opened why (Open boxes) = refl
+returned-opened why (Dial address purpose boxes) = refl
+returned-opened why (Voted party) = refl
+returned-opened why (Settled party) = refl
+returned-opened why other = refl
+
+-- A refusal changes the entries alone
+
+IsAlone : State → Work → Type 0
+IsAlone state work = IsSome work.answer.refusal → ChangesTheEntriesAlone state work.state
+
+went-alone : (state : State) (v : Work) → Went (entered state) v → IsAlone state v
+unfolding IsAlone
+went-alone state v (inl goes) = λ some. rw (goes.quiet some) refl
+went-alone state v (inr opens) = λ some. absurd (some_none v.answer.refusal opens.refusal some)
+
+frozen-alone : (event : Event) (state : State) → IsAlone state (frozen event state)
+unfolding IsAlone
+frozen-alone event state = λ some. refl
+
+quiet_step : (serving : Serving) (state : State) (event : Event) (outcome : Outcome) → IsAlone state (step_serving serving state event outcome)
+quiet_step serving state event outcome = either (IsAlone state) (is_open state) _ (frozen event state) (went-alone state _ (step-went serving state event outcome)) (frozen-alone event state)
+
+pub quiet : (serving : Serving) (state : State) (event : Event) (outcome : Outcome) → IsSome (step_serving serving state event outcome).answer.refusal → ChangesTheEntriesAlone state (step_serving serving state event outcome).state
+unfolding IsAlone
+quiet serving state event outcome = quiet_step serving state event outcome
+
+-- Numbers of connections
+
+Numbers : State → Work → Type 0
+Numbers state work = (seat : Seat) → work.answer.opened ≡ Some seat → IsNext state seat × (work.state.head.given ≡ seat.number)
+
+went-numbers : (state : State) (v : Work) → Went (entered state) v → Numbers state v
+unfolding Numbers
+went-numbers state v (inl goes) seat is = absurd (none-some seat (sym goes.opened ∙ is))
+went-numbers state v (inr opens) seat is =
+    let same = same_Some _ _ (sym opens.opened ∙ is) in
+    (sym same, ap (λ h. h.given) opens.head ∙ ap (λ (s : Seat). s.number) same)
+
+frozen-numbers : (event : Event) (state : State) → Numbers state (frozen event state)
+unfolding Numbers
+frozen-numbers event state seat is = absurd (none-some seat (sym (returned-opened Frozen event) ∙ is))
+
+numbers_step : (serving : Serving) (state : State) (event : Event) (outcome : Outcome) → Numbers state (step_serving serving state event outcome)
+numbers_step serving state event outcome = either (Numbers state) (is_open state) _ (frozen event state) (went-numbers state _ (step-went serving state event outcome)) (frozen-numbers event state)
+
+pub numbered : (serving : Serving) (state : State) (event : Event) (outcome : Outcome) (seat : Seat) → (step_serving serving state event outcome).answer.opened ≡ Some seat → IsNext state seat × ((step_serving serving state event outcome).state.head.given ≡ seat.number)
+unfolding Numbers
+numbered serving state event outcome = numbers_step serving state event outcome
+
+-- Counts
+
+IsRisen : State → Work → Type 0
+IsRisen state work = state.head.given ≤ work.state.head.given
+
+went-risen : (state : State) (v : Work) → Went (entered state) v → IsRisen state v
+unfolding IsRisen
+went-risen state v (inl goes) = rw goes.head (omega arith)
+went-risen state v (inr opens) = rw opens.head (omega arith)
+
+frozen-risen : (event : Event) (state : State) → IsRisen state (frozen event state)
+unfolding IsRisen
+frozen-risen event state = omega arith
+
+risen_step : (serving : Serving) (state : State) (event : Event) (outcome : Outcome) → IsRisen state (step_serving serving state event outcome)
+risen_step serving state event outcome = either (IsRisen state) (is_open state) _ (frozen event state) (went-risen state _ (step-went serving state event outcome)) (frozen-risen event state)
+
+pub rising : (serving : Serving) (state : State) (event : Event) (outcome : Outcome) → state.head.given ≤ (step_serving serving state event outcome).state.head.given
+unfolding IsRisen
+rising serving state event outcome = risen_step serving state event outcome
+
+IsCountedIn : Work → Type 0
+IsCountedIn work = IsCounted work.state.head
+
+went-counted : (state : State) (v : Work) → IsCounted state.head → Went (entered state) v → IsCountedIn v
+unfolding IsCountedIn
+went-counted state v le (inl goes) = rw goes.head (omega (arith, le))
+went-counted state v le (inr opens) = rw opens.head (omega (arith, le))
+
+frozen-counted : (event : Event) (state : State) → IsCounted state.head → IsCountedIn (frozen event state)
+unfolding IsCountedIn
+frozen-counted event state le = le
+
+counted_step : (serving : Serving) (state : State) (event : Event) (outcome : Outcome) → IsCounted state.head → IsCountedIn (step_serving serving state event outcome)
+counted_step serving state event outcome le = either IsCountedIn (is_open state) _ (frozen event state) (went-counted state _ le (step-went serving state event outcome)) (frozen-counted event state le)
+
+pub step-counted : (serving : Serving) (state : State) (event : Event) (outcome : Outcome) → IsCounted state.head → IsCounted (step_serving serving state event outcome).state.head
+unfolding IsCountedIn
+step-counted serving state event outcome le = counted_step serving state event outcome le

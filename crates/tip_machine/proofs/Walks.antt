@@ -1,0 +1,136 @@
+-- What holds of all rules at once: a relation between the work before a rule and after it, that each single change keeps.
+use Rattle.std.proofs.Common.{◌≡◌, Bool, true, false, ℕ, List, [], ◌∷◌, Option, Some, None, cond, refl, sym, arith, subst}
+use Rattle.std.specs.Prelude.{◌==◌, find, unwrap_or}
+use Rattle.std.specs.Option.{IfSome}
+use Rattle.std.proofs.lemmas.Bool.Decides.{nat_tests}
+use Rattle.std.proofs.lemmas.Option.{same_Some, none-some}
+use Rattle.tip_branch.specs.Notes.{PartyNotes}
+use Rattle.tip_branch.specs.declared.branch.Plan.{Plan}
+use Rattle.tip_rows.specs.Keys.{Place as Key}
+use Rattle.tip_rows.proofs.OrderLemmas.{same_place}
+use Rattle.tip_table.specs.Lists.{without}
+use Rattle.tip_machine.specs.Types.{Connection, Transaction}
+use Rattle.tip_machine.specs.Connections.{asks_for, has_number, is_superior_of}
+use Rattle.tip_machine.specs.Transactions.{has_key, next_key}
+use Rattle.tip_machine.specs.States.{Attempt, State, Work, connection_of, seated}
+use Rattle.tip_machine.specs.Changes.{alter, attempt_on, change, end, on}
+use Rattle.tip_machine.specs.Commands.{make}
+use Rattle.tip_machine.specs.Reactions.{Reaction, react}
+use Rattle.tip_machine.specs.Steps.{chosen}
+use Rattle.tip_machine.specs.declared.answer.Told.{Told}
+use Rattle.tip_machine.specs.declared.connection.Role.{Role}
+use Rattle.tip_machine.specs.declared.connection.Role.TheVariants.{Superior, Subordinate}
+use Rattle.tip_machine.specs.declared.event.Seat.{Seat}
+use Rattle.tip_machine.specs.declared.transaction.Origin.{Origin}
+use Rattle.tip_machine.specs.declared.event.Outcome.{Outcome}
+use Rattle.tip_machine.specs.declared.event.Outcome.TheVariants.{NoChange, Stored, Refused}
+
+-- May n: the connection of number n may be changed. On key: the transaction of that key may be, and connections on it
+pub record Closed (R : Work → Work → Type 0) (May : ℕ → Type 0) (On : Key → Type 0) : Type 0 where
+  pub same : (w : Work) → R w w
+  pub then : (a b c : Work) → R a b → R b c → R a c
+  pub tells : (w : Work) (told : List Told) → R w (record w { answer = record w.answer { told = told } })
+  pub works : (w : Work) (party : Option PartyNotes) → R w (record w { answer = record w.answer { work = party } })
+  pub spends : (w : Work) (party : Option PartyNotes) → R w (record w { answer = record w.answer { spent = party } })
+  pub hands : (w : Work) (boxes : Option (List Plan)) → R w (record w { answer = record w.answer { unused = boxes } })
+  pub alters : (key : Key) (f : Transaction → Transaction) (w : Work) → On key → ((t : Transaction) → (f t).key ≡ t.key) → R w (alter key f w)
+  pub ends : (key : Key) (w : Work) → On key → R w (end key w)
+  pub makes : (from : Origin) (c : Connection) (w : Work) → May c.number → On (next_key w.state.head c) → connection_of c.number w.state ≡ Some c → R w (make from c w)
+  pub changes : (n : ℕ) (f : Connection → Connection) (w : Work) → May n → ((c : Connection) → (f c).number ≡ c.number) → ((c : Connection) → (f c).made ≡ c.made) → R w (change n f w)
+  pub reacts : (reaction : Reaction) (key : Key) (w : Work) → On key → R w (react reaction key w)
+  pub takes : (n : ℕ) (w : Work) → May n → R w (record w { state = record w.state { connections = without (has_number n) w.state.connections } })
+  -- the connection of a superior is taken out, as it was found before
+  pub displaces : (key : Key) (c : Connection) (w v : Work) → On key → find (is_superior_of key) w.state.connections ≡ Some c → R w v → R w (record v { state = record v.state { connections = without (has_number c.number) v.state.connections } })
+
+-- either way
+pub either : (P : Work → Type 0) (b : Bool) (this that : Work) → P this → P that → P (cond b this that)
+either P true this that e f = e
+either P false this that e f = f
+
+-- for each outcome
+abbrev pub Ends : (Work → Type 0) → Attempt → Type 0
+Ends P (Attempt.Done work) = P work
+Ends P (Attempt.Asks change stored refused) = P stored × P refused
+
+pub chosen_ends : (P : Work → Type 0) (attempt : Attempt) (outcome : Outcome) → Ends P attempt → P (chosen attempt outcome)
+chosen_ends P (Attempt.Done work) outcome p = p
+chosen_ends P (Attempt.Asks change stored refused) Stored p = p.0
+chosen_ends P (Attempt.Asks change stored refused) Refused p = p.1
+chosen_ends P (Attempt.Asks change stored refused) NoChange p = p.1
+
+pub either_ends : (P : Work → Type 0) (b : Bool) (this that : Attempt) → Ends P this → Ends P that → Ends P (cond b this that)
+either_ends P true this that e f = e
+either_ends P false this that e f = f
+
+pub more_ends : (P Q : Work → Type 0) → ((w : Work) → P w → Q w) → (a : Attempt) → Ends P a → Ends Q a
+more_ends P Q goes (Attempt.Done w) p = goes w p
+more_ends P Q goes (Attempt.Asks change stored refused) p = (goes stored p.0, goes refused p.1)
+
+pub on_each : (P : Work → Type 0) (found : Option Transaction) (rule : Transaction → Work → Work) (work : Work) → P work → ((t : Transaction) → found ≡ Some t → P (rule t work)) → P (on found rule work)
+on_each P None rule work none some = none
+on_each P (Some t) rule work none some = some t refl
+
+pub attempt_on_each : (P : Work → Type 0) (found : Option Transaction) (rule : Transaction → Work → Attempt) (work : Work) → P work → ((t : Transaction) → found ≡ Some t → Ends P (rule t work)) → Ends P (attempt_on found rule work)
+attempt_on_each P None rule work none some = none
+attempt_on_each P (Some t) rule work none some = some t refl
+
+-- Which transaction is touched
+
+-- what is found passes
+passes_first : {T : Type 0} (test : T → Bool) (y x : T) (rest : Option T) (b : Bool) → test y ≡ b → (rest ≡ Some x → test x ≡ true) → cond b (Some y) rest ≡ Some x → test x ≡ true
+passes_first test y x rest true passes later is = subst (λ z. test z ≡ true) (same_Some y x is) passes
+passes_first test y x rest false fails later is = later is
+
+pub found_passes : {T : Type 0} (test : T → Bool) (xs : List T) (x : T) → find test xs ≡ Some x → test x ≡ true
+found_passes test [] x is = absurd (none-some x is)
+found_passes test (y ∷ ys) x is = passes_first test y x (find test ys) (test y) refl (found_passes test ys x) is
+
+-- a connection that was found has the number
+pub found-number : (n : ℕ) (cs : List Connection) (c : Connection) → find (has_number n) cs ≡ Some c → c.number ≡ n
+found-number n cs c is = let passes = found_passes (has_number n) cs c is in grind (arith, nat_tests, passes)
+
+seated_in : (b : Bool) (n : ℕ) (cs : List Connection) (c : Connection) → cond b (find (has_number n) cs) None ≡ Some c → find (has_number n) cs ≡ Some c
+seated_in true n cs c is = is
+seated_in false n cs c is = absurd (none-some c is)
+
+pub seated-number : (seat : Seat) (state : State) (c : Connection) → seated seat state ≡ Some c → c.number ≡ seat.number
+seated-number seat state c is = found-number seat.number state.connections c (seated_in (seat.epoch == state.head.epoch) seat.number state.connections c is)
+
+-- a connection that was found by its seat is the one of its number
+pub seated_there : (seat : Seat) (state : State) (c : Connection) → seated seat state ≡ Some c → connection_of c.number state ≡ Some c
+seated_there seat state c is = subst (λ n. find (has_number n) state.connections ≡ Some c) (sym (seated-number seat state c is)) (seated_in (seat.epoch == state.head.epoch) seat.number state.connections c is)
+
+-- a transaction that was found by its key has it
+pub on_found : (On : Key → Type 0) (key : Key) (ts : List Transaction) (t : Transaction) → find (has_key key) ts ≡ Some t → On key → On t.key
+on_found On key ts t is on = subst On (same_place key t.key (found_passes (has_key key) ts t is)) on
+
+-- the transaction of a role
+abbrev pub key_of : Option Role → Option Key
+key_of None = None
+key_of (Some (Superior key)) = Some key
+key_of (Some (Subordinate key part)) = Some key
+
+pub on_asked : (On : Key → Type 0) (key : Key) (role : Option Role) → asks_for key role ≡ true → On key → IfSome (key_of role) On
+on_asked On key None asks on = absurd (cc)
+on_asked On key (Some (Superior other)) asks on = subst On (same_place key other asks) on
+on_asked On key (Some (Subordinate other part)) asks on = absurd (cc)
+
+-- One transaction
+
+abbrev pub Is : Key → Key → Type 0
+Is key other = other ≡ key
+
+-- this key, or any where none is touched
+abbrev pub or_any : Option Key → Key
+or_any found = unwrap_or found (record { epoch = 0; connection = 0; number = 0 })
+
+pub is_or_any : (found : Option Key) → IfSome found (Is (or_any found))
+is_or_any None = tt
+is_or_any (Some key) = refl
+
+-- of some one key
+abbrev pub AtOne : (Key → Work → Work → Type 0) → Work → Work → Type 0
+AtOne R w v = (key : Key) × R key w v
+
+pub at_one : (R : Key → Work → Work → Type 0) (w : Work) (key : Key) (a : Attempt) → Ends (R key w) a → Ends (AtOne R w) a
+at_one R w key a p = more_ends (R key w) (AtOne R w) (λ v r. (key, r)) a p

@@ -1,0 +1,319 @@
+-- Worked examples of transactions that come to their outcome: what short scripts show.
+use Rattle.std.specs.Prelude.{[], ◌∷◌, ◌++◌, codes, Some, None}
+use Rattle.tip_branch.specs.declared.branch.Plan.TheVariants as plan
+use Rattle.tip_branch.specs.declared.branch.Settled.TheVariants.{Done, Later}
+use Rattle.tip_branch.specs.declared.branch.Vote.TheVariants as vote
+use Rattle.tip_branch.specs.declared.member.Call.TheVariants as call
+use Rattle.tip_branch.specs.declared.member.Errand.TheVariants as errand
+use Rattle.tip_line.specs.declared.command.Command.TheVariants as command
+use Rattle.tip_line.specs.declared.refusal.Refusal.TheVariants as refusal
+use Rattle.tip_line.specs.declared.response.Response.TheVariants as response
+use Rattle.tip_rows.specs.declared.row.Row.TheVariants as row
+use Rattle.tip_machine.specs.Outputs.{Output}
+use Rattle.tip_machine.specs.Scripts.{Example, Line, ask, at, connected, connects, dials, hears, hears_back, id, key, name, north, north_with, pulls, pushes, put, remove, resumes, say, t}
+use Rattle.tip_machine.specs.declared.answer.Asked.TheVariants as asked
+use Rattle.tip_machine.specs.declared.answer.Said.TheVariants as said
+use Rattle.tip_machine.specs.declared.connection.Purpose.TheVariants as purpose
+
+-- a branch is late: it asks to be told again, and the realm is resumed (section 13, COMMIT)
+abbrev pub late : Example
+late = record {
+  world = north;
+  lines =
+      connects (at 1 1) None (plan.Late ∷ []) ++ (
+      hears (at 1 1) command.Begin ∷
+      hears (at 1 1) command.Commit ∷
+      Line.Goes ∷
+      Line.Goes ∷
+      resumes id ∷
+      Line.Goes ∷ []);
+  shown =
+      connected (at 1 1) ++ (
+      say 1 (said.Begun t) ∷
+      Output.Works id errand.Vote ∷
+      Output.Called id 1 (call.Vote vote.Yes) ∷
+      put t (row.Committed ((1, codes "b1") ∷ []) []) ∷
+      say 1 said.Committed ∷
+      Output.Works id errand.Commit ∷
+      Output.Called id 1 (call.Commit Later) ∷
+      Output.Works id errand.Commit ∷
+      Output.Called id 1 (call.Commit Done) ∷
+      remove t ∷ []);
+}
+
+-- the second branch says no: the first is aborted, the third was never asked
+abbrev pub a_no : Example
+a_no = record {
+  world = north_with (record { connections = 8; transactions = 8; branches = 3; boxes = 9; entries = 100 }) ((1, codes "b1") ∷ (2, codes "b2") ∷ (3, codes "b3") ∷ []);
+  lines =
+      connects (at 1 1) None (plan.Yes ∷ plan.No ∷ plan.Yes ∷ []) ++ (
+      hears (at 1 1) command.Begin ∷
+      hears (at 1 1) command.Commit ∷
+      Line.Goes ∷
+      Line.Goes ∷ []);
+  shown =
+      connected (at 1 1) ++ (
+      say 1 (said.Begun t) ∷
+      Output.Works id errand.Vote ∷
+      Output.Called id 1 (call.Vote vote.Yes) ∷
+      Output.Called id 2 (call.Vote vote.No) ∷
+      say 1 said.Aborted ∷
+      Output.Works id errand.Abort ∷
+      Output.Called id 1 call.Abort ∷
+      Output.Dropped id 3 ∷ []);
+}
+
+-- a row names the branches by the labels of the realm
+abbrev pub labelled : Example
+labelled = record {
+  world = north_with (record { connections = 8; transactions = 8; branches = 2; boxes = 8; entries = 100 }) ((1, codes "ledger") ∷ (2, codes "queue") ∷ []);
+  lines =
+      connects (at 1 1) None (plan.Yes ∷ plan.Yes ∷ []) ++ (
+      hears (at 1 1) command.Begin ∷
+      hears (at 1 1) command.Commit ∷
+      Line.Goes ∷ []);
+  shown =
+      connected (at 1 1) ++ (
+      say 1 (said.Begun t) ∷
+      Output.Works id errand.Vote ∷
+      Output.Called id 1 (call.Vote vote.Yes) ∷
+      Output.Called id 2 (call.Vote vote.Yes) ∷
+      put t (row.Committed ((1, codes "ledger") ∷ (2, codes "queue") ∷ []) []) ∷
+      say 1 said.Committed ∷
+      Output.Works id errand.Commit ∷ []);
+}
+
+-- PREPARE aborts where the superior could not be reached again; a part without changes is read-only
+abbrev pub push_and_prepare : Example
+push_and_prepare = record {
+  world = north;
+  lines =
+      connects (at 1 1) None (plan.Yes ∷ []) ++ (
+      hears (at 1 1) (command.Push (codes "s1")) ∷
+      hears (at 1 1) command.Prepare ∷
+      connects (at 1 2) (Some (codes "a.x")) (plan.ReadOnly ∷ []) ++ (
+      hears (at 1 2) (command.Push (codes "s1")) ∷
+      hears (at 1 2) command.Prepare ∷
+      Line.Goes ∷ []));
+  shown =
+      connected (at 1 1) ++ (
+      say 1 (said.Pushed t) ∷
+      say 1 said.Aborted ∷
+      Output.Dropped id 1 ∷
+      connected (at 1 2) ++ (
+      say 2 (said.Pushed (key 1 2 1)) ∷
+      Output.Works (name (key 1 2 1)) errand.Vote ∷
+      Output.Called (name (key 1 2 1)) 1 (call.Vote vote.ReadOnly) ∷
+      say 2 said.ReadOnly ∷ []));
+}
+
+-- one of two parts says no while our own party is out
+abbrev pub one_part_says_no : Example
+one_part_says_no = record {
+  world = north;
+  lines =
+      connects (at 1 1) None (plan.Yes ∷ []) ++ (
+      hears (at 1 1) command.Begin ∷
+      connects (at 1 2) (Some (codes "p.x")) [] ++ (
+      hears (at 1 2) (command.Pull id (codes "p7")) ∷
+      connects (at 1 3) (Some (codes "q.x")) [] ++ (
+      hears (at 1 3) (command.Pull id (codes "q7")) ∷
+      hears (at 1 1) command.Commit ∷
+      hears_back (at 1 2) response.Prepared ∷
+      hears_back (at 1 3) response.Aborted ∷
+      Line.Goes ∷
+      hears_back (at 1 2) response.Aborted ∷
+      Line.Goes ∷ [])));
+  shown =
+      connected (at 1 1) ++ (
+      say 1 (said.Begun t) ∷
+      connected (at 1 2) ++ (
+      say 2 said.Pulled ∷
+      connected (at 1 3) ++ (
+      say 3 said.Pulled ∷
+      ask 2 asked.Prepare ∷
+      ask 3 asked.Prepare ∷
+      Output.Works id errand.Vote ∷
+      say 1 said.Aborted ∷
+      ask 2 asked.Abort ∷
+      Output.Called id 1 (call.Vote vote.Yes) ∷
+      Output.Works id errand.Abort ∷
+      Output.Called id 1 call.Abort ∷ [])));
+}
+
+-- a transaction with two remote parts is forgotten once both have acknowledged
+abbrev pub two_parts : Example
+two_parts = record {
+  world = north;
+  lines =
+      connects (at 1 1) None (plan.ReadOnly ∷ []) ++ (
+      hears (at 1 1) command.Begin ∷
+      connects (at 1 2) (Some (codes "p.x")) [] ++ (
+      hears (at 1 2) (command.Pull id (codes "p7")) ∷
+      connects (at 1 3) (Some (codes "q.x")) [] ++ (
+      hears (at 1 3) (command.Pull id (codes "q7")) ∷
+      hears (at 1 1) command.Commit ∷
+      Line.Goes ∷
+      hears_back (at 1 2) response.Prepared ∷
+      hears_back (at 1 3) response.Prepared ∷
+      hears_back (at 1 3) response.Committed ∷
+      connects (at 1 4) (Some (codes "p.x")) [] ++ (
+      hears (at 1 4) (command.Query id) ∷
+      hears_back (at 1 2) response.Committed ∷ []))));
+  shown =
+      connected (at 1 1) ++ (
+      say 1 (said.Begun t) ∷
+      connected (at 1 2) ++ (
+      say 2 said.Pulled ∷
+      connected (at 1 3) ++ (
+      say 3 said.Pulled ∷
+      ask 2 asked.Prepare ∷
+      ask 3 asked.Prepare ∷
+      Output.Works id errand.Vote ∷
+      Output.Called id 1 (call.Vote vote.ReadOnly) ∷
+      put t (row.Committed [] ((codes "p.x", codes "p7") ∷ (codes "q.x", codes "q7") ∷ [])) ∷
+      say 1 said.Committed ∷
+      ask 2 asked.Commit ∷
+      ask 3 asked.Commit ∷
+      connected (at 1 4) ++ (
+      say 4 said.QueriedExists ∷
+      remove t ∷ []))));
+}
+
+-- a transaction of another manager is pulled here
+abbrev pub pulled : Example
+pulled = record {
+  world = north;
+  lines =
+      dials (codes "m.x") purpose.Plain (plan.Yes ∷ []) ∷
+      hears_back (at 1 1) (response.Identified 3) ∷
+      pulls (at 1 1) (codes "m5") ∷
+      hears_back (at 1 1) response.Pulled ∷
+      hears (at 1 1) command.Prepare ∷
+      Line.Goes ∷
+      hears (at 1 1) command.Abort ∷
+      Line.Goes ∷ [];
+  shown =
+      Output.Opened (at 1 1) ∷
+      ask 1 (asked.Identify (codes "n.x") (codes "m.x")) ∷
+      ask 1 (asked.Pull (codes "m5") t) ∷
+      Output.Works id errand.Vote ∷
+      Output.Called id 1 (call.Vote vote.Yes) ∷
+      put t (row.Prepared (codes "m.x") (codes "m5") ((1, codes "b1") ∷ []) []) ∷
+      say 1 said.Prepared ∷
+      remove t ∷
+      say 1 said.Aborted ∷
+      Output.Works id errand.Abort ∷
+      Output.Called id 1 call.Abort ∷ [];
+}
+
+-- our transaction is pushed to another manager, which has nothing to commit
+abbrev pub pushed : Example
+pushed = record {
+  world = north;
+  lines =
+      connects (at 1 1) None (plan.Yes ∷ []) ++ (
+      hears (at 1 1) command.Begin ∷
+      dials (codes "p.x") purpose.Plain [] ∷
+      hears_back (at 1 2) (response.Identified 4) ∷
+      pushes (at 1 2) id ∷
+      hears_back (at 1 2) (response.Pushed (codes "p9")) ∷
+      hears (at 1 1) command.Commit ∷
+      hears_back (at 1 2) response.ReadOnly ∷
+      Line.Goes ∷
+      Line.Goes ∷ []);
+  shown =
+      connected (at 1 1) ++ (
+      say 1 (said.Begun t) ∷
+      Output.Opened (at 1 2) ∷
+      ask 2 (asked.Identify (codes "n.x") (codes "p.x")) ∷
+      ask 2 (asked.Push t) ∷
+      ask 2 asked.Prepare ∷
+      Output.Works id errand.Vote ∷
+      Output.Called id 1 (call.Vote vote.Yes) ∷
+      put t (row.Committed ((1, codes "b1") ∷ []) []) ∷
+      say 1 said.Committed ∷
+      Output.Works id errand.Commit ∷
+      Output.Called id 1 (call.Commit Done) ∷
+      remove t ∷ []);
+}
+
+-- a transaction that is here already is not pulled again
+abbrev pub known_or_not_pulled : Example
+known_or_not_pulled = record {
+  world = north;
+  lines =
+      connects (at 1 1) (Some (codes "m.x")) (plan.Yes ∷ []) ++ (
+      hears (at 1 1) (command.Push (codes "m5")) ∷
+      dials (codes "m.x") purpose.Plain (plan.Yes ∷ []) ∷
+      hears_back (at 1 2) (response.Identified 3) ∷
+      pulls (at 1 2) (codes "m5") ∷
+      pulls (at 1 2) (codes "m6") ∷
+      hears_back (at 1 2) response.NotPulled ∷ []);
+  shown =
+      connected (at 1 1) ++ (
+      say 1 (said.Pushed t) ∷
+      Output.Opened (at 1 2) ∷
+      ask 2 (asked.Identify (codes "n.x") (codes "m.x")) ∷
+      Output.Refused refusal.Known ∷
+      ask 2 (asked.Pull (codes "m6") (key 1 2 1)) ∷
+      Output.Dropped (name (key 1 2 1)) 1 ∷ []);
+}
+
+-- we are a superior and a subordinate at once
+abbrev pub in_doubt_and_committed : Example
+in_doubt_and_committed = record {
+  world = north;
+  lines =
+      connects (at 1 1) (Some (codes "a.x")) (plan.Yes ∷ []) ++ (
+      hears (at 1 1) (command.Push (codes "s1")) ∷
+      connects (at 1 2) (Some (codes "p.x")) [] ++ (
+      hears (at 1 2) (command.Pull id (codes "p7")) ∷
+      hears (at 1 1) command.Prepare ∷
+      Line.Goes ∷
+      hears_back (at 1 2) response.Prepared ∷
+      hears (at 1 1) command.Commit ∷
+      hears_back (at 1 2) response.Committed ∷
+      Line.Goes ∷ []));
+  shown =
+      connected (at 1 1) ++ (
+      say 1 (said.Pushed t) ∷
+      connected (at 1 2) ++ (
+      say 2 said.Pulled ∷
+      ask 2 asked.Prepare ∷
+      Output.Works id errand.Vote ∷
+      Output.Called id 1 (call.Vote vote.Yes) ∷
+      put t (row.Prepared (codes "a.x") (codes "s1") ((1, codes "b1") ∷ []) ((codes "p.x", codes "p7") ∷ [])) ∷
+      say 1 said.Prepared ∷
+      put t (row.Committed ((1, codes "b1") ∷ []) ((codes "p.x", codes "p7") ∷ [])) ∷
+      say 1 said.Committed ∷
+      ask 2 asked.Commit ∷
+      Output.Works id errand.Commit ∷
+      Output.Called id 1 (call.Commit Done) ∷
+      remove t ∷ []));
+}
+
+-- a line that comes before its turn is refused, Busy, and taken when it comes again (section 12)
+abbrev pub out_of_turn : Example
+out_of_turn = record {
+  world = north;
+  lines =
+      connects (at 1 1) None (plan.ReadOnly ∷ []) ++ (
+      hears (at 1 1) command.Begin ∷
+      connects (at 1 2) (Some (codes "p.x")) [] ++ (
+      hears (at 1 2) (command.Pull id (codes "p7")) ∷
+      hears_back (at 1 2) response.ReadOnly ∷
+      hears (at 1 1) command.Commit ∷
+      hears_back (at 1 2) response.ReadOnly ∷
+      Line.Goes ∷ []));
+  shown =
+      connected (at 1 1) ++ (
+      say 1 (said.Begun t) ∷
+      connected (at 1 2) ++ (
+      say 2 said.Pulled ∷
+      Output.Refused refusal.Busy ∷
+      ask 2 asked.Prepare ∷
+      Output.Works id errand.Vote ∷
+      Output.Called id 1 (call.Vote vote.ReadOnly) ∷
+      say 1 said.Committed ∷ []));
+}

@@ -1,0 +1,129 @@
+-- A realm with what is around it: its stored rows, and the parties that are out (ours).
+use Rattle.std.specs.Prelude.{◌+◌, List, [], ◌∷◌, ◌++◌, map, flat_map, Option, Some, if◌then◌else◌}
+use Rattle.std.specs.Option.{option_to_list}
+use Rattle.tip_branch.specs.Notes.{PartyNotes}
+use Rattle.tip_branch.specs.declared.branch.Plan.{Plan}
+use Rattle.tip_branch.specs.declared.member.Errand.{Errand}
+use Rattle.tip_branch.specs.declared.member.Errand.TheVariants as errand
+use Rattle.tip_line.specs.declared.refusal.Refusal.TheVariants as refusal
+use Rattle.tip_rows.specs.Keys.{Place as Key, comes_before, is_same}
+use Rattle.tip_rows.specs.declared.row.Row.{Row}
+use Rattle.tip_table.specs.Lists.{without}
+use Rattle.tip_machine.specs.Types.{Event, PartyPlace}
+use Rattle.tip_machine.specs.Outputs.{Output, drops_of, outputs}
+use Rattle.tip_machine.specs.Recovery.{restarted}
+use Rattle.tip_machine.specs.Served.{Serving}
+use Rattle.tip_machine.specs.States.{State}
+use Rattle.tip_machine.specs.Steps.{step_serving, wants_serving}
+use Rattle.tip_machine.specs.declared.event.Change.{Change}
+use Rattle.tip_machine.specs.declared.event.Change.TheVariants.{Put, Remove}
+use Rattle.tip_machine.specs.declared.event.Event.TheVariants.{Voted, Settled}
+use Rattle.tip_machine.specs.declared.event.Outcome.{Outcome}
+use Rattle.tip_machine.specs.declared.event.Outcome.TheVariants.{Stored}
+use Rattle.tip_machine.specs.declared.head.Head.{Head}
+use Rattle.tip_machine.specs.declared.transaction.PartyPlace.TheVariants.{Here, Out, Spent}
+
+-- rows by rising key, and parties that are out, the oldest first
+pub record World : Type 0 where
+  pub state : State
+  pub rows : List (Key × Row)
+  pub errands : List PartyNotes
+
+pub data Move : Type 0 where
+  -- an event, and what becomes of the change that it wants
+  Step : Event → Outcome → Move
+  -- the oldest errand is done: this is its party as it comes back
+  Go : PartyNotes → Outcome → Move
+  -- the oldest errand is lost: its party does not come back
+  Lose : Move
+  -- the process starts again; these boxes are adopted for the branches of each row
+  Restart : (Key → List Plan) → Move
+  -- the realm alone starts again, if the store lets its epoch rise
+  Renew : (Key → List Plan) → Outcome → Move
+
+-- what a move shows, and what is there afterwards
+pub record Moved : Type 0 where
+  pub shown : List Output
+  pub world : World
+
+-- The store
+
+abbrev pub row_put : Key → Row → List (Key × Row) → List (Key × Row)
+row_put key row [] = (key, row) ∷ []
+row_put key row (other ∷ rows) =
+    if is_same key other.0 then (key, row) ∷ rows
+    else if comes_before key other.0 then (key, row) ∷ other ∷ rows
+    else other ∷ row_put key row rows
+
+abbrev pub stored : Change → List (Key × Row) → List (Key × Row)
+stored (Put key row) rows = row_put key row rows
+stored (Remove key) rows = without (λ other. is_same key other.0) rows
+
+-- a change that was refused has changed nothing
+abbrev pub rows_after : Option Change → Outcome → List (Key × Row) → List (Key × Row)
+rows_after (Some change) Stored rows = stored change rows
+rows_after change outcome rows = rows
+
+-- Events
+
+unfoldable pub stepped : Serving → Event → Outcome → World → Moved
+stepped serving event outcome world =
+    let change = wants_serving serving world.state event in
+    let work = step_serving serving world.state event outcome in
+    record {
+      shown = outputs event change outcome work.answer;
+      world = record { state = work.state; rows = rows_after change outcome world.rows; errands = world.errands ++ option_to_list work.answer.work };
+    }
+
+-- Errands
+
+-- a party comes back from its errand
+abbrev pub back_from : Errand → PartyNotes → Event
+back_from errand.Vote party = Voted party
+back_from other party = Settled party
+
+abbrev pub gone_for : List PartyNotes → Serving → PartyNotes → Outcome → World → Moved
+gone_for [] serving back outcome world = record { shown = []; world = world }
+gone_for (party ∷ errands) serving back outcome world = stepped serving (back_from party.errand back) outcome (record world { errands = errands })
+
+abbrev pub lost_from : List PartyNotes → World → Moved
+lost_from [] world = record { shown = []; world = world }
+lost_from (party ∷ errands) world = record { shown = drops_of party; world = record world { errands = errands } }
+
+-- Starts
+
+-- nothing was counted yet in the new epoch
+abbrev pub risen : Head → Head
+risen head = record head { epoch = head.epoch + 1; given = 0; entries = 0 }
+
+abbrev pub restarted_from : (Key → List Plan) → World → State
+restarted_from boxes world = restarted (risen world.state.head) (map (λ row. record { key = row.0; row = row.1; boxes = boxes row.0 }) world.rows)
+
+abbrev pub drops_at : PartyPlace → List Output
+drops_at (Here party) = drops_of party
+drops_at (Out errand) = []
+drops_at Spent = []
+
+-- the active branches of the parties that are here
+abbrev pub drops_here : State → List Output
+drops_here state = flat_map (λ transaction. drops_at transaction.place) state.transactions
+
+abbrev pub renewed : (Key → List Plan) → Outcome → World → Moved
+renewed boxes Stored world = record { shown = drops_here world.state; world = record world { state = restarted_from boxes world } }
+renewed boxes other world = record { shown = Output.Refused refusal.Refused ∷ []; world = world }
+
+-- ONE MOVE
+abbrev pub moved : Serving → Move → World → Moved
+moved serving (Step event outcome) world = stepped serving event outcome world
+moved serving (Go back outcome) world = gone_for world.errands serving back outcome world
+moved serving Lose world = lost_from world.errands world
+moved serving (Restart boxes) world = record {
+  shown = flat_map drops_of world.errands ++ drops_here world.state;
+  world = record { state = restarted_from boxes world; rows = world.rows; errands = [] };
+}
+moved serving (Renew boxes outcome) world = renewed boxes outcome world
+
+-- what a list of moves shows
+abbrev pub shown : Serving → World → List Move → List (List Output)
+shown serving world [] = []
+shown serving world (move ∷ moves) = (moved serving move world).shown ∷ shown serving (moved serving move world).world moves

@@ -1,0 +1,196 @@
+-- Scripts of one realm in short, by which the definitions are tried out (`Commits`, `Failures`). Branches do as their plans
+-- promise.
+use Rattle.std.specs.Prelude.{◌≡◌, ℕ, List, [], ◌∷◌, ◌++◌, map, codes, Option, unwrap_or, if◌then◌else◌}
+use Rattle.tip_branch.specs.Members.{aborting, committing, is_no, is_ready, voting}
+use Rattle.tip_branch.specs.Notes.{PartyNotes}
+use Rattle.tip_branch.specs.Plans.{planned_answer, planned_vote}
+use Rattle.tip_branch.specs.declared.branch.Plan.{Plan}
+use Rattle.tip_branch.specs.declared.branch.Plan.TheVariants as plan
+use Rattle.tip_branch.specs.declared.branch.Settled.TheVariants.{Done}
+use Rattle.tip_branch.specs.declared.branch.Vote.{Vote}
+use Rattle.tip_branch.specs.declared.branch.Vote.TheVariants as vote
+use Rattle.tip_branch.specs.declared.member.Errand.{Errand}
+use Rattle.tip_branch.specs.declared.member.Errand.TheVariants as errand
+use Rattle.tip_branch.specs.declared.member.Member.{Member}
+use Rattle.tip_line.specs.declared.command.Command.{Command}
+use Rattle.tip_line.specs.declared.command.Command.TheVariants as command
+use Rattle.tip_line.specs.declared.response.Response.{Response}
+use Rattle.tip_rows.specs.Keys.{Place as Key}
+use Rattle.tip_rows.specs.declared.row.Row.{Row}
+use Rattle.tip_machine.specs.Types.{Event}
+use Rattle.tip_machine.specs.Answers.{identifier}
+use Rattle.tip_machine.specs.Invariants.{IsSound}
+use Rattle.tip_machine.specs.Moves.{Move, World, moved}
+use Rattle.tip_machine.specs.Outputs.{Output}
+use Rattle.tip_machine.specs.Served.{everything}
+use Rattle.tip_machine.specs.States.{started}
+use Rattle.tip_machine.specs.declared.answer.Asked.{Asked}
+use Rattle.tip_machine.specs.declared.answer.Item.TheVariants.{Say, Ask, Close}
+use Rattle.tip_machine.specs.declared.answer.Said.{Said}
+use Rattle.tip_machine.specs.declared.answer.Said.TheVariants as said
+use Rattle.tip_machine.specs.declared.connection.Purpose.{Purpose}
+use Rattle.tip_machine.specs.declared.event.Change.TheVariants.{Put, Remove}
+use Rattle.tip_machine.specs.declared.event.Event.TheVariants as event
+use Rattle.tip_machine.specs.declared.event.Heard.TheVariants as heard
+use Rattle.tip_machine.specs.declared.event.Outcome.TheVariants.{Stored, Refused}
+use Rattle.tip_machine.specs.declared.event.Seat.{Seat}
+use Rattle.tip_machine.specs.declared.head.Limits.{Limits}
+
+-- the members that are asked, up to the first that votes no
+abbrev pub vote_of : Member → Vote
+vote_of member = unwrap_or (planned_vote member.standing.plan) vote.Yes
+
+abbrev pub all_asked : List Member → List Member
+all_asked [] = []
+all_asked (member ∷ members) = voting member (vote_of member) ∷ (if is_no (vote_of member) then members else all_asked members)
+
+abbrev pub told_commit : Member → Member
+told_commit member = if is_ready member then committing member (unwrap_or (planned_answer member.standing.plan member.standing.told.commits) Done) else member
+
+abbrev pub told_abort : Member → Member
+told_abort member = if is_ready member then aborting member else member
+
+abbrev pub carried_out : Errand → List Member → List Member
+carried_out errand.Idle members = members
+carried_out errand.Vote members = all_asked members
+carried_out errand.Commit members = map told_commit members
+carried_out errand.Abort members = map told_abort members
+
+-- a party whose branches do as their plans promise
+abbrev pub comes_back : PartyNotes → PartyNotes
+comes_back party = record party { errand = errand.Idle; members = carried_out party.errand party.members }
+
+pub data Line : Type 0 where
+  Happens : Event → Line
+  -- the store refuses the change that the event wants
+  HappensRefused : Event → Line
+  Goes : Line
+  GoesRefused : Line
+  Loses : Line
+  Restarts : Line
+  Renews : Line
+
+abbrev pub oldest : List PartyNotes → (PartyNotes → Move) → Move
+oldest [] go = Move.Lose
+oldest (party ∷ errands) go = go (comes_back party)
+
+-- one box of kind yes is adopted for each branch
+abbrev pub all_yes : Key → List Plan
+all_yes key = plan.Yes ∷ plan.Yes ∷ plan.Yes ∷ []
+
+abbrev pub move_of : Line → World → Move
+move_of (Happens event) world = Move.Step event Stored
+move_of (HappensRefused event) world = Move.Step event Refused
+move_of Goes world = oldest world.errands (λ party. Move.Go party Stored)
+move_of GoesRefused world = oldest world.errands (λ party. Move.Go party Refused)
+move_of Loses world = Move.Lose
+move_of Restarts world = Move.Restart all_yes
+move_of Renews world = Move.Renew all_yes Stored
+
+-- ALL THAT A SCRIPT SHOWS, by the whole machine
+abbrev pub played : World → List Line → List Output
+played world [] = []
+played world (line ∷ lines) =
+    let went = moved everything (move_of line world) world in
+    went.shown ++ played went.world lines
+
+-- an example: what there is at first, what happens, and what it shows
+pub record Example : Type 0 where
+  pub world : World
+  pub lines : List Line
+  pub shown : List Output
+
+abbrev pub Shows : Example → Type 0
+Shows example = played example.world example.lines ≡ example.shown
+
+-- the invariants hold at first, and in each state that is reached
+abbrev pub Reaches : World → List Line → Type 0
+Reaches world [] = IsSound world
+Reaches world (line ∷ lines) = IsSound world × Reaches (moved everything (move_of line world) world).world lines
+
+abbrev pub StaysSound : Example → Type 0
+StaysSound example = Reaches example.world example.lines
+
+-- Words for lines
+
+abbrev pub at : ℕ → ℕ → Seat
+at epoch number = record { epoch = epoch; number = number }
+
+abbrev pub opens : List Plan → Line
+opens boxes = Line.Happens (event.Open boxes)
+
+abbrev pub dials : List ℕ → Purpose → List Plan → Line
+dials address purpose boxes = Line.Happens (event.Dial address purpose boxes)
+
+abbrev pub hears : Seat → Command → Line
+hears seat command = Line.Happens (event.Line seat (heard.Command command))
+
+abbrev pub hears_back : Seat → Response → Line
+hears_back seat response = Line.Happens (event.Line seat (heard.Response response))
+
+abbrev pub hears_nothing : Seat → Line
+hears_nothing seat = Line.Happens (event.Line seat heard.Malformed)
+
+abbrev pub loses : Seat → Line
+loses seat = Line.Happens (event.Lost seat)
+
+abbrev pub pushes : Seat → List ℕ → Line
+pushes seat id = Line.Happens (event.AskPush seat id)
+
+abbrev pub pulls : Seat → List ℕ → Line
+pulls seat superior = Line.Happens (event.AskPull seat superior)
+
+abbrev pub resumes : List ℕ → Line
+resumes id = Line.Happens (event.Resume id)
+
+-- a manager opens a connection and identifies itself
+abbrev pub connects : Seat → Option (List ℕ) → List Plan → List Line
+connects seat peer boxes = opens boxes ∷ hears seat (command.Identify 3 3 peer (codes "-")) ∷ []
+
+-- Words for what is shown
+
+abbrev pub say : ℕ → Said → Output
+say number said = Output.Told (record { connection = number; item = Say said })
+
+abbrev pub ask : ℕ → Asked → Output
+ask number asked = Output.Told (record { connection = number; item = Ask asked })
+
+abbrev pub close : ℕ → Output
+close number = Output.Told (record { connection = number; item = Close })
+
+abbrev pub connected : Seat → List Output
+connected seat = Output.Opened seat ∷ say seat.number said.Identified ∷ []
+
+abbrev pub put : Key → Row → Output
+put key row = Output.Changed (Put key row) Stored
+
+abbrev pub remove : Key → Output
+remove key = Output.Changed (Remove key) Stored
+
+abbrev pub not_removed : Key → Output
+not_removed key = Output.Changed (Remove key) Refused
+
+-- The realm north
+
+abbrev pub key : ℕ → ℕ → ℕ → Key
+key epoch connection number = record { epoch = epoch; connection = connection; number = number }
+
+abbrev pub name : Key → List ℕ
+name key = identifier (codes "north") key
+
+-- its first transaction
+abbrev pub t : Key
+t = key 1 1 1
+
+abbrev pub id : List ℕ
+id = name t
+
+abbrev pub north_with : Limits → List (ℕ × List ℕ) → World
+north_with limits branches = record {
+  state = started (record { name = codes "north"; address = codes "n.x"; limits = limits; branches = branches; epoch = 1; given = 0; entries = 0 });
+  rows = [];
+  errands = [];
+}
+
+abbrev pub north : World
+north = north_with (record { connections = 8; transactions = 8; branches = 1; boxes = 8; entries = 100 }) ((1, codes "b1") ∷ [])

@@ -1,4 +1,0 @@
-pub mod Makings
-pub mod Tables
-pub mod Hosted
-pub mod Isolation
