@@ -26,8 +26,9 @@ use Rattle.tip_machine.specs.declared.answer.Said.{Said}
 use Rattle.tip_machine.specs.declared.answer.Said.TheVariants as said
 use Rattle.tip_machine.proofs.Walks.{found-number}
 use Rattle.tip_core.specs.Makings.{Made}
-use Rattle.tip_core.specs.Tables.{AreAlone, Becomes, Does, IsDone, Realms, state_at, work_at}
-use Rattle.tip_core.proofs.Alone.{EachAlone, ordered_is, unowned, ask_pull_is, ask_push_is, fail_is, found_alone, seated_alone}
+use Rattle.tip_machine.specs.Alone.{AreAlone}
+use Rattle.tip_core.specs.Tables.{Becomes, Does, IsDone, Realms, state_at, work_at}
+use Rattle.tip_machine.proofs.Alone.{EachAlone, ordered_is, unowned, ask_pull_is, ask_push_is, fail_is, found_alone, seated_alone}
 
 -- the realm with these connections
 abbrev with : State → List Connection → State

@@ -8,13 +8,14 @@ use Rattle.tip_machine.specs.States.{State, started}
 use Rattle.tip_machine.specs.Steps.{step, wants, nowhere}
 use Rattle.tip_machine.proofs.Stepping.{step-counted}
 use Rattle.tip_machine.specs.Served.{today}
-use Rattle.tip_core.proofs.Alone.{step_alone, wants_none}
+use Rattle.tip_machine.proofs.Alone.{step_alone, wants_none}
+use Rattle.tip_machine.specs.Alone.{AreAlone}
 use Rattle.tip_machine.specs.declared.head.Start.{Start}
 use Rattle.tip_machine.specs.Types.{Answer, Connection, Event}
 use Rattle.tip_machine.specs.declared.event.Outcome.{Outcome}
 use Rattle.tip_table.specs.Kept.{Kept, of}
 use Rattle.tip_core.specs.Makings.{Made}
-use Rattle.tip_core.specs.Tables.{no_head, state_at, Does, AreAllAlone, AreAlone, AreCounted, Realms}
+use Rattle.tip_core.specs.Tables.{no_head, state_at, Does, AreAllAlone, AreCounted, Realms}
 use Rattle.tip_core.specs.Hosted.{Hosted, realm, Steps}
 
 -- what the tables stand for

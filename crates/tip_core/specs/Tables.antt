@@ -1,6 +1,7 @@
 -- How the shared tables stand for the realms.
-use Rattle.std.specs.Prelude.{ℕ, ◌≡◌, ◌≢◌, List, [], ◌∷◌, length, slice_index_or, false, None}
+use Rattle.std.specs.Prelude.{ℕ, ◌≡◌, ◌≢◌, [], length, slice_index_or}
 use Rattle.tip_table.specs.Kept.{of}
+use Rattle.tip_machine.specs.Alone.{AreAlone}
 use Rattle.tip_machine.specs.Heads.{IsCounted}
 use Rattle.tip_machine.specs.States.{Attempt, State, Work}
 use Rattle.tip_machine.specs.Types.{Connection}
@@ -50,17 +51,6 @@ AreCounted tables = (realm : ℕ) → IsCounted (state_at realm tables).head
 abbrev pub IsDone : Realms → Realms → ℕ → Made → Attempt → Type 0
 IsDone old new realm made (Attempt.Done work) = Does old new realm made work
 IsDone old new realm made (Attempt.Asks change stored refused) = ⊥
-
--- a connection that another manager opened, and that is on no transaction: nothing is owed or awaited
-pub record IsAlone (connection : Connection) : Type 0 where
-  pub dialled : connection.dialled ≡ false
-  pub owed : connection.owed ≡ None
-  pub awaited : connection.awaited ≡ None
-  pub role : connection.role ≡ None
-
-abbrev pub AreAlone : List Connection → Type 0
-AreAlone [] = Unit {0}
-AreAlone (connection ∷ connections) = IsAlone connection × AreAlone connections
 
 -- each realm's connections are alone, as long as no transaction is served
 abbrev pub AreAllAlone : Realms → Type 0

@@ -12,12 +12,13 @@ ghost use Rattle.tip_machine.specs.Requests.{hear, line, lost, opened, ask_push,
 ghost use Rattle.tip_machine.specs.Answers.{silence};
 ghost use Rattle.tip_machine.specs.Heads.{IsCounted};
 ghost use Rattle.tip_line.specs.declared.refusal.Refusal.TheVariants.{Stranger};
+ghost use Rattle.tip_machine.specs.Alone.{AreAlone};
 ghost use Rattle.tip_machine.specs.Served.{is_served, today};
 ghost use Rattle.tip_machine.specs.Steps.{attempt, step};
 ghost use Rattle.tip_machine.specs.States.{State, seated};
 ghost use Rattle.tip_machine.specs.Types.{Connection as OneConnection};
 ghost use Rattle.tip_core.specs.Hosted.{connections_for};
-ghost use Rattle.tip_core.specs.Tables.{state_at, work_at, AreAlone, Does, IsDone};
+ghost use Rattle.tip_core.specs.Tables.{state_at, work_at, Does, IsDone};
 
 use crate::making::Making;
 use crate::realms::Realms;

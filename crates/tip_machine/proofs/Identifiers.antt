@@ -1,10 +1,9 @@
 -- An identifier is never made twice.
 use Rattle.std.proofs.Common.{◌≡◌, ◌≤◌, ◌<◌, Bool, true, false, ℕ, ◌+◌, List, [], ◌∷◌, ◌++◌, Some, None, cond, refl, ap, arith, sym, ◌∙◌, subst, ◌⊎◌, inl, inr}
-use Rattle.std.specs.Prelude.{◌&&◌, ◌==◌, nat_lt, find, length, map, count_by, is_some, IsSome, take}
-use Rattle.std.specs.List.{list_any}
-use Rattle.std.proofs.lemmas.Bool.{and_left, and_right, or_from, true≢false}
+use Rattle.std.specs.Prelude.{◌&&◌, ◌||◌, ◌==◌, not, nat_le, nat_lt, find, length, map, is_some, IsSome, take}
+use Rattle.std.specs.List.{list_all, list_any}
+use Rattle.std.proofs.lemmas.Bool.{and_left, and_parts, and_right, or_from, true≢false}
 use Rattle.std.proofs.lemmas.Bool.Decides.{nat_tests}
-use Rattle.std.proofs.lemmas.List.Sums.{sum_by_push}
 use Rattle.std.proofs.lemmas.Option.{same_Some}
 use Rattle.tip_branch.specs.declared.branch.Plan.{Plan}
 use Rattle.tip_line.specs.declared.refusal.Refusal.TheVariants.{Full}
@@ -21,7 +20,8 @@ use Rattle.tip_machine.specs.Order.{ordered}
 use Rattle.tip_machine.specs.Reactions.{Reaction, react, reacted}
 use Rattle.tip_machine.specs.Requests.{added, dial, hand_back, opened}
 use Rattle.tip_machine.specs.Served.{Serving}
-use Rattle.tip_machine.specs.Steps.{attempt, chosen, entered, frozen, is_beyond, is_open, is_to_make, step_serving, AreNumbered, IsGiven}
+use Rattle.tip_machine.specs.Given.{are_numbered, are_rising, is_to_make, numbers_of, was_given}
+use Rattle.tip_machine.specs.Steps.{attempt, chosen, entered, frozen, is_open, step_serving}
 use Rattle.tip_machine.specs.declared.connection.Purpose.{Purpose}
 use Rattle.tip_machine.specs.declared.event.Outcome.{Outcome}
 use Rattle.tip_machine.specs.declared.transaction.Origin.{Origin}
@@ -29,8 +29,9 @@ use Rattle.tip_machine.proofs.Walks.{Closed, Ends, Is, chosen_ends, either, or_a
 use Rattle.tip_machine.proofs.RuleWalks.{moved-made}
 use Rattle.tip_machine.proofs.AttemptWalks.{attempt-goes, each_event, is_opening}
 use Rattle.tip_machine.proofs.Keeping.{any, each}
-use Rattle.tip_machine.proofs.Lists.{count-changed, count-cons, count-map, count-none, count-without, find_any, none-added, none-changed, none-counted, none-found, none-map, none-since, none-without}
+use Rattle.tip_machine.proofs.Lists.{find_any, none-added, none-changed, none-found, none-map, none-without}
 use Rattle.tip_machine.proofs.Others.{number-reacted, reacted-keeps}
+use Rattle.tip_machine.proofs.Rising.{found-below, none-behind, numbers-changed, numbers-map, rising-added, rising-without}
 
 -- Connections
 
@@ -39,19 +40,19 @@ still_made : (b : Bool) (m k : ℕ) → b && nat_lt m k ≡ false → b && nat_l
 still_made true m k off = grind (arith, nat_tests, off)
 still_made false m k off = refl
 
--- after a key was made on the connection that was found, it is to be made on none, where no other has its number
-made_there : (key : Key) (f : Connection → Connection) (cs : List Connection) (c : Connection) → find (has_number key.connection) cs ≡ Some c → count_by (has_number key.connection) cs ≤ 1 → nat_lt (f c).made key.number ≡ false → list_any (is_to_make key) (changed (has_number key.connection) f cs) ≡ false
-made_there key f [] c is once counted = refl
-made_there key f (d ∷ cs) c is once counted = step (has_number key.connection d) refl is (subst (λ n. n ≤ 1) (count-cons (has_number key.connection) d cs) once) (λ later le. made_there key f cs c later le counted) where
-  step : (b : Bool) → has_number key.connection d ≡ b → cond b (Some d) (find (has_number key.connection) cs) ≡ Some c → cond b 1 0 + count_by (has_number key.connection) cs ≤ 1 → (find (has_number key.connection) cs ≡ Some c → count_by (has_number key.connection) cs ≤ 1 → list_any (is_to_make key) (changed (has_number key.connection) f cs) ≡ false) → list_any (is_to_make key) (cond b (f d ∷ cs) (d ∷ changed (has_number key.connection) f cs)) ≡ false
-  step true same is once later =
+-- after a key was made on the connection that was found, it is to be made on none, as numbers rise
+made_there : (key : Key) (f : Connection → Connection) (cs : List Connection) (c : Connection) (last : ℕ) → find (has_number key.connection) cs ≡ Some c → are_rising (numbers_of cs ++ last ∷ []) ≡ true → nat_lt (f c).made key.number ≡ false → list_any (is_to_make key) (changed (has_number key.connection) f cs) ≡ false
+made_there key f [] c last is rising counted = refl
+made_there key f (d ∷ cs) c last is rising counted = let parts = and_parts _ _ rising in step (has_number key.connection d) refl is parts.0 (λ later. made_there key f cs c last later parts.1 counted) where
+  step : (b : Bool) → has_number key.connection d ≡ b → cond b (Some d) (find (has_number key.connection) cs) ≡ Some c → list_all (nat_lt d.number) (numbers_of cs ++ last ∷ []) ≡ true → (find (has_number key.connection) cs ≡ Some c → list_any (is_to_make key) (changed (has_number key.connection) f cs) ≡ false) → list_any (is_to_make key) (cond b (f d ∷ cs) (d ∷ changed (has_number key.connection) f cs)) ≡ false
+  step true same is behind later =
       or_from (is_to_make key (f d)) (list_any (is_to_make key) cs)
       (and_right (has_number key.connection (f d)) (nat_lt (f d).made key.number) (subst (λ e. nat_lt (f e).made key.number ≡ false) (sym (same_Some d c is)) counted))
-      (none-since (is_to_make key) (has_number key.connection) cs (λ e other. and_left (has_number key.connection e) (nat_lt e.made key.number) other) (none-counted (has_number key.connection) cs (omega (arith, once))))
-  step false differ is once later =
+      (none-behind last key cs (subst (λ n. list_all (nat_lt n) (numbers_of cs ++ last ∷ []) ≡ true) (grind (arith, nat_tests, same)) behind))
+  step false differ is behind later =
       or_from (is_to_make key d) (list_any (is_to_make key) (changed (has_number key.connection) f cs))
       (and_left (has_number key.connection d) (nat_lt d.made key.number) differ)
-      (later is (omega (arith, once)))
+      (later is)
 
 -- a reaction makes no transaction
 made-reacted : (key : Key) (reaction : Reaction) (c : Connection) → (reacted reaction key c).connection.made ≡ c.made
@@ -62,14 +63,37 @@ made-reacted key reaction c = reacted-keeps (λ d. d.made ≡ c.made) c refl rea
 abbrev IsAbsent : Key → State → Type 0
 IsAbsent key state = list_any (has_key key) state.transactions ≡ false
 
+-- the key was given in an earlier start, or in this one
+abbrev IsGiven : Key → State → Type 0
+IsGiven key state = (key.epoch < state.head.epoch) ⊎ ((key.epoch ≡ state.head.epoch) × (key.connection ≤ state.head.given) × (list_any (is_to_make key) state.connections ≡ false))
+
+is_not : (b : Bool) → not b ≡ true → b ≡ false
+is_not true is = absurd (cc)
+is_not false is = refl
+
+is_given : (key : Key) (state : State) → was_given state key ≡ true → IsGiven key state
+is_given key state was = given (nat_lt key.epoch state.head.epoch) refl was where
+  given : (b : Bool) → nat_lt key.epoch state.head.epoch ≡ b → b || ((key.epoch == state.head.epoch) && (nat_le key.connection state.head.given && not (list_any (is_to_make key) state.connections))) ≡ true → IsGiven key state
+  given true less was = inl (grind (arith, nat_tests, less))
+  given false more was =
+      let here = and_parts (key.epoch == state.head.epoch) (nat_le key.connection state.head.given && not (list_any (is_to_make key) state.connections)) was in
+      let there = and_parts (nat_le key.connection state.head.given) (not (list_any (is_to_make key) state.connections)) here.1 in
+      let same : (key.epoch == state.head.epoch) ≡ true = here.0 in
+      let le : nat_le key.connection state.head.given ≡ true = there.0 in
+      inr (grind (arith, nat_tests, same), grind (arith, nat_tests, le), is_not (list_any (is_to_make key) state.connections) there.1)
+
+is_given_so : (key : Key) (state : State) → IsGiven key state → was_given state key ≡ true
+is_given_so key state (inl less) = grind (arith, nat_tests, less)
+is_given_so key state (inr here) = let same = here.0 in let le = here.1 in let none = here.2 in grind (arith, nat_tests, same, le, none)
+
 -- the key was not given before, and is given now
 abbrev IsMade : Key → State → State → Type 0
-IsMade key old new = (¬ IsGiven key old) × (AreNumbered old → IsGiven key new)
+IsMade key old new = (¬ IsGiven key old) × (are_numbered old ≡ true → IsGiven key new)
 
 -- a key that was given stays so, and a transaction is made of one that was not
 record Counts (key : Key) (old new : State) : Type 0 where
   stays : IsGiven key old → IsGiven key new
-  numbered : AreNumbered old → AreNumbered new
+  numbered : are_numbered old ≡ true → are_numbered new ≡ true
   made : IsAbsent key old → IsAbsent key new ⊎ IsMade key old new
 
 module _ (key : Key) where
@@ -91,42 +115,33 @@ module _ (key : Key) where
     later (inr made) = inr (made.0, (λ numbered. g.stays (made.1 numbered)))
 
   transacts : (s : State) (ts : List Transaction) → (IsAbsent key s → list_any (has_key key) ts ≡ false) → Counts key s (record s { transactions = ts })
-  transacts s ts absent = record { stays = λ given. given; numbered = λ numbered. record { given = numbered.given; apart = numbered.apart }; made = λ none. inl (absent none) }
+  transacts s ts absent = record { stays = λ given. given; numbered = λ numbered. numbered; made = λ none. inl (absent none) }
 
   given_in : (s : State) (cs : List Connection) → (list_any (is_to_make key) s.connections ≡ false → list_any (is_to_make key) cs ≡ false) → IsGiven key s → IsGiven key (record s { connections = cs })
   given_in s cs none (inl earlier) = inl earlier
   given_in s cs none (inr here) = inr (here.0, here.1, none here.2)
 
-  connects : (s : State) (cs : List Connection) → (list_any (is_to_make key) s.connections ≡ false → list_any (is_to_make key) cs ≡ false) → (list_any (is_beyond s.head.given) s.connections ≡ false → list_any (is_beyond s.head.given) cs ≡ false) → ((n : ℕ) → count_by (has_number n) cs ≤ count_by (has_number n) s.connections) → Counts key s (record s { connections = cs })
-  connects s cs none within fewer = record {
-    stays = given_in s cs none;
-    numbered = λ numbered. record { given = within numbered.given; apart = λ n. let before = numbered.apart n in let now = fewer n in omega (arith, before, now) };
-    made = λ absent. inl absent;
-  }
+  connects : (s : State) (cs : List Connection) → (list_any (is_to_make key) s.connections ≡ false → list_any (is_to_make key) cs ≡ false) → (are_numbered s ≡ true → are_numbered (record s { connections = cs }) ≡ true) → Counts key s (record s { connections = cs })
+  connects s cs none numbered = record { stays = given_in s cs none; numbered = numbered; made = λ absent. inl absent }
 
-  -- a connection keeps its number
-  number_alike : (n : ℕ) (f : Connection → Connection) → ((c : Connection) → (f c).number ≡ c.number) → (c : Connection) → has_number n (f c) ≡ has_number n c
-  number_alike n f same c = ap (λ m. m == n) (same c)
+  -- connections that keep their numbers
+  still_numbered : (s : State) (cs : List Connection) → numbers_of cs ≡ numbers_of s.connections → are_numbered s ≡ true → are_numbered (record s { connections = cs }) ≡ true
+  still_numbered s cs same numbered = ap (λ ns. are_rising (ns ++ (s.head.given + 1) ∷ [])) same ∙ numbered
 
   to_make_alike : (f : Connection → Connection) → ((c : Connection) → (f c).number ≡ c.number) → ((c : Connection) → (f c).made ≡ c.made) → (c : Connection) → is_to_make key c ≡ false → is_to_make key (f c) ≡ false
   to_make_alike f same made c none = ap (λ m. (m == key.connection) && nat_lt (f c).made key.number) (same c) ∙ ap (λ m. has_number key.connection c && nat_lt m key.number) (made c) ∙ none
-
-  within_alike : (given : ℕ) (f : Connection → Connection) → ((c : Connection) → (f c).number ≡ c.number) → (c : Connection) → is_beyond given c ≡ false → is_beyond given (f c) ≡ false
-  within_alike given f same c within = ap (λ m. nat_lt given m) (same c) ∙ within
 
   changed_at : (n : ℕ) (f : Connection → Connection) (s : State) → ((c : Connection) → (f c).number ≡ c.number) → ((c : Connection) → is_to_make key c ≡ false → is_to_make key (f c) ≡ false) → Counts key s (record s { connections = changed (has_number n) f s.connections })
   changed_at n f s same none =
       connects s (changed (has_number n) f s.connections)
       (none-changed (is_to_make key) (has_number n) f s.connections (λ c is. none c))
-      (none-changed (is_beyond s.head.given) (has_number n) f s.connections (λ c is. within_alike s.head.given f same c))
-      (λ m. let alike = count-changed (has_number m) (has_number n) f s.connections (number_alike m f same) in omega (arith, alike))
+      (still_numbered s _ (numbers-changed (has_number n) f s.connections same))
 
   taken : (n : ℕ) (s : State) → Counts key s (record s { connections = without (has_number n) s.connections })
   taken n s =
       connects s (without (has_number n) s.connections)
       (none-without (is_to_make key) (has_number n) s.connections)
-      (none-without (is_beyond s.head.given) (has_number n) s.connections)
-      (λ m. count-without (has_number m) (has_number n) s.connections)
+      (rising-without (s.head.given + 1) (has_number n) s.connections)
 
   has_reacted : (reaction : Reaction) (on : Key) (s : State) → Counts key s (record s { connections = map (λ c. (reacted reaction on c).connection) s.connections })
   has_reacted reaction on s =
@@ -134,8 +149,7 @@ module _ (key : Key) where
       let same = number-reacted on reaction in
       connects s (map become s.connections)
       (none-map (is_to_make key) become s.connections (to_make_alike become same (made-reacted on reaction)))
-      (none-map (is_beyond s.head.given) become s.connections (within_alike s.head.given become same))
-      (λ m. let alike = count-map (has_number m) become s.connections (number_alike m become same) in omega (arith, alike))
+      (still_numbered s _ (numbers-map become s.connections same))
 
 -- the next key of a connection was not given before it is made
 not_given : (c : Connection) (s : State) → connection_of c.number s ≡ Some c → ¬ IsGiven (next_key s.head c) s
@@ -143,18 +157,18 @@ not_given c s is (inl earlier) = omega (arith, earlier)
 not_given c s is (inr here) = let none = none-found (is_to_make (next_key s.head c)) (has_number c.number) s.connections c is here.2 in grind (arith, nat_tests, none)
 
 -- and is given then
-given_then : (boxes : ℕ) (c : Connection) (s : State) → connection_of c.number s ≡ Some c → AreNumbered s → IsGiven (next_key s.head c) (record s { connections = changed (has_number c.number) (making boxes (next_key s.head c)) s.connections })
+given_then : (boxes : ℕ) (c : Connection) (s : State) → connection_of c.number s ≡ Some c → are_numbered s ≡ true → IsGiven (next_key s.head c) (record s { connections = changed (has_number c.number) (making boxes (next_key s.head c)) s.connections })
 given_then boxes c s is numbered =
     let next = next_key s.head c in
-    let within = none-found (is_beyond s.head.given) (has_number c.number) s.connections c is numbered.given in
-    inr (refl, grind (arith, nat_tests, within), made_there next (making boxes next) s.connections c is (numbered.apart c.number) (grind (arith, nat_tests)))
+    let below = found-below (s.head.given + 1) (has_number c.number) s.connections c is numbered in
+    inr (refl, omega (arith, below), made_there next (making boxes next) s.connections c (s.head.given + 1) is numbered (grind (arith, nat_tests)))
 
 module _ (key : Key) where
   has_made : (from : Origin) (c : Connection) (w : Work) → connection_of c.number w.state ≡ Some c → Counts key w.state (make from c w).state
   unfolding make
   has_made from c w is = record {
     stays = λ given. counted.stays given;
-    numbered = λ numbered. let now = counted.numbered numbered in record { given = now.given; apart = now.apart };
+    numbered = λ numbered. counted.numbered numbered;
     made = λ absent. step (is_same key (next_key w.state.head c)) refl absent;
   } where
     counted : Counts key w.state (record w.state { connections = changed (has_number c.number) (making w.state.head.limits.branches (next_key w.state.head c)) w.state.connections })
@@ -187,7 +201,7 @@ module _ (key : Key) where
 -- a connection more, with the next number
 added-counts : (key : Key) (new : ℕ → Connection) (state : State) → ((n : ℕ) → (new n).number ≡ n) → Counts key state (added new (entered state)).state
 unfolding added
-added-counts key new state is = record { stays = stays; numbered = λ numbered. record { given = within numbered; apart = once numbered }; made = λ absent. inl absent } where
+added-counts key new state is = record { stays = stays; numbered = rising-added (state.head.given + 1) (state.head.given + 1 + 1) state.connections (new (state.head.given + 1)) last (omega arith); made = λ absent. inl absent } where
   last : (new (state.head.given + 1)).number ≡ state.head.given + 1
   last = is (state.head.given + 1)
 
@@ -195,24 +209,12 @@ added-counts key new state is = record { stays = stays; numbered = λ numbered. 
   stays (inl earlier) = inl earlier
   stays (inr here) = let le = here.1 in inr (here.0, omega (arith, le), none-added (is_to_make key) state.connections (new (state.head.given + 1)) here.2 (and_left (has_number key.connection (new (state.head.given + 1))) (nat_lt (new (state.head.given + 1)).made key.number) (grind (arith, nat_tests, le, last))))
 
-  within : AreNumbered state → list_any (is_beyond (state.head.given + 1)) (state.connections ++ new (state.head.given + 1) ∷ []) ≡ false
-  within numbered = none-added (is_beyond (state.head.given + 1)) state.connections (new (state.head.given + 1)) (none-since (is_beyond (state.head.given + 1)) (is_beyond state.head.given) state.connections (λ c le. grind (arith, nat_tests, le)) numbered.given) (grind (arith, nat_tests, last))
-
-  once : AreNumbered state → (n : ℕ) → count_by (has_number n) (state.connections ++ new (state.head.given + 1) ∷ []) ≤ 1
-  once numbered n = subst (λ m. m ≤ 1) (sym (sum_by_push (λ c. cond (has_number n c) 1 0) state.connections (new (state.head.given + 1)))) (step (has_number n (new (state.head.given + 1))) refl) where
-    step : (b : Bool) → has_number n (new (state.head.given + 1)) ≡ b → count_by (has_number n) state.connections + cond b 1 0 ≤ 1
-    step true same = let none = count-none (has_number n) state.connections (none-since (has_number n) (is_beyond state.head.given) state.connections (λ c le. grind (arith, nat_tests, le, same, last)) numbered.given) in omega (arith, none)
-    step false differ = let before = numbered.apart n in omega (arith, before)
-
 -- taking an entry changes neither connections nor transactions
-entered_numbered : (state : State) → AreNumbered state → AreNumbered (entered state).state
-entered_numbered state numbered = record { given = numbered.given; apart = numbered.apart }
-
 went_in : (key : Key) (state : State) (v : Work) → Counts key (entered state).state v.state → Counts key state v.state
-went_in key state v counts = record { stays = λ given. counts.stays given; numbered = λ numbered. counts.numbered (entered_numbered state numbered); made = λ absent. step (counts.made absent) } where
+went_in key state v counts = record { stays = λ given. counts.stays given; numbered = λ numbered. counts.numbered numbered; made = λ absent. step (counts.made absent) } where
   step : IsAbsent key v.state ⊎ IsMade key (entered state).state v.state → IsAbsent key v.state ⊎ IsMade key state v.state
   step (inl absent) = inl absent
-  step (inr made) = inr (made.0, λ numbered. made.1 (entered_numbered state numbered))
+  step (inr made) = inr (made.0, λ numbered. made.1 numbered)
 
 -- an event that is not taken changes neither
 unchanged : (key : Key) (state : State) → Counts key state (entered state).state
@@ -250,18 +252,20 @@ went-counts key serving state event outcome = chosen_ends (CountsIn key state) (
 step-counts : (key : Key) (serving : Serving) (state : State) (event : Event) (outcome : Outcome) → CountsIn key state (step_serving serving state event outcome)
 step-counts key serving state event outcome = either (CountsIn key state) (is_open state) _ (frozen event state) (went-counts key serving state event outcome) (still key state)
 
-pub given_stays : (serving : Serving) (state : State) (event : Event) (outcome : Outcome) (key : Key) → IsGiven key state → IsGiven key (step_serving serving state event outcome).state
-given_stays serving state event outcome key given = (step-counts key serving state event outcome).stays given
+pub given_stays : (serving : Serving) (state : State) (event : Event) (outcome : Outcome) (key : Key) → was_given state key ≡ true → was_given (step_serving serving state event outcome).state key ≡ true
+given_stays serving state event outcome key was = is_given_so key (step_serving serving state event outcome).state ((step-counts key serving state event outcome).stays (is_given key state was))
 
-pub given_later : (old new : State) (key : Key) → old.head.epoch < new.head.epoch → IsGiven key old → IsGiven key new
-given_later old new key less (inl earlier) = inl (omega (arith, less, earlier))
-given_later old new key less (inr here) = let same = here.0 in inl (omega (arith, less, same))
+pub given_later : (old new : State) (key : Key) → old.head.epoch < new.head.epoch → was_given old key ≡ true → was_given new key ≡ true
+given_later old new key less was = is_given_so key new (inl (earlier (is_given key old was))) where
+  earlier : IsGiven key old → key.epoch < new.head.epoch
+  earlier (inl before) = omega (arith, less, before)
+  earlier (inr here) = let same = here.0 in omega (arith, less, same)
 
-pub none_numbered : (state : State) → state.connections ≡ [] → AreNumbered state
-none_numbered state none = record { given = ap (list_any (is_beyond state.head.given)) none; apart = λ n. subst (λ cs. count_by (has_number n) cs ≤ 1) (sym none) (omega arith) }
+pub none_numbered : (state : State) → state.connections ≡ [] → are_numbered state ≡ true
+none_numbered state none = ap (λ cs. are_rising (numbers_of cs ++ (state.head.given + 1) ∷ [])) none
 
-pub numbered_apart : (serving : Serving) (state : State) (event : Event) (outcome : Outcome) → AreNumbered state → AreNumbered (step_serving serving state event outcome).state
-numbered_apart serving state event outcome numbered = (step-counts (or_any None) serving state event outcome).numbered numbered
+pub still_rising : (serving : Serving) (state : State) (event : Event) (outcome : Outcome) → are_numbered state ≡ true → are_numbered (step_serving serving state event outcome).state ≡ true
+still_rising serving state event outcome numbered = (step-counts (or_any None) serving state event outcome).numbered numbered
 
 found_new : (key : Key) (old new : State) → Counts key old new → transaction_of key old ≡ None → IsSome (transaction_of key new) → IsMade key old new
 found_new key old new counts none some = step (counts.made (sym (find_any (has_key key) old.transactions) ∙ ap is_some none)) where
@@ -269,8 +273,11 @@ found_new key old new counts none some = step (counts.made (sym (find_any (has_k
   step (inl absent) = absurd (true≢false (sym some ∙ find_any (has_key key) new.transactions ∙ absent))
   step (inr made) = made
 
-pub new_was_not_given : (serving : Serving) (state : State) (event : Event) (outcome : Outcome) (key : Key) → transaction_of key state ≡ None → IsSome (transaction_of key (step_serving serving state event outcome).state) → ¬ IsGiven key state
-new_was_not_given serving state event outcome key none some = (found_new key state (step_serving serving state event outcome).state (step-counts key serving state event outcome) none some).0
+pub new_was_not_given : (serving : Serving) (state : State) (event : Event) (outcome : Outcome) (key : Key) → transaction_of key state ≡ None → IsSome (transaction_of key (step_serving serving state event outcome).state) → was_given state key ≡ false
+new_was_not_given serving state event outcome key none some = never (was_given state key) refl where
+  never : (b : Bool) → was_given state key ≡ b → b ≡ false
+  never true was = absurd ((found_new key state (step_serving serving state event outcome).state (step-counts key serving state event outcome) none some).0 (is_given key state was))
+  never false was = refl
 
-pub new_is_given : (serving : Serving) (state : State) (event : Event) (outcome : Outcome) (key : Key) → AreNumbered state → transaction_of key state ≡ None → IsSome (transaction_of key (step_serving serving state event outcome).state) → IsGiven key (step_serving serving state event outcome).state
-new_is_given serving state event outcome key numbered none some = (found_new key state (step_serving serving state event outcome).state (step-counts key serving state event outcome) none some).1 numbered
+pub new_is_given : (serving : Serving) (state : State) (event : Event) (outcome : Outcome) (key : Key) → are_numbered state ≡ true → transaction_of key state ≡ None → IsSome (transaction_of key (step_serving serving state event outcome).state) → was_given (step_serving serving state event outcome).state key ≡ true
+new_is_given serving state event outcome key numbered none some = is_given_so key (step_serving serving state event outcome).state ((found_new key state (step_serving serving state event outcome).state (step-counts key serving state event outcome) none some).1 numbered)

@@ -1,9 +1,8 @@
--- Lists of which an item is changed, taken out or added: what a test finds there, and how many pass it.
-use Rattle.std.proofs.Common.{◌≡◌, ◌≤◌, Bool, true, false, ◌+◌, List, [], ◌∷◌, ◌++◌, Some, None, cond, refl, ap, arith, sym, ◌∙◌, subst}
-use Rattle.std.specs.Prelude.{◌||◌, count_by, find, is_some, map}
+-- Lists of which an item is changed, taken out or added: what a test finds there.
+use Rattle.std.proofs.Common.{◌≡◌, Bool, true, false, List, [], ◌∷◌, ◌++◌, Some, None, cond, refl, ap, subst}
+use Rattle.std.specs.Prelude.{◌||◌, find, is_some, map}
 use Rattle.std.specs.List.{list_any}
 use Rattle.std.proofs.lemmas.Bool.{or_from, or_parts}
-use Rattle.std.proofs.lemmas.List.Sums.{sum_by-cons}
 use Rattle.std.proofs.lemmas.Option.{same_Some, none-some}
 use Rattle.tip_table.specs.Lists.{changed, without}
 
@@ -59,10 +58,6 @@ module _ {T : Type 0} (p : T → Bool) where
   none-added [] x none fails = or_from (p x) false fails refl
   none-added (y ∷ ys) x none fails = let parts = or_parts (p y) (list_any p ys) none in or_from (p y) (list_any p (ys ++ x ∷ [])) parts.0 (none-added ys x parts.1 fails)
 
-  pub none-since : (q : T → Bool) (xs : List T) → ((x : T) → q x ≡ false → p x ≡ false) → list_any q xs ≡ false → list_any p xs ≡ false
-  none-since q [] fails none = refl
-  none-since q (x ∷ xs) fails none = let parts = or_parts (q x) (list_any q xs) none in or_from (p x) (list_any p xs) (fails x parts.0) (none-since q xs fails parts.1)
-
   -- what is found is one of them
   pub none-found : (q : T → Bool) (xs : List T) (x : T) → find q xs ≡ Some x → list_any p xs ≡ false → p x ≡ false
   none-found q [] x is none = absurd (none-some x is)
@@ -70,40 +65,3 @@ module _ {T : Type 0} (p : T → Bool) where
     step : (b : Bool) → p y ≡ false → (find q ys ≡ Some x → p x ≡ false) → cond b (Some y) (find q ys) ≡ Some x → p x ≡ false
     step true first later is = subst (λ z. p z ≡ false) (same_Some y x is) first
     step false first later is = later is
-
-  -- How many pass
-
-  pub count-cons : (x : T) (xs : List T) → count_by p (x ∷ xs) ≡ cond (p x) 1 0 + count_by p xs
-  count-cons x xs = sum_by-cons (λ x. cond (p x) 1 0) x xs
-
-  count-alike : (x y : T) (xs ys : List T) → p y ≡ p x → count_by p ys ≡ count_by p xs → count_by p (y ∷ ys) ≡ count_by p (x ∷ xs)
-  count-alike x y xs ys same rest = count-cons y ys ∙ ap (λ b. cond b 1 0 + count_by p ys) same ∙ ap (λ n. cond (p x) 1 0 + n) rest ∙ sym (count-cons x xs)
-
-  pub count-changed : (q : T → Bool) (f : T → T) (xs : List T) → ((x : T) → p (f x) ≡ p x) → count_by p (changed q f xs) ≡ count_by p xs
-  count-changed q f [] same = refl
-  count-changed q f (x ∷ xs) same = step (q x) (count-changed q f xs same) where
-    step : (b : Bool) → count_by p (changed q f xs) ≡ count_by p xs → count_by p (cond b (f x ∷ xs) (x ∷ changed q f xs)) ≡ count_by p (x ∷ xs)
-    step true rest = count-alike x (f x) xs xs (same x) refl
-    step false rest = count-alike x x xs (changed q f xs) refl rest
-
-  pub count-without : (q : T → Bool) (xs : List T) → count_by p (without q xs) ≤ count_by p xs
-  count-without q [] = omega arith
-  count-without q (x ∷ xs) = step (q x) (count-without q xs) where
-    step : (b : Bool) → count_by p (without q xs) ≤ count_by p xs → count_by p (cond b xs (x ∷ without q xs)) ≤ count_by p (x ∷ xs)
-    step true rest = let whole = count-cons x xs in omega (arith, whole)
-    step false rest = let whole = count-cons x xs in let part = count-cons x (without q xs) in omega (arith, rest, whole, part)
-
-  pub count-map : (f : T → T) (xs : List T) → ((x : T) → p (f x) ≡ p x) → count_by p (map f xs) ≡ count_by p xs
-  count-map f [] same = refl
-  count-map f (x ∷ xs) same = count-alike x (f x) xs (map f xs) (same x) (count-map f xs same)
-
-  pub count-none : (xs : List T) → list_any p xs ≡ false → count_by p xs ≡ 0
-  count-none [] none = refl
-  count-none (x ∷ xs) none = let parts = or_parts (p x) (list_any p xs) none in count-cons x xs ∙ ap (λ b. cond b 1 0 + count_by p xs) parts.0 ∙ ap (λ n. 0 + n) (count-none xs parts.1)
-
-  pub none-counted : (xs : List T) → count_by p xs ≤ 0 → list_any p xs ≡ false
-  none-counted [] le = refl
-  none-counted (x ∷ xs) le = step (p x) (subst (λ n. n ≤ 0) (count-cons x xs) le) (none-counted xs) where
-    step : (b : Bool) → cond b 1 0 + count_by p xs ≤ 0 → (count_by p xs ≤ 0 → list_any p xs ≡ false) → b || list_any p xs ≡ false
-    step true le rest = absurd (omega (arith, le))
-    step false le rest = rest (omega (arith, le))

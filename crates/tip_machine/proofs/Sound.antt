@@ -12,7 +12,8 @@ use Rattle.tip_machine.specs.Failing.{gone, fail, closed, wrong}
 use Rattle.tip_machine.specs.Commands.{make, identify, begin, push, pull, query, reconnect, commanded}
 use Rattle.tip_machine.specs.Requests.{added, opened, dial, lost, line, ask_push, ask_pull, resume, voted, settled}
 use Rattle.tip_machine.specs.Order.{ordered}
-use Rattle.tip_machine.specs.Invariants.{IsSound, are_keyed, are_known_once, are_numbered, are_out, are_stored, have_promised, have_roles, is_connected, is_transaction}
+use Rattle.tip_machine.specs.Given.{are_numbered}
+use Rattle.tip_machine.specs.Invariants.{IsSound, are_keyed, are_known_once, are_out, are_stored, have_promised, have_roles, is_connected, is_transaction}
 use Rattle.tip_machine.specs.Moves.{World, moved, stepped}
 use Rattle.tip_machine.specs.Scripts.{Line, Reaches, StaysSound, move_of}
 use Rattle.tip_machine.specs.Served.{everything}

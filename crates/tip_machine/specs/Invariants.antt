@@ -1,6 +1,6 @@
 -- THE INVARIANTS of what a realm reaches (ours): what every rule may rely on, and leaves. They compute, so that the worked
 -- examples try them out in each of their states.
-use Rattle.std.specs.Prelude.{◌≡◌, ℕ, ◌+◌, ◌==◌, ◌&&◌, ◌||◌, not, nat_le, nat_lt, Bool, true, false, List, [], ◌∷◌, ◌++◌, length, map, drop, filter, filter_map, find, Option, Some, None, is_some, is_none, if◌then◌else◌}
+use Rattle.std.specs.Prelude.{◌≡◌, ℕ, ◌+◌, ◌==◌, ◌&&◌, ◌||◌, not, nat_le, nat_lt, Bool, true, false, List, [], ◌∷◌, length, map, drop, filter, filter_map, find, Option, Some, None, is_some, is_none, if◌then◌else◌}
 use Rattle.std.specs.List.{list_all, list_any}
 use Rattle.std.specs.Option.{option_map_or}
 use Rattle.std.specs.Str.{bytes_eq}
@@ -26,6 +26,7 @@ use Rattle.tip_txn.specs.declared.part.Participant.{Participant}
 use Rattle.tip_machine.specs.Types.{Connection, PartyPlace, Transaction}
 use Rattle.tip_machine.specs.Answers.{identifier}
 use Rattle.tip_machine.specs.Connections.{is_on, is_part_of, is_superior_of}
+use Rattle.tip_machine.specs.Given.{are_numbered, was_given}
 use Rattle.tip_machine.specs.Moves.{World}
 use Rattle.tip_machine.specs.Requests.{owner}
 use Rattle.tip_machine.specs.States.{State, transaction_of}
@@ -34,7 +35,6 @@ use Rattle.tip_machine.specs.declared.connection.Awaited.{Awaited}
 use Rattle.tip_machine.specs.declared.connection.Awaited.TheVariants as awaited
 use Rattle.tip_machine.specs.declared.connection.Role.{Role}
 use Rattle.tip_machine.specs.declared.connection.Role.TheVariants.{Superior, Subordinate}
-use Rattle.tip_machine.specs.declared.head.Head.{Head}
 use Rattle.tip_machine.specs.declared.transaction.Origin.{Origin}
 use Rattle.tip_machine.specs.declared.transaction.Origin.TheVariants as origin
 use Rattle.tip_machine.specs.declared.transaction.PartyPlace.TheVariants.{Here, Out, Spent}
@@ -46,23 +46,11 @@ are_distinct same (x ∷ xs) = not (list_any (same x) xs) && are_distinct same x
 
 -- Numbers and keys
 
-abbrev pub are_rising : List ℕ → Bool
-are_rising [] = true
-are_rising (number ∷ numbers) = list_all (nat_lt number) numbers && are_rising numbers
-
--- the numbers of connections rise in the order made, and each was given
-abbrev pub are_numbered : State → Bool
-are_numbered state = are_rising (map (λ connection. connection.number) state.connections ++ (state.head.given + 1) ∷ [])
-
--- a key of an earlier start, or of a connection that was given in this one
-abbrev pub was_given : Head → Key → Bool
-was_given head key = nat_lt key.epoch head.epoch || ((key.epoch == head.epoch) && nat_le key.connection head.given)
-
 -- transactions have distinct keys that were given, and the identifiers that are spelled from these
 abbrev pub are_keyed : State → Bool
 are_keyed state =
     are_distinct is_same (map (λ transaction. transaction.key) state.transactions)
-    && list_all (λ transaction. was_given state.head transaction.key && bytes_eq transaction.txn.id (identifier state.head.name transaction.key)) state.transactions
+    && list_all (λ transaction. was_given state transaction.key && bytes_eq transaction.txn.id (identifier state.head.name transaction.key)) state.transactions
 
 -- Roles
 

@@ -5,6 +5,8 @@ pub mod Events
 pub mod Answers
 pub mod Transactions
 pub mod States
+pub mod Given
+pub mod Alone
 pub mod Served
 pub mod Changes
 pub mod Reactions

@@ -13,7 +13,7 @@ use Rattle.tip_machine.specs.Types.{Event, PartyPlace}
 use Rattle.tip_machine.specs.Outputs.{Output, drops_of, outputs}
 use Rattle.tip_machine.specs.Recovery.{restarted}
 use Rattle.tip_machine.specs.Served.{Serving}
-use Rattle.tip_machine.specs.States.{State}
+use Rattle.tip_machine.specs.States.{State, started}
 use Rattle.tip_machine.specs.Steps.{step_serving, wants_serving}
 use Rattle.tip_machine.specs.declared.event.Change.{Change}
 use Rattle.tip_machine.specs.declared.event.Change.TheVariants.{Put, Remove}
@@ -127,3 +127,12 @@ moved serving (Renew boxes outcome) world = renewed boxes outcome world
 abbrev pub shown : Serving → World → List Move → List (List Output)
 shown serving world [] = []
 shown serving world (move ∷ moves) = (moved serving move world).shown ∷ shown serving (moved serving move world).world moves
+
+-- where a list of moves leads
+abbrev pub reached : Serving → World → List Move → World
+reached serving world [] = world
+reached serving world (move ∷ moves) = reached serving (moved serving move world).world moves
+
+-- a realm that starts and has stored nothing
+abbrev pub fresh : Head → World
+fresh head = record { state = started head; rows = []; errands = [] }

@@ -1,11 +1,11 @@
 -- The step of one realm: what it answers to an event, and what it is afterwards.
-use Rattle.std.specs.Prelude.{◌≡◌, ◌≤◌, ◌<◌, ◌⊎◌, ℕ, ◌+◌, ◌&&◌, nat_lt, count_by, Bool, false, List, Option, Some, None, if◌then◌else◌}
+use Rattle.std.specs.Prelude.{◌≡◌, ◌≤◌, ℕ, ◌+◌, ◌&&◌, nat_lt, Bool, false, List, Option, Some, None, if◌then◌else◌}
 use Rattle.std.specs.List.{list_any}
 use Rattle.tip_line.specs.declared.refusal.Refusal.{Refusal}
 use Rattle.tip_txn.specs.declared.answer.Phase.TheVariants.{Aborted}
 use Rattle.tip_line.specs.declared.refusal.Refusal.TheVariants.{NoRealm, Frozen}
 use Rattle.tip_rows.specs.Keys.{Place as Key, is_same}
-use Rattle.tip_machine.specs.Types.{Answer, Connection, Event, Transaction}
+use Rattle.tip_machine.specs.Types.{Answer, Event, Transaction}
 use Rattle.tip_machine.specs.Answers.{silence}
 use Rattle.tip_machine.specs.Connections.{has_number, is_on}
 use Rattle.tip_machine.specs.States.{State, Work, Attempt, connection_of, identified_by, seated, transaction_of}
@@ -101,23 +101,6 @@ IsOff key number state = list_any (λ connection. has_number number connection &
 pub record TouchesOne (key : Key) (event : Event) (old new : State) : Type 0 where
   pub transactions : (other : Key) → is_same key other ≡ false → transaction_of other new ≡ transaction_of other old
   pub connections : (number : ℕ) → number ≤ old.head.given → ¬ Names event number → IsOff key number old → connection_of number new ≡ connection_of number old
-
--- is its number one that was not given yet?
-abbrev pub is_beyond : ℕ → Connection → Bool
-is_beyond given connection = nat_lt given connection.number
-
--- each connection has a number that was given, and no other has it
-pub record AreNumbered (state : State) : Type 0 where
-  pub given : list_any (is_beyond state.head.given) state.connections ≡ false
-  pub apart : (number : ℕ) → count_by (has_number number) state.connections ≤ 1
-
--- is the transaction of this key one that this connection has still to make?
-abbrev pub is_to_make : Key → Connection → Bool
-is_to_make key connection = has_number key.connection connection && nat_lt connection.made key.number
-
--- this key is given: each of an earlier start is, and of this start those that a connection has made; where it is gone, all
-abbrev pub IsGiven : Key → State → Type 0
-IsGiven key state = (key.epoch < state.head.epoch) ⊎ ((key.epoch ≡ state.head.epoch) × (key.connection ≤ state.head.given) × (list_any (is_to_make key) state.connections ≡ false))
 
 -- no transaction of this identifier is open, or it is aborted
 abbrev pub IsForgotten : List ℕ → State → Type 0

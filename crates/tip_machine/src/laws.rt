@@ -1,5 +1,5 @@
 //! Laws of the machine, each carried by a function that does nothing. They hold whatever is served.
-ghost use Rattle.std.specs.Prelude.{◌≡◌, ◌≤◌, ◌<◌, [], ℕ, List, IsSome, Some, None, map};
+ghost use Rattle.std.specs.Prelude.{◌≡◌, ◌≤◌, ◌<◌, [], ℕ, List, IsSome, Some, None, map, true, false};
 ghost use Rattle.tip_txn.specs.Decisions.{Decides};
 ghost use Rattle.tip_txn.specs.Parts.{answers_of};
 ghost use Rattle.tip_txn.specs.declared.part.Participant.{Participant};
@@ -7,14 +7,18 @@ ghost use Rattle.tip_line.specs.declared.command.CommandName.TheVariants as comm
 ghost use Rattle.tip_rows.specs.Keys.{Place as Key};
 ghost use Rattle.tip_machine.specs.Changes.{reply};
 ghost use Rattle.tip_machine.specs.Commands.{pull, query, reconnect};
-ghost use Rattle.tip_machine.specs.Served.{Serving};
+ghost use Rattle.tip_machine.specs.Given.{are_numbered, was_given};
+ghost use Rattle.tip_machine.specs.Invariants.{IsSound};
+ghost use Rattle.tip_machine.specs.Moves.{Move, fresh, reached};
+ghost use Rattle.tip_machine.specs.Served.{Serving, today};
 ghost use Rattle.tip_machine.specs.States.{State, Work, transaction_of};
-ghost use Rattle.tip_machine.specs.Steps.{step_serving, AreNumbered, ChangesTheEntriesAlone, IsForgotten, IsGiven, IsNext, TouchesOne};
+ghost use Rattle.tip_machine.specs.Steps.{step_serving, ChangesTheEntriesAlone, IsForgotten, IsNext, TouchesOne};
 ghost use Rattle.tip_machine.specs.Transactions.{decision};
 ghost use Rattle.tip_machine.specs.Types.{Connection, Event};
 ghost use Rattle.tip_machine.specs.declared.answer.Said.TheVariants as said;
 ghost use Rattle.tip_machine.specs.declared.event.Outcome.{Outcome};
 ghost use Rattle.tip_machine.specs.declared.event.Seat.{Seat};
+ghost use Rattle.tip_machine.specs.declared.head.Head.{Head};
 
 /// What is refused has not happened: at most the journal has an entry more.
 #[tactic(auto, using(crate::proofs::Stepping::quiet))]
@@ -23,14 +27,14 @@ pub fn a_refusal_changes_the_entries_alone()
         ChangesTheEntriesAlone state (step_serving serving state event outcome).state }
 {}
 
-/// A new connection has the next number of its start, the count of numbers never falls, and no two connections have one.
+/// A new connection has the next number of its start, the count of numbers never falls, and numbers rise in the order made.
 #[tactic(auto, using(crate::proofs::Stepping::numbered, crate::proofs::Stepping::rising))]
 pub fn numbers_of_connections_rise()
     ensures numbered { (serving : Serving) (state : State) (event : Event) (outcome : Outcome) (seat : Seat) → (step_serving serving state event outcome).answer.opened ≡ Some seat →
         IsNext state seat × ((step_serving serving state event outcome).state.head.given ≡ seat.number) }
     ensures rising { (serving : Serving) (state : State) (event : Event) (outcome : Outcome) → state.head.given ≤ (step_serving serving state event outcome).state.head.given }
-    ensures none { (state : State) → state.connections ≡ [] → AreNumbered state }
-    ensures apart { (serving : Serving) (state : State) (event : Event) (outcome : Outcome) → AreNumbered state → AreNumbered (step_serving serving state event outcome).state }
+    ensures none { (state : State) → state.connections ≡ [] → are_numbered state ≡ true }
+    ensures stays { (serving : Serving) (state : State) (event : Event) (outcome : Outcome) → are_numbered state ≡ true → are_numbered (step_serving serving state event outcome).state ≡ true }
 {}
 
 /// A step changes at most one transaction, and only connections that are on it, the one that its event names, and a new one.
@@ -44,11 +48,11 @@ pub fn at_most_one_transaction_changes()
 #[tactic(auto, using(crate::proofs::Identifiers::new_was_not_given, crate::proofs::Identifiers::new_is_given, crate::proofs::Identifiers::given_stays, crate::proofs::Identifiers::given_later))]
 pub fn an_identifier_is_never_made_twice()
     ensures new { (serving : Serving) (state : State) (event : Event) (outcome : Outcome) (key : Key) → transaction_of key state ≡ None → IsSome (transaction_of key (step_serving serving state event outcome).state) →
-        ¬ IsGiven key state }
-    ensures given { (serving : Serving) (state : State) (event : Event) (outcome : Outcome) (key : Key) → AreNumbered state → transaction_of key state ≡ None → IsSome (transaction_of key (step_serving serving state event outcome).state) →
-        IsGiven key (step_serving serving state event outcome).state }
-    ensures stays { (serving : Serving) (state : State) (event : Event) (outcome : Outcome) (key : Key) → IsGiven key state → IsGiven key (step_serving serving state event outcome).state }
-    ensures later { (old new : State) (key : Key) → old.head.epoch < new.head.epoch → IsGiven key old → IsGiven key new }
+        was_given state key ≡ false }
+    ensures given { (serving : Serving) (state : State) (event : Event) (outcome : Outcome) (key : Key) → are_numbered state ≡ true → transaction_of key state ≡ None → IsSome (transaction_of key (step_serving serving state event outcome).state) →
+        was_given (step_serving serving state event outcome).state key ≡ true }
+    ensures stays { (serving : Serving) (state : State) (event : Event) (outcome : Outcome) (key : Key) → was_given state key ≡ true → was_given (step_serving serving state event outcome).state key ≡ true }
+    ensures later { (old new : State) (key : Key) → old.head.epoch < new.head.epoch → was_given old key ≡ true → was_given new key ≡ true }
 {}
 
 /// The decision that the machine computes is the decision of two-phase commit over the set of answers.
@@ -63,4 +67,9 @@ pub fn an_aborted_transaction_is_as_one_that_never_was()
     ensures query { (id : List ℕ) (connection : Connection) (work : Work) → IsForgotten id work.state → query id connection work ≡ reply connection.number command.Query said.QueriedNotFound work }
     ensures pull { (id subordinate : List ℕ) (connection : Connection) (work : Work) → IsForgotten id work.state → pull id subordinate connection work ≡ reply connection.number command.Pull said.NotPulled work }
     ensures reconnect { (id : List ℕ) (connection : Connection) (work : Work) → IsForgotten id work.state → reconnect id connection work ≡ reply connection.number command.Reconnect said.NotReconnected work }
+{}
+
+/// The steps that are served today keep the invariants: they hold wherever a realm comes that had stored nothing.
+pub fn what_is_served_keeps_the_invariants()
+    ensures { (head : Head) (moves : List Move) → IsSound (reached today (fresh head) moves) }
 {}

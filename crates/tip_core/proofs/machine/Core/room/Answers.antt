@@ -1,5 +1,5 @@
 use Rattle.std.proofs.Common.{◌∙◌, sym, subst}
-use Rattle.tip_core.specs.Tables.{AreAlone}
+use Rattle.tip_machine.specs.Alone.{AreAlone}
 use Rattle.tip_core.proofs.Stepping.{wants_here}
 use Rattle.tip_core.proofs.machine.Core.room.Goals as goal
 

@@ -2,7 +2,7 @@ use Rattle.std.proofs.Common.{◌∙◌, sym, subst}
 use Rattle.tip_machine.specs.Connections.{has_number}
 use Rattle.tip_machine.specs.States.{seated}
 use Rattle.tip_core.specs.Tables.{IsDone, state_at, work_at}
-use Rattle.tip_core.proofs.Alone.{found_alone, line_is}
+use Rattle.tip_machine.proofs.Alone.{found_alone, line_is}
 use Rattle.tip_core.proofs.rules.Realms+Connection.line.Goals as goal
 
 pub returns : goal.returns

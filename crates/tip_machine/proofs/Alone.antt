@@ -1,4 +1,5 @@
--- Connections that are alone stay alone, as long as no transaction is served; and no change of the rows is asked for.
+-- Connections that are alone stay alone, as long as no transaction is served; no change of the rows is asked for, and no party
+-- goes out.
 use Rattle.std.proofs.Common.{◌≡◌, Bool, true, false, ℕ, List, [], ◌∷◌, ◌++◌, Option, Some, None, cond, refl, ap, sym, ◌∙◌, subst}
 use Rattle.std.specs.Prelude.{◌&&◌, ◌||◌, ◌==◌, nat_le, find, length, is_some, is_none}
 use Rattle.std.specs.Option.{option_and_then}
@@ -9,9 +10,12 @@ use Rattle.tip_line.specs.Command.{name_of}
 use Rattle.tip_line.specs.declared.command.Command.{Command}
 use Rattle.tip_line.specs.declared.command.Command.TheVariants.{Identify, Begin, Push, Pull, Prepare, Commit, Abort, Query, Reconnect, Multiplex, Tls, Error}
 use Rattle.tip_line.specs.declared.command.CommandName.{CommandName}
+use Rattle.tip_line.specs.declared.command.CommandName.TheVariants as command
 use Rattle.tip_line.specs.declared.response.Response.{Response}
 use Rattle.tip_line.specs.declared.response.ResponseName.{ResponseName}
-use Rattle.tip_line.specs.declared.refusal.Refusal.TheVariants.{Busy}
+use Rattle.tip_line.specs.declared.response.ResponseName.TheVariants as response
+use Rattle.tip_line.specs.declared.refusal.Refusal.{Refusal}
+use Rattle.tip_line.specs.declared.refusal.Refusal.TheVariants.{Busy, Frozen}
 use Rattle.tip_conn.specs.Table.{admit_of, next_of}
 use Rattle.tip_conn.specs.declared.state.Admit.{Admit}
 use Rattle.tip_conn.specs.declared.state.Admit.TheVariants.{Serve, Wrong}
@@ -33,7 +37,7 @@ use Rattle.tip_machine.specs.Commands.{commanded, identify, query, serve, serve_
 use Rattle.tip_machine.specs.Responses.{answered_by}
 use Rattle.tip_machine.specs.Requests.{added, ask_pull, ask_push, dial, hear, line, lost, opened, owner, resume, settled, voted}
 use Rattle.tip_machine.specs.Served.{is_served, today}
-use Rattle.tip_machine.specs.Steps.{attempt, chosen, entered, frozen, is_open, step, wanted, wants}
+use Rattle.tip_machine.specs.Steps.{attempt, chosen, entered, frozen, is_open, returned, step, wanted, wants}
 use Rattle.tip_machine.specs.declared.answer.Item.TheVariants.{Say, Close}
 use Rattle.tip_machine.specs.declared.answer.Said.{Said}
 use Rattle.tip_machine.specs.declared.answer.Said.TheVariants as said
@@ -45,7 +49,7 @@ use Rattle.tip_machine.specs.declared.event.Heard.{Heard}
 use Rattle.tip_machine.specs.declared.event.Heard.TheVariants.{Command as ACommand, Response as AResponse}
 use Rattle.tip_machine.specs.declared.event.Outcome.{Outcome}
 use Rattle.tip_machine.specs.declared.event.Seat.{Seat}
-use Rattle.tip_core.specs.Tables.{AreAlone, IsAlone}
+use Rattle.tip_machine.specs.Alone.{AreAlone, IsAlone, is_early}
 
 -- Lists
 
@@ -83,17 +87,35 @@ role_in_none Enlisted role is = is
 role_in_none Prepared role is = is
 role_in_none AtEnd role is = is
 
-moved_to_alone : (place : Option (ConnectionState × Turn)) (c : Connection) → IsAlone c → IsAlone (moved_to place c)
-moved_to_alone None c alone = alone
-moved_to_alone (Some place) c alone = record { dialled = alone.dialled; owed = refl; awaited = refl; role = role_in_none place.0 c.role alone.role }
+-- where a connection goes that stays off transactions
+abbrev IsEarly : Option (ConnectionState × Turn) → Type 0
+IsEarly None = Unit {0}
+IsEarly (Some place) = is_early place.0 ≡ true
 
-moved_alone : (command : CommandName) (response : ResponseName) (c : Connection) → IsAlone c → IsAlone (moved command response c)
-moved_alone command response c alone = moved_to_alone (next_of command c.state response) c alone
+-- a command that is answered so leads from an early state to an early one
+abbrev StaysEarly : CommandName → ResponseName → Type 0
+StaysEarly command response = IsEarly (next_of command Initial response) × IsEarly (next_of command Idle response)
+
+next_early : (command : CommandName) (response : ResponseName) (state : ConnectionState) → StaysEarly command response → is_early state ≡ true → IsEarly (next_of command state response)
+next_early command response Initial early is = early.0
+next_early command response Idle early is = early.1
+next_early command response Begun early is = absurd (cc)
+next_early command response Enlisted early is = absurd (cc)
+next_early command response Prepared early is = absurd (cc)
+next_early command response AtEnd early is = absurd (cc)
+
+moved_to_alone : (place : Option (ConnectionState × Turn)) (c : Connection) → IsEarly place → IsAlone c → IsAlone (moved_to place c)
+moved_to_alone None c early alone = alone
+moved_to_alone (Some place) c early alone = record { dialled = alone.dialled; early = early; owed = refl; awaited = refl; role = role_in_none place.0 c.role alone.role }
+
+moved_alone : (command : CommandName) (response : ResponseName) → StaysEarly command response → (c : Connection) → IsAlone c → IsAlone (moved command response c)
+moved_alone command response early c alone = moved_to_alone (next_of command c.state response) c (next_early command response c.state early alone.early) alone
 
 identified_alone : (peer : Option (List ℕ)) (c : Connection) → IsAlone c → IsAlone (identified peer c)
+unfolding next_of
 identified_alone peer c alone =
-    let went = moved_to_alone (next_of _ c.state _) c alone in
-    record { dialled = went.dialled; owed = went.owed; awaited = went.awaited; role = went.role }
+    let went = moved_alone command.Identify response.Identified (refl, tt) c alone in
+    record { dialled = went.dialled; early = went.early; owed = went.owed; awaited = went.awaited; role = went.role }
 
 -- its failure touches no transaction
 missed_none : (role : Option Role) (w : Work) → role ≡ None → missed role w ≡ w
@@ -108,6 +130,7 @@ fail_is c w alone = missed_none c.role (gone c w) alone.role
 pub record IsPlain (w : Work) : Type 0 where
   pub alone : AreAlone w.state.connections
   pub none : w.state.transactions ≡ []
+  pub work : w.answer.work ≡ None
 
 -- and asks for nothing
 abbrev pub IsPlainAttempt : Attempt → Type 0
@@ -124,30 +147,43 @@ either_attempt false this that e f = f
 
 gone_plain : (c : Connection) (w : Work) → IsPlain w → IsPlain (gone c w)
 unfolding gone
-gone_plain c w plain = record { alone = without_alone (has_number c.number) w.state.connections plain.alone; none = plain.none }
+gone_plain c w plain = record { alone = without_alone (has_number c.number) w.state.connections plain.alone; none = plain.none; work = plain.work }
 
 fail_plain : (c : Connection) (w : Work) → IsAlone c → IsPlain w → IsPlain (fail c w)
 fail_plain c w alone plain = subst IsPlain (sym (fail_is c w alone)) (gone_plain c w plain)
 
 closed_plain : (c : Connection) (w : Work) → IsAlone c → IsPlain w → IsPlain (closed c w)
 unfolding closed
-closed_plain c w alone plain = fail_plain c (tell c.number Close w) alone (record { alone = plain.alone; none = plain.none })
+closed_plain c w alone plain = fail_plain c (tell c.number Close w) alone (record { alone = plain.alone; none = plain.none; work = plain.work })
 
 wrong_plain : (c : Connection) (w : Work) → IsAlone c → IsPlain w → IsPlain (wrong c w)
 unfolding wrong
-wrong_plain c w alone plain = closed_plain c (tell c.number (Say said.Error) w) alone (record { alone = plain.alone; none = plain.none })
+wrong_plain c w alone plain = closed_plain c (tell c.number (Say said.Error) w) alone (record { alone = plain.alone; none = plain.none; work = plain.work })
 
-reply_plain : (n : ℕ) (command : CommandName) (said : Said) (w : Work) → IsPlain w → IsPlain (reply n command said w)
+reply_plain : (n : ℕ) (command : CommandName) (said : Said) (w : Work) → StaysEarly command (response_name said) → IsPlain w → IsPlain (reply n command said w)
 unfolding reply
-reply_plain n command said w plain = record { alone = changed_alone (has_number n) (moved command (response_name said)) w.state.connections (moved_alone command (response_name said)) plain.alone; none = plain.none }
+reply_plain n command said w early plain = record { alone = changed_alone (has_number n) (moved command (response_name said)) w.state.connections (moved_alone command (response_name said) early) plain.alone; none = plain.none; work = plain.work }
 
 identify_plain : (lowest highest : ℕ) (peer : Option (List ℕ)) (c : Connection) (w : Work) → IsAlone c → IsPlain w → IsPlain (identify lowest highest peer c w)
 unfolding identify
-identify_plain lowest highest peer c w alone plain = either IsPlain (nat_le lowest 3 && nat_le 3 highest) _ (wrong c w) (record { alone = changed_alone (has_number c.number) (identified peer) w.state.connections (identified_alone peer) plain.alone; none = plain.none }) (wrong_plain c w alone plain)
+identify_plain lowest highest peer c w alone plain = either IsPlain (nat_le lowest 3 && nat_le 3 highest) _ (wrong c w) (record { alone = changed_alone (has_number c.number) (identified peer) w.state.connections (identified_alone peer) plain.alone; none = plain.none; work = plain.work }) (wrong_plain c w alone plain)
+
+queried_early : (exists : Bool) → StaysEarly command.Query (response_name (cond exists said.QueriedExists said.QueriedNotFound))
+unfolding next_of
+queried_early true = (tt, refl)
+queried_early false = (tt, refl)
 
 query_plain : (superior : List ℕ) (c : Connection) (w : Work) → IsPlain w → IsPlain (query superior c w)
 unfolding query
-query_plain superior c w plain = reply_plain c.number _ _ w plain
+query_plain superior c w plain = reply_plain c.number _ _ w (queried_early _) plain
+
+multiplex_early : StaysEarly command.Multiplex (response_name said.CantMultiplex)
+unfolding next_of
+multiplex_early = (tt, refl)
+
+tls_early : StaysEarly command.Tls (response_name said.CantTls)
+unfolding next_of
+tls_early = (refl, tt)
 
 serve_plain : (command : Command) (c : Connection) (w : Work) → is_served (name_of command) ≡ true → IsAlone c → IsPlain w → IsPlainAttempt (serve command c w)
 serve_plain (Identify lowest highest peer secondary) c w so alone plain = identify_plain lowest highest peer c w alone plain
@@ -159,8 +195,8 @@ serve_plain Commit c w so alone plain = absurd (cc)
 serve_plain Abort c w so alone plain = absurd (cc)
 serve_plain (Query superior) c w so alone plain = query_plain superior c w plain
 serve_plain (Reconnect subordinate) c w so alone plain = absurd (cc)
-serve_plain (Multiplex protocol) c w so alone plain = reply_plain c.number _ _ w plain
-serve_plain Tls c w so alone plain = reply_plain c.number _ _ w plain
+serve_plain (Multiplex protocol) c w so alone plain = reply_plain c.number _ _ w multiplex_early plain
+serve_plain Tls c w so alone plain = reply_plain c.number _ _ w tls_early plain
 serve_plain Error c w so alone plain = closed_plain c w alone plain
 
 served_or : (b : Bool) (command : Command) (c : Connection) (w : Work) → is_served (name_of command) ≡ b → IsAlone c → IsPlain w → IsPlainAttempt (cond b (serve command c w) (Attempt.Done (wrong c w)))
@@ -201,8 +237,8 @@ seated_alone seat state alone = seated_each (seat.epoch == state.head.epoch) sea
 
 line_plain : (found : Option Connection) (heard : Heard) (w : Work) → EachAlone found → IsPlain w → IsPlainAttempt (line today found heard w)
 unfolding line EachAlone
-line_plain None heard w alone plain = record { alone = plain.alone; none = plain.none }
-line_plain (Some c) heard w alone plain = either_attempt (may_take c) (hear today c.side heard c w) _ (hear_plain c.side heard c w alone plain) (record { alone = plain.alone; none = plain.none })
+line_plain None heard w alone plain = record { alone = plain.alone; none = plain.none; work = plain.work }
+line_plain (Some c) heard w alone plain = either_attempt (may_take c) (hear today c.side heard c w) _ (hear_plain c.side heard c w alone plain) (record { alone = plain.alone; none = plain.none; work = plain.work })
 
 -- where a line is taken, we are the secondary
 takes_secondary : (side : Side) (owed awaited : Bool) → (owed && (is_secondary side || awaited)) ≡ true → awaited ≡ false → side ≡ Secondary
@@ -227,7 +263,7 @@ line_is (Some d) c heard w is alone may =
 
 lost_plain : (found : Option Connection) (w : Work) → EachAlone found → IsPlain w → IsPlain (lost found w)
 unfolding lost EachAlone
-lost_plain None w alone plain = record { alone = plain.alone; none = plain.none }
+lost_plain None w alone plain = record { alone = plain.alone; none = plain.none; work = plain.work }
 lost_plain (Some c) w alone plain = fail_plain c w alone plain
 
 not_free : (c : Connection) (this that : Work) → IsAlone c → cond (is_free c) this that ≡ that
@@ -243,17 +279,17 @@ ask_pull_is c id w alone = not_free c _ _ alone
 
 ask_push_plain : (found : Option Connection) (id : List ℕ) (w : Work) → EachAlone found → IsPlain w → IsPlain (ask_push found id w)
 unfolding ask_push EachAlone
-ask_push_plain None id w alone plain = record { alone = plain.alone; none = plain.none }
-ask_push_plain (Some c) id w alone plain = subst IsPlain (sym (ask_push_is c id w alone)) (record { alone = plain.alone; none = plain.none })
+ask_push_plain None id w alone plain = record { alone = plain.alone; none = plain.none; work = plain.work }
+ask_push_plain (Some c) id w alone plain = subst IsPlain (sym (ask_push_is c id w alone)) (record { alone = plain.alone; none = plain.none; work = plain.work })
 
 ask_pull_plain : (found : Option Connection) (id : List ℕ) (w : Work) → EachAlone found → IsPlain w → IsPlain (ask_pull found id w)
 unfolding ask_pull EachAlone
-ask_pull_plain None id w alone plain = record { alone = plain.alone; none = plain.none }
-ask_pull_plain (Some c) id w alone plain = subst IsPlain (sym (ask_pull_is c id w alone)) (record { alone = plain.alone; none = plain.none })
+ask_pull_plain None id w alone plain = record { alone = plain.alone; none = plain.none; work = plain.work }
+ask_pull_plain (Some c) id w alone plain = subst IsPlain (sym (ask_pull_is c id w alone)) (record { alone = plain.alone; none = plain.none; work = plain.work })
 
 opened_plain : (boxes : List Plan) (w : Work) → IsPlain w → IsPlain (opened boxes w)
 unfolding opened added
-opened_plain boxes w plain = either IsPlain (has_place (length boxes) w.state) _ _ (record { alone = pushed_alone w.state.connections _ (record { dialled = refl; owed = refl; awaited = refl; role = refl }) plain.alone; none = plain.none }) (record { alone = plain.alone; none = plain.none })
+opened_plain boxes w plain = either IsPlain (has_place (length boxes) w.state) _ _ (record { alone = pushed_alone w.state.connections _ (record { dialled = refl; early = refl; owed = refl; awaited = refl; role = refl }) plain.alone; none = plain.none; work = plain.work }) (record { alone = plain.alone; none = plain.none; work = plain.work })
 
 -- no transaction is found where there is none
 pub unknown : (id : List ℕ) (state : State) → state.transactions ≡ [] → identified_by id state ≡ None
@@ -268,23 +304,23 @@ unowned party state none = either_none (party.epoch == state.head.epoch) (identi
 
 voted_plain : (found : Option Transaction) (party : PartyNotes) (w : Work) → found ≡ None → IsPlain w → IsPlainAttempt (voted found party w)
 unfolding voted
-voted_plain None party w is plain = record { alone = plain.alone; none = plain.none }
+voted_plain None party w is plain = record { alone = plain.alone; none = plain.none; work = plain.work }
 voted_plain (Some t) party w is plain = absurd (cc)
 
 settled_plain : (found : Option Transaction) (party : PartyNotes) (w : Work) → found ≡ None → IsPlain w → IsPlainAttempt (settled found party w)
 unfolding settled
-settled_plain None party w is plain = record { alone = plain.alone; none = plain.none }
+settled_plain None party w is plain = record { alone = plain.alone; none = plain.none; work = plain.work }
 settled_plain (Some t) party w is plain = absurd (cc)
 
 resume_plain : (found : Option Transaction) (w : Work) → found ≡ None → IsPlain w → IsPlainAttempt (resume found w)
 unfolding resume
-resume_plain None w is plain = record { alone = plain.alone; none = plain.none }
+resume_plain None w is plain = record { alone = plain.alone; none = plain.none; work = plain.work }
 resume_plain (Some t) w is plain = absurd (cc)
 
 attempt_plain : (event : Event) (w : Work) → IsPlain w → IsPlainAttempt (attempt today event w)
 unfolding dial
 attempt_plain (Open boxes) w plain = opened_plain boxes w plain
-attempt_plain (Dial address purpose boxes) w plain = record { alone = plain.alone; none = plain.none }
+attempt_plain (Dial address purpose boxes) w plain = record { alone = plain.alone; none = plain.none; work = plain.work }
 attempt_plain (Line seat heard) w plain = line_plain (seated seat w.state) heard w (seated_alone seat w.state plain.alone) plain
 attempt_plain (Voted party) w plain = voted_plain (owner party w.state) party w (unowned party w.state plain.none) plain
 attempt_plain (Settled party) w plain = settled_plain (owner party w.state) party w (unowned party w.state plain.none) plain
@@ -294,7 +330,7 @@ attempt_plain (AskPull seat superior) w plain = ask_pull_plain (seated seat w.st
 attempt_plain (Resume id) w plain = resume_plain (identified_by id w.state) w (unknown id w.state plain.none) plain
 
 entered_plain : (state : State) → state.transactions ≡ [] → AreAlone state.connections → IsPlain (entered state)
-entered_plain state none alone = record { alone = alone; none = none }
+entered_plain state none alone = record { alone = alone; none = none; work = refl }
 
 -- Steps
 
@@ -302,23 +338,25 @@ chosen_plain : (a : Attempt) (outcome : Outcome) → IsPlainAttempt a → IsPlai
 chosen_plain (Attempt.Done w) outcome plain = plain
 chosen_plain (Attempt.Asks change stored refused) outcome plain = absurd plain
 
-IsAloneIn : Work → Type 0
-IsAloneIn w = AreAlone w.state.connections
+ordered_plain : (state : State) (w : Work) → IsPlain w → IsPlain (ordered state w)
+unfolding ordered
+ordered_plain state w plain = record { alone = plain.alone; none = plain.none; work = plain.work }
 
-ordered_in : (state : State) (w : Work) → IsPlain w → IsAloneIn (ordered state w)
-unfolding IsAloneIn ordered
-ordered_in state w plain = plain.alone
+returned_work : (why : Refusal) (event : Event) → (returned why event).work ≡ None
+returned_work why (Open boxes) = refl
+returned_work why (Dial address purpose boxes) = refl
+returned_work why (Voted party) = refl
+returned_work why (Settled party) = refl
+returned_work why other = refl
 
-frozen_in : (event : Event) (state : State) → AreAlone state.connections → IsAloneIn (frozen event state)
-unfolding IsAloneIn
-frozen_in event state alone = alone
-
-step_in : (state : State) (event : Event) (outcome : Outcome) → state.transactions ≡ [] → AreAlone state.connections → IsAloneIn (step state event outcome)
-step_in state event outcome none alone = either IsAloneIn (is_open state) _ (frozen event state) (ordered_in state _ (chosen_plain _ outcome (attempt_plain event (entered state) (entered_plain state none alone)))) (frozen_in event state alone)
+pub step_plain : (state : State) (event : Event) (outcome : Outcome) → state.transactions ≡ [] → AreAlone state.connections → IsPlain (step state event outcome)
+step_plain state event outcome none alone =
+    either IsPlain (is_open state) _ (frozen event state)
+    (ordered_plain state _ (chosen_plain _ outcome (attempt_plain event (entered state) (entered_plain state none alone))))
+    (record { alone = alone; none = none; work = returned_work Frozen event })
 
 pub step_alone : (state : State) (event : Event) (outcome : Outcome) → state.transactions ≡ [] → AreAlone state.connections → AreAlone (step state event outcome).state.connections
-unfolding IsAloneIn
-step_alone state event outcome none alone = step_in state event outcome none alone
+step_alone state event outcome none alone = (step_plain state event outcome none alone).alone
 
 -- nothing is wanted of the rows
 

@@ -1,0 +1,79 @@
+-- Numbers of connections that rise in the order made.
+use Rattle.std.proofs.Common.{◌≡◌, ◌<◌, Bool, true, false, ℕ, List, [], ◌∷◌, ◌++◌, Some, cond, refl, ap, arith, subst}
+use Rattle.std.specs.Prelude.{nat_lt, find, map}
+use Rattle.std.specs.List.{list_all, list_any}
+use Rattle.std.proofs.lemmas.Bool.{and_from, and_left, and_parts, or_from}
+use Rattle.std.proofs.lemmas.Bool.Decides.{nat_tests}
+use Rattle.std.proofs.lemmas.Option.{same_Some, none-some}
+use Rattle.tip_rows.specs.Keys.{Place as Key}
+use Rattle.tip_table.specs.Lists.{changed, without}
+use Rattle.tip_machine.specs.Types.{Connection}
+use Rattle.tip_machine.specs.Connections.{has_number}
+use Rattle.tip_machine.specs.Given.{are_rising, is_to_make, numbers_of}
+
+-- Numbers that stay
+
+pub numbers-changed : (test : Connection → Bool) (f : Connection → Connection) (cs : List Connection) → ((c : Connection) → (f c).number ≡ c.number) → numbers_of (changed test f cs) ≡ numbers_of cs
+numbers-changed test f [] same = refl
+numbers-changed test f (c ∷ cs) same = step (test c) (numbers-changed test f cs same) where
+  step : (b : Bool) → numbers_of (changed test f cs) ≡ numbers_of cs → numbers_of (cond b (f c ∷ cs) (c ∷ changed test f cs)) ≡ c.number ∷ numbers_of cs
+  step true rest = ap (λ n. n ∷ numbers_of cs) (same c)
+  step false rest = ap (λ ns. c.number ∷ ns) rest
+
+pub numbers-map : (f : Connection → Connection) (cs : List Connection) → ((c : Connection) → (f c).number ≡ c.number) → numbers_of (map f cs) ≡ numbers_of cs
+numbers-map f [] same = refl
+numbers-map f (c ∷ cs) same = rw (same c, numbers-map f cs same) refl
+
+numbers-added : (cs : List Connection) (c : Connection) → numbers_of (cs ++ c ∷ []) ≡ numbers_of cs ++ c.number ∷ []
+numbers-added [] c = refl
+numbers-added (d ∷ cs) c = ap (λ ns. d.number ∷ ns) (numbers-added cs c)
+
+-- One taken out
+
+module _ (last : ℕ) where
+  all-without : (least : ℕ) (test : Connection → Bool) (cs : List Connection) → list_all (nat_lt least) (numbers_of cs ++ last ∷ []) ≡ true → list_all (nat_lt least) (numbers_of (without test cs) ++ last ∷ []) ≡ true
+  all-without least test [] all = all
+  all-without least test (c ∷ cs) all = let parts = and_parts _ _ all in step (test c) parts.0 parts.1 (all-without least test cs parts.1) where
+    step : (b : Bool) → nat_lt least c.number ≡ true → list_all (nat_lt least) (numbers_of cs ++ last ∷ []) ≡ true → list_all (nat_lt least) (numbers_of (without test cs) ++ last ∷ []) ≡ true → list_all (nat_lt least) (numbers_of (cond b cs (c ∷ without test cs)) ++ last ∷ []) ≡ true
+    step true first rest later = rest
+    step false first rest later = and_from _ _ first later
+
+  pub rising-without : (test : Connection → Bool) (cs : List Connection) → are_rising (numbers_of cs ++ last ∷ []) ≡ true → are_rising (numbers_of (without test cs) ++ last ∷ []) ≡ true
+  rising-without test [] rising = rising
+  rising-without test (c ∷ cs) rising = let parts = and_parts _ _ rising in step (test c) parts.0 parts.1 (rising-without test cs parts.1) where
+    step : (b : Bool) → list_all (nat_lt c.number) (numbers_of cs ++ last ∷ []) ≡ true → are_rising (numbers_of cs ++ last ∷ []) ≡ true → are_rising (numbers_of (without test cs) ++ last ∷ []) ≡ true → are_rising (numbers_of (cond b cs (c ∷ without test cs)) ++ last ∷ []) ≡ true
+    step true first rest later = rest
+    step false first rest later = and_from _ _ (all-without c.number test cs first) later
+
+  -- What was found
+
+  above : (least : ℕ) (numbers : List ℕ) → list_all (nat_lt least) (numbers ++ last ∷ []) ≡ true → least < last
+  above least [] all = let less : nat_lt least last ≡ true = (and_parts _ _ all).0 in grind (arith, nat_tests, less)
+  above least (n ∷ numbers) all = above least numbers (and_parts _ _ all).1
+
+  pub found-below : (test : Connection → Bool) (cs : List Connection) (c : Connection) → find test cs ≡ Some c → are_rising (numbers_of cs ++ last ∷ []) ≡ true → c.number < last
+  found-below test [] c is rising = absurd (none-some c is)
+  found-below test (d ∷ cs) c is rising = let parts = and_parts _ _ rising in step (test d) is (above d.number (numbers_of cs) parts.0) (λ later. found-below test cs c later parts.1) where
+    step : (b : Bool) → cond b (Some d) (find test cs) ≡ Some c → d.number < last → (find test cs ≡ Some c → c.number < last) → c.number < last
+    step true is less later = subst (λ (e : Connection). e.number < last) (same_Some d c is) less
+    step false is less later = later is
+
+  -- behind a connection, none has its number
+  pub none-behind : (key : Key) (cs : List Connection) → list_all (nat_lt key.connection) (numbers_of cs ++ last ∷ []) ≡ true → list_any (is_to_make key) cs ≡ false
+  none-behind key [] all = refl
+  none-behind key (c ∷ cs) all =
+      let parts = and_parts (nat_lt key.connection c.number) (list_all (nat_lt key.connection) (numbers_of cs ++ last ∷ [])) all in let less : nat_lt key.connection c.number ≡ true = parts.0 in
+      or_from (is_to_make key c) (list_any (is_to_make key) cs) (and_left (has_number key.connection c) (nat_lt c.made key.number) (grind (arith, nat_tests, less))) (none-behind key cs parts.1)
+
+-- One added
+
+all-more : (least last next : ℕ) (numbers : List ℕ) → last < next → list_all (nat_lt least) (numbers ++ last ∷ []) ≡ true → list_all (nat_lt least) ((numbers ++ last ∷ []) ++ next ∷ []) ≡ true
+all-more least last next [] less all = let first : nat_lt least last ≡ true = (and_parts _ _ all).0 in grind (arith, nat_tests, less, first)
+all-more least last next (n ∷ numbers) less all = let parts = and_parts _ _ all in and_from _ _ parts.0 (all-more least last next numbers less parts.1)
+
+rising-more : (last next : ℕ) (numbers : List ℕ) → last < next → are_rising (numbers ++ last ∷ []) ≡ true → are_rising ((numbers ++ last ∷ []) ++ next ∷ []) ≡ true
+rising-more last next [] less rising = grind (arith, nat_tests, less)
+rising-more last next (n ∷ numbers) less rising = let parts = and_parts _ _ rising in and_from _ _ (all-more n last next numbers less parts.0) (rising-more last next numbers less parts.1)
+
+pub rising-added : (last next : ℕ) (cs : List Connection) (c : Connection) → c.number ≡ last → last < next → are_rising (numbers_of cs ++ last ∷ []) ≡ true → are_rising (numbers_of (cs ++ c ∷ []) ++ next ∷ []) ≡ true
+rising-added last next cs c same less rising = rw (numbers-added cs c, same) (rising-more last next (numbers_of cs) less rising)
