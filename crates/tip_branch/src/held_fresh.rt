@@ -66,10 +66,7 @@ impl HeldFresh {
         requires { Always }
         ensures { result ≡ [] }
     {
-        HeldFresh {
-            boxes: Vec::new(alloc),
-            plans: Vec::new(alloc),
-        }
+        HeldFresh::none(alloc)
     }
 
     /// The boxes with their plans, which were read before.
