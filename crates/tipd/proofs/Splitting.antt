@@ -1,5 +1,5 @@
 -- Fields between single spaces, and the fields that are names and numbers.
-use Rattle.std.proofs.Common.{◌≡◌, ◌+◌, ◌-◌, ◌^◌, ◌<◌, take, drop, ◌∙◌, ℕ, suc, zero, lit<, List, [], ◌∷◌, Bool, true, false, ◌&&◌, nat_lt, nat_le, length, None, refl, subst, arith}
+use Rattle.std.proofs.Common.{◌≡◌, ◌+◌, ◌-◌, ◌^◌, ◌<◌, take, drop, ◌∙◌, ℕ, suc, zero, lit<, List, [], ◌∷◌, Bool, true, false, ◌&&◌, nat_lt, nat_le, length, None, refl, ap, subst, arith}
 use Rattle.std.specs.Fmt.{decimal}
 use Rattle.std.specs.List.{list_all}
 use Rattle.std.specs.Str.{IsUtf8, IsAscii, bytes_eq}
@@ -8,7 +8,7 @@ use Rattle.std.proofs.lemmas.Fmt.{IsAscii-decimal}
 use Rattle.std.specs.List.{AllWithin, HoldsAt}
 use Rattle.std.proofs.lemmas.List.{take_all, length-drop}
 use Rattle.std.proofs.lemmas.List.Sums.{position_or_len_is}
-use Rattle.std.proofs.lemmas.List.Splits.{join_with_byte-slice_split, slice_split_none, slice_split_first}
+use Rattle.std.proofs.lemmas.List.Splits.{join_with_byte-slice_split, length-slice_split, slice_split_none, slice_split_first}
 use Rattle.tip_line.specs.Octets.{is_space}
 use Rattle.std.proofs.lemmas.Slice.Eq.{bytes_eq-Decides}
 use Rattle.std.proofs.lemmas.Str.{IsUtf8-from_ascii}
@@ -21,6 +21,10 @@ use Rattle.tipd.specs.Scripts.{fields_of, rest_of, realm_in}
 -- the fields of a text, joined again, are the text
 pub joined : (text : List ℕ) → rest_of (fields_of text) ≡ text
 joined text = join_with_byte-slice_split 32 text
+
+-- a line has a field, be it one of no octets
+pub some_field : (text : List ℕ) → fields_of text ≡ [] → ⊥
+some_field text is = let none = ap length is in let some = length-slice_split is_space text in omega (arith, none, some)
 
 no_number_at : (word : List ℕ) (spelled fits : Bool) → bytes_eq (decimal (number_from 0 word)) word ≡ spelled → nat_lt (number_from 0 word) (2 ^ 32) ≡ fits → ¬ IsUtf8 word → number_in word ≡ None
 no_number_at word false fits s f h = rw s refl

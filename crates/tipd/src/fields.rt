@@ -22,10 +22,10 @@ impl<'a> Fields<'a> {
     }
 
     /// All that is left, as one field.
-    #[tactic(auto, using(crate::proofs::Splitting::joined))]
+    #[tactic(auto, using(crate::proofs::Splitting::joined, crate::proofs::Splitting::some_field))]
     pub fn rest(self) -> Option<&'a [u8]>
         ensures some { IfSome result (λ rest. rest.now ≡ rest_of (left_in self.entry.rest)) }
-        ensures none { IfNone result (left_in self.entry.rest ≡ []) }
+        ensures none { (result ≡ None) ↔ (left_in self.entry.rest ≡ []) }
     {
         self.rest
     }
