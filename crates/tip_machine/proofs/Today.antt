@@ -10,14 +10,13 @@ use Rattle.tip_conn.specs.declared.state.Side.{Side}
 use Rattle.tip_conn.specs.declared.state.Side.TheVariants.{Primary, Secondary}
 use Rattle.tip_conn.specs.declared.state.State.{State as ConnectionState}
 use Rattle.tip_conn.specs.declared.state.State.TheVariants.{Initial, Idle, Begun, Enlisted, Prepared, Error}
-use Rattle.tip_line.specs.declared.command.CommandName.{CommandName}
 use Rattle.tip_rows.specs.Keys.{Place as Key}
 use Rattle.tip_rows.specs.declared.row.Row.{Row}
 use Rattle.tip_machine.specs.Types.{Connection, Event}
 use Rattle.tip_machine.specs.Alone.{AreAlone, IsAlone, is_early}
 use Rattle.tip_machine.specs.Given.{are_numbered}
 use Rattle.tip_machine.specs.Invariants.{IsSound, has_its_role, is_connected, is_in_turn, is_on_side}
-use Rattle.tip_machine.specs.Moves.{Move, World, fresh, gone_for, lost_from, moved, reached, renewed, restarted_from, rows_after, stepped}
+use Rattle.tip_machine.specs.Moves.{Move, World, fresh, gone_for, led_to, lost_from, moved, renewed, restarted_from, rows_after, stepped}
 use Rattle.tip_machine.specs.Served.{today}
 use Rattle.tip_machine.specs.declared.connection.Awaited.{Awaited}
 use Rattle.tip_machine.specs.declared.event.Change.{Change}
@@ -92,9 +91,9 @@ no_roles : (cs : List Connection) → AreAlone cs → filter_map (λ connection.
 no_roles [] alone = refl
 no_roles (c ∷ cs) alone = rw alone.0.role (no_roles cs alone.1)
 
-in_turn : (side : Side) (owed : Option CommandName) (awaited : Option Awaited) (c : Connection) → c.owed ≡ None → c.awaited ≡ None → is_in_turn side c ≡ true
-in_turn Secondary owed awaited c none nothing = ap is_none nothing
-in_turn Primary owed awaited c none nothing = ap is_none none
+in_turn : (side : Side) (c : Connection) → c.owed ≡ None → c.awaited ≡ None → is_in_turn side c ≡ true
+in_turn Secondary c none nothing = ap is_none nothing
+in_turn Primary c none nothing = ap is_none none
 
 on_side : (side : Side) (awaited : Option Awaited) → is_on_side side awaited None ≡ true
 on_side Secondary awaited = refl
@@ -110,7 +109,7 @@ has_none Error awaited early = absurd (cc)
 
 connected : (c : Connection) → IsAlone c → is_connected c ≡ true
 connected c alone =
-    and_from _ _ (and_from _ _ (in_turn c.side c.owed c.awaited c alone.owed alone.awaited) (ap (is_on_side c.side c.awaited) alone.role ∙ on_side c.side c.awaited))
+    and_from _ _ (and_from _ _ (in_turn c.side c alone.owed alone.awaited) (ap (is_on_side c.side c.awaited) alone.role ∙ on_side c.side c.awaited))
     (ap (has_its_role c.state c.awaited) alone.role ∙ has_none c.state c.awaited alone.early)
 
 all_connected : (cs : List Connection) → AreAlone cs → list_all is_connected cs ≡ true
@@ -130,9 +129,9 @@ quiet_sound world quiet = record {
   stored = rw (quiet.transactions, quiet.rows) refl;
 }
 
-reaches_from : (world : World) (moves : List Move) → IsQuiet world → IsSound (reached today world moves)
-reaches_from world [] quiet = quiet_sound world quiet
-reaches_from world (move ∷ moves) quiet = reaches_from (moved today move world).world moves (moved_quiet move world quiet)
+leads_from : (world : World) (moves : List Move) → IsQuiet world → IsSound (led_to today world moves)
+leads_from world [] quiet = quiet_sound world quiet
+leads_from world (move ∷ moves) quiet = leads_from (moved today move world).world moves (moved_quiet move world quiet)
 
-pub reaches_sound : (head : Head) (moves : List Move) → IsSound (reached today (fresh head) moves)
-reaches_sound head moves = reaches_from (fresh head) moves (fresh_quiet head)
+pub leads_to_sound : (head : Head) (moves : List Move) → IsSound (led_to today (fresh head) moves)
+leads_to_sound head moves = leads_from (fresh head) moves (fresh_quiet head)

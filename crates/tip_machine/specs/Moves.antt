@@ -129,9 +129,9 @@ shown serving world [] = []
 shown serving world (move ∷ moves) = (moved serving move world).shown ∷ shown serving (moved serving move world).world moves
 
 -- where a list of moves leads
-abbrev pub reached : Serving → World → List Move → World
-reached serving world [] = world
-reached serving world (move ∷ moves) = reached serving (moved serving move world).world moves
+abbrev pub led_to : Serving → World → List Move → World
+led_to serving world [] = world
+led_to serving world (move ∷ moves) = led_to serving (moved serving move world).world moves
 
 -- a realm that starts and has stored nothing
 abbrev pub fresh : Head → World

@@ -1,4 +1,4 @@
-//! Laws of the machine, each carried by a function that does nothing. They hold whatever is served.
+//! Laws of the machine, each carried by a function that does nothing. All but the last hold whatever is served.
 ghost use Rattle.std.specs.Prelude.{◌≡◌, ◌≤◌, ◌<◌, [], ℕ, List, IsSome, Some, None, map, true, false};
 ghost use Rattle.tip_txn.specs.Decisions.{Decides};
 ghost use Rattle.tip_txn.specs.Parts.{answers_of};
@@ -9,7 +9,7 @@ ghost use Rattle.tip_machine.specs.Changes.{reply};
 ghost use Rattle.tip_machine.specs.Commands.{pull, query, reconnect};
 ghost use Rattle.tip_machine.specs.Given.{are_numbered, was_given};
 ghost use Rattle.tip_machine.specs.Invariants.{IsSound};
-ghost use Rattle.tip_machine.specs.Moves.{Move, fresh, reached};
+ghost use Rattle.tip_machine.specs.Moves.{Move, fresh, led_to};
 ghost use Rattle.tip_machine.specs.Served.{Serving, today};
 ghost use Rattle.tip_machine.specs.States.{State, Work, transaction_of};
 ghost use Rattle.tip_machine.specs.Steps.{step_serving, ChangesTheEntriesAlone, IsForgotten, IsNext, TouchesOne};
@@ -71,5 +71,5 @@ pub fn an_aborted_transaction_is_as_one_that_never_was()
 
 /// The steps that are served today keep the invariants: they hold wherever a realm comes that had stored nothing.
 pub fn what_is_served_keeps_the_invariants()
-    ensures { (head : Head) (moves : List Move) → IsSound (reached today (fresh head) moves) }
+    ensures { (head : Head) (moves : List Move) → IsSound (led_to today (fresh head) moves) }
 {}
