@@ -47,7 +47,7 @@ plays player player' read line old mid new so is few acts none number =
       stands = does.0.2;
       open_line = none ∙ sym (unended_feed read);
       short = rw (unended_feed read) (omega arith);
-      number = let lines = simp length-append at (ap length (ended_feed read)) in let fewer = few_lines [] read in let octets = length-append read (10 ∷ []) in omega arith;
+      number = let lines = simp length-append at (ap length (ended_feed read)) in let fewer = few_lines read in let octets = length-append read (10 ∷ []) in omega arith;
       written = subst (Appends old new) (sym (ap (λ (p : Played). p.printed) all)) (Appends-trans old mid new (played_of read).printed (acted so.stage (unended read)).printed so.written does.1);
     }
 

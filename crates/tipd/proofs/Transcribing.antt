@@ -7,7 +7,7 @@ use Rattle.std.proofs.lemmas.List.{append_assoc, append-nil}
 use Rattle.tipd.specs.Transcripts.{Stage, Declaring, Acted, acted, act_of, Played, Reached, Fault, prepended, played_on, played, played_of, all_played, closing_text, longest_line, ended, unended, is_line_feed, IsFront, Transcribes}
 use Rattle.tipd.specs.Writing.{IsFrontOf}
 use Rattle.tipd.specs.declared.fault.PlayFault.TheVariants as fault
-use Rattle.tipd.proofs.Cutting.{lines_from, all_lines, first_line, ended_feed, unended_feed, ended_octet}
+use Rattle.tipd.proofs.Cutting.{lines_from, all_lines, last_line, first_line, ended_feed, unended_feed, ended_octet}
 
 -- Lines one after another
 
@@ -139,7 +139,7 @@ empty_last [] stage number = refl
 empty_last (line ∷ lines) stage number = empty_one (act_of stage line).printed (act_of stage line).stage number lines (λ s n. empty_last lines s n)
 
 pub played_last : (read : List ℕ) → all_played read ≡ played_of (read ++ 10 ∷ [])
-played_last read = ap (played (Declaring []) 1) (sym (ended_feed read))
+played_last read = ap (played (Declaring []) 1) (last_line read ∙ sym (ended_feed read))
 
 pub ended_last : (read : List ℕ) → all_played (read ++ 10 ∷ []) ≡ all_played read
-ended_last read = ap (λ line. played (Declaring []) 1 (ended (read ++ 10 ∷ []) ++ line ∷ [])) (unended_feed read) ∙ empty_last (ended (read ++ 10 ∷ [])) (Declaring []) 1 ∙ sym (played_last read)
+ended_last read = ap (played (Declaring []) 1) (last_line (read ++ 10 ∷ []) ∙ ap (λ line. ended (read ++ 10 ∷ []) ++ line ∷ []) (unended_feed read)) ∙ empty_last (ended (read ++ 10 ∷ [])) (Declaring []) 1 ∙ sym (played_last read)

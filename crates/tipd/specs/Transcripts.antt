@@ -1,6 +1,6 @@
 -- THE TRANSCRIPT OF A SCRIPT: what its octets make tipd print, and where it ends.
-use Rattle.std.specs.Prelude.{◌≡◌, ℕ, zero, suc, ◌+◌, ◌==◌, ◌&&◌, List, [], ◌∷◌, ◌++◌, length, map, Bool, not, nat_le, nat_lt, Option, Some, None, option_map, Result, Ok, Err, if◌then◌else◌}
-use Rattle.std.specs.List.{list_all, flat_map}
+use Rattle.std.specs.Prelude.{◌≡◌, ℕ, zero, suc, ◌+◌, ◌==◌, ◌&&◌, List, [], ◌∷◌, ◌++◌, length, map, take, count_by, slice_index_or, Bool, not, nat_le, nat_lt, Option, Some, None, option_map, Result, Ok, Err, if◌then◌else◌}
+use Rattle.std.specs.List.{list_all, flat_map, slice_split}
 use Rattle.std.specs.Io.KnownBytes.{Appends, Consumes}
 use Rattle.std.specs.Str.{bytes_eq}
 use Rattle.tip_line.specs.Words.{is_address, is_realm}
@@ -90,21 +90,17 @@ longest_line = 8192
 abbrev pub is_line_feed : ℕ → Bool
 is_line_feed octet = octet == 10
 
--- the lines that have ended, behind what has come of an open one
-abbrev pub ended_from : List ℕ → List ℕ → List (List ℕ)
-ended_from line [] = []
-ended_from line (octet ∷ rest) = if is_line_feed octet then line ∷ ended_from [] rest else ended_from (line ++ octet ∷ []) rest
+-- the lines of a script stand between its line feeds; the last one has no end
+abbrev pub lines_of : List ℕ → List (List ℕ)
+lines_of script = slice_split is_line_feed script
 
--- and what has come of the line that is open at the end
-abbrev pub unended_from : List ℕ → List ℕ → List ℕ
-unended_from line [] = line
-unended_from line (octet ∷ rest) = if is_line_feed octet then unended_from [] rest else unended_from (line ++ octet ∷ []) rest
-
+-- those that have ended, as many as there are line feeds
 abbrev pub ended : List ℕ → List (List ℕ)
-ended script = ended_from [] script
+ended script = take (count_by is_line_feed script) (lines_of script)
 
+-- and what has come of the one behind them
 abbrev pub unended : List ℕ → List ℕ
-unended script = unended_from [] script
+unended script = slice_index_or (lines_of script) (count_by is_line_feed script) []
 
 -- the lines were played to this stage, or the one of this number is not understood
 pub data Ending : Type 0 where
@@ -143,7 +139,7 @@ played_of read = played (Declaring []) 1 (ended read)
 
 -- the last line may lack its end
 abbrev pub all_played : List ℕ → Played
-all_played script = played (Declaring []) 1 (ended script ++ unended script ∷ [])
+all_played script = played (Declaring []) 1 (lines_of script)
 
 -- WHAT THE WHOLE SCRIPT PRINTS
 abbrev pub transcript : List ℕ → List ℕ
