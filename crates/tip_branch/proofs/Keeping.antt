@@ -65,7 +65,7 @@ pub Agrees-forgetting : (ms : List Member) (ss : List Standing) → Agrees ms ss
 Agrees-forgetting [] [] h = tt
 Agrees-forgetting [] (s ∷ ss) h = absurd h
 Agrees-forgetting (m ∷ ms) [] h = absurd h
-Agrees-forgetting (m ∷ ms) (s ∷ ss) h = (record { plan = h.0.plan; phase = h.0.phase; untold = h.0.untold; voted = h.0.voted; commits = h.0.commits }, Agrees-forgetting ms ss h.1)
+Agrees-forgetting (m ∷ ms) (s ∷ ss) h = (record { badge = h.0.badge; phase = h.0.phase; untold = h.0.untold; voted = h.0.voted; commits = h.0.commits }, Agrees-forgetting ms ss h.1)
 
 pub All-forgetting : (ms : List Member) → All (λ m. m.call ≡ None) (map forgetting ms)
 All-forgetting [] k d lt = absurd (omega arith)
@@ -77,7 +77,7 @@ pub Agrees-new_members : (ns : List ℕ) (ss : List Standing) → length ns ≡ 
 Agrees-new_members [] [] e = tt
 Agrees-new_members [] (s ∷ ss) e = absurd (omega arith)
 Agrees-new_members (n ∷ ns) [] e = absurd (omega arith)
-Agrees-new_members (n ∷ ns) (s ∷ ss) e = (record { plan = refl; phase = refl; untold = λ h. refl; voted = λ v h. absurd (let z : None ≡ Some v = h in cc); commits = omega arith }, Agrees-new_members ns ss (omega arith))
+Agrees-new_members (n ∷ ns) (s ∷ ss) e = (record { badge = refl; phase = refl; untold = λ h. refl; voted = λ v h. absurd (let z : None ≡ Some v = h in cc); commits = omega arith }, Agrees-new_members ns ss (omega arith))
 
 pub numbers_of-new_members : (ns : List ℕ) (ss : List Standing) → length ns ≡ length ss → numbers_of (new_members ns ss) ≡ ns
 numbers_of-new_members [] ss e = refl

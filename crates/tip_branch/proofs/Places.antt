@@ -37,17 +37,17 @@ length-new_members [] (s ∷ ss) e = absurd (omega arith)
 length-new_members (n ∷ ns) [] e = refl
 length-new_members (n ∷ ns) (s ∷ ss) e = let less : length ns ≡ length ss = omega arith in let h = length-new_members ns ss less in omega arith
 
-pub get_or-new_members : (ns : List ℕ) (ss : List Standing) (i : ℕ) (d : Member) (n : ℕ) (s : Standing) → i < length ns → i < length ss → get_or (new_members ns ss) i d ≡ new_member (get_or ns i n) (get_or ss i s).plan (get_or ss i s).phase
+pub get_or-new_members : (ns : List ℕ) (ss : List Standing) (i : ℕ) (d : Member) (n : ℕ) (s : Standing) → i < length ns → i < length ss → get_or (new_members ns ss) i d ≡ new_member (get_or ns i n) (get_or ss i s).badge (get_or ss i s).phase
 get_or-new_members [] ss i d n s lt lt' = absurd (omega arith)
 get_or-new_members (m ∷ ns) [] i d n s lt lt' = absurd (omega arith)
 get_or-new_members (m ∷ ns) (t ∷ ss) zero d n s lt lt' = refl
 get_or-new_members (m ∷ ns) (t ∷ ss) (suc i) d n s lt lt' = get_or-new_members ns ss i d n s (omega arith) (omega arith)
 
 -- the loop enrols the branch there
-pub enrolled_more : {A : Type 0} (s : A → Standing) (ns : List ℕ) (bs : List A) (ms : List Member) (i : ℕ) (m : Member) (n : ℕ) (d : A) → i < length ns → i < length bs → length ns ≡ length bs → ms ≡ take i (new_members ns (map s bs)) → m ≡ new_member (get_or ns i n) (s (get_or bs i d)).plan (s (get_or bs i d)).phase → ms ++ m ∷ [] ≡ take (i + 1) (new_members ns (map s bs))
+pub enrolled_more : {A : Type 0} (s : A → Standing) (ns : List ℕ) (bs : List A) (ms : List Member) (i : ℕ) (m : Member) (n : ℕ) (d : A) → i < length ns → i < length bs → length ns ≡ length bs → ms ≡ take i (new_members ns (map s bs)) → m ≡ new_member (get_or ns i n) (s (get_or bs i d)).badge (s (get_or bs i d)).phase → ms ++ m ∷ [] ≡ take (i + 1) (new_members ns (map s bs))
 enrolled_more s ns bs ms i m n d lt lt' e done at =
     let long : i < length (map s bs) = rw (length-map bs s) lt' in
     let all : length (new_members ns (map s bs)) ≡ length (map s bs) = length-new_members ns (map s bs) (e ∙ sym (length-map bs s)) in
     let within : i < length (new_members ns (map s bs)) = rw all long in
-    let there : get_or (new_members ns (map s bs)) i m ≡ m = get_or-new_members ns (map s bs) i m n (s d) lt long ∙ ap (λ t. new_member (get_or ns i n) t.plan t.phase) (get_or-map s bs i d (s d) lt') ∙ sym at in
+    let there : get_or (new_members ns (map s bs)) i m ≡ m = get_or-new_members ns (map s bs) i m n (s d) lt long ∙ ap (λ t. new_member (get_or ns i n) t.badge t.phase) (get_or-map s bs i d (s d) lt') ∙ sym at in
     sym (rw (take_more (new_members ns (map s bs)) i m within, there, ← done) refl)

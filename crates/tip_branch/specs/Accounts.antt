@@ -11,7 +11,7 @@ use Rattle.tip_branch.specs.Standings.{nothing, aborted, IsVoted, IsCommitted}
 -- what is noted of a member is what its branch stands for. What the branch was told before it came
 -- to the party is not noted; one that voted in the party was told nothing before
 pub record StandsAs (m : Member) (s : Standing) : Type 0 where
-  pub plan : s.plan ≡ m.standing.plan
+  pub badge : s.badge ≡ m.standing.badge
   pub phase : s.phase ≡ m.standing.phase
   pub untold : m.standing.phase ≡ Active → m.standing.told ≡ nothing
   pub voted : (v : Vote) → m.vote ≡ Some v → s ≡ m.standing

@@ -15,7 +15,7 @@ use Rattle.tip_branch.specs.Members.{voting, committing, aborting, promised_answ
 
 -- a member in this phase is asked: an active one votes once, as its plan promises
 abbrev pub IsAsked : Phase → Member → Member → Type 0
-IsAsked Active m n = (v : Vote) × IfSome (planned_vote m.standing.plan) (λ w. v ≡ w) × (n ≡ voting m v)
+IsAsked Active m n = (v : Vote) × IfSome (planned_vote m.standing.badge.plan) (λ w. v ≡ w) × (n ≡ voting m v)
 IsAsked Ready m n = n ≡ m
 IsAsked Ended m n = n ≡ m
 

@@ -8,6 +8,7 @@ use Rattle.tip_branch.specs.declared.branch.Settled.{Settled}
 use Rattle.tip_branch.specs.declared.branch.Settled.TheVariants.{Done, Later}
 use Rattle.tip_branch.specs.declared.branch.Phase.{Phase}
 use Rattle.tip_branch.specs.declared.branch.Phase.TheVariants.{Active, Ready, Ended}
+use Rattle.tip_branch.specs.declared.branch.Badge.{Badge}
 use Rattle.tip_branch.specs.declared.branch.Plan.{Plan}
 use Rattle.tip_branch.specs.declared.branch.Plan.TheVariants as plans
 use Rattle.tip_branch.specs.declared.branch.Standing.{Standing}
@@ -17,14 +18,14 @@ use Rattle.tip_branch.specs.declared.member.Member.{Member}
 use Rattle.tip_branch.specs.Plans.{planned_answer}
 use Rattle.tip_branch.specs.Standings.{nothing, asked, committed, aborted}
 
--- what is noted of a branch when it comes to its party: its plan and its phase, and that this party told it nothing
-abbrev pub new_member : ℕ → Plan → Phase → Member
-new_member n p f = record { number = n; standing = record { plan = p; phase = f; told = nothing }; vote = None; call = None }
+-- what is noted of a branch when it comes to its party: what it is known by, its phase, and that this party told it nothing
+abbrev pub new_member : ℕ → Badge → Phase → Member
+new_member n b f = record { number = n; standing = record { badge = b; phase = f; told = nothing }; vote = None; call = None }
 
 abbrev pub new_members : List ℕ → List Standing → List Member
 new_members [] ss = []
 new_members (n ∷ ns) [] = []
-new_members (n ∷ ns) (s ∷ ss) = new_member n s.plan s.phase ∷ new_members ns ss
+new_members (n ∷ ns) (s ∷ ss) = new_member n s.badge s.phase ∷ new_members ns ss
 
 -- a member that was asked and voted v
 abbrev pub voting : Member → Vote → Member
@@ -52,7 +53,7 @@ is_late plans.Late = true
 -- the answer that a member promises to a commit, which is its plan's. One that came to its party
 -- ready may have had its first commit before, so that a late plan promises nothing for its first here
 abbrev pub promised_answer : Member → Option Settled
-promised_answer m = if is_late m.standing.plan && (m.standing.told.commits == 0) && is_unasked m.vote then None else planned_answer m.standing.plan m.standing.told.commits
+promised_answer m = if is_late m.standing.badge.plan && (m.standing.told.commits == 0) && is_unasked m.vote then None else planned_answer m.standing.badge.plan m.standing.told.commits
   where
     is_unasked : Option Vote → Bool
     is_unasked None = true
@@ -110,13 +111,15 @@ are_numbers ns = rise_above 0 ns
 abbrev pub numbers_of : List Member → List ℕ
 numbers_of ms = map (λ m. m.number) ms
 
--- the members of a new transaction, numbered from n on: active branches of these plans
-abbrev pub fresh_members : ℕ → List Plan → List Member
+-- the members of a new transaction, numbered from n on: active branches that are known so
+abbrev pub fresh_members : ℕ → List Badge → List Member
 fresh_members n [] = []
-fresh_members n (p ∷ ps) = new_member n p Active ∷ fresh_members (n + 1) ps
+fresh_members n (b ∷ bs) = new_member n b Active ∷ fresh_members (n + 1) bs
 
--- the members of a transaction that is taken up again: ready branches of these plans
-abbrev pub ready_members : List ℕ → List Plan → List Member
-ready_members [] ps = []
-ready_members (n ∷ ns) [] = []
-ready_members (n ∷ ns) (p ∷ ps) = new_member n p Ready ∷ ready_members ns ps
+-- a branch in this phase that is known so, and was told nothing by its party
+abbrev pub untold : Phase → Badge → Standing
+untold f b = record { badge = b; phase = f; told = nothing }
+
+-- the members of a transaction that is taken up again: ready branches that are known so
+abbrev pub ready_members : List ℕ → List Badge → List Member
+ready_members ns bs = new_members ns (map (untold Ready) bs)

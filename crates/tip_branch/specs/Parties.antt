@@ -11,9 +11,13 @@ use Rattle.tip_branch.specs.Accounts.{Agrees, AreCalled}
 abbrev pub noted : {X : Type 0} {F : X → Type 0} → Party X F → PartyNotes
 noted p = record { realm = p.realm; epoch = p.epoch; id = p.id; errand = p.errand; members = p.roll }
 
+-- its boxes, in order of its members
+abbrev pub boxes_of : {X : Type 0} {F : X → Type 0} → Party X F → List (DynBox X Global F)
+boxes_of p = p.boxes.items
+
 -- what its branches stand for, where standing is what is seen of a box
 abbrev pub accounts : {X : Type 0} {F : X → Type 0} → (DynBox X Global F → Standing) → Party X F → List Standing
-accounts standing p = map standing p.boxes.items
+accounts standing p = map standing (boxes_of p)
 
 -- the notes are the branches' own account
 abbrev pub IsTrueToBoxes : {X : Type 0} {F : X → Type 0} → (DynBox X Global F → Standing) → Party X F → Type 0

@@ -49,11 +49,11 @@ let_go s = let_go_in s.phase s
 
 -- a branch was asked, and voted v as its plan promises; an active branch was told nothing before
 pub record IsVoted (before : Standing) (v : Vote) (now : Standing) : Type 0 where
-  pub planned : IfSome (planned_vote before.plan) (λ w. v ≡ w)
+  pub planned : IfSome (planned_vote before.badge.plan) (λ w. v ≡ w)
   pub untold : before.told ≡ nothing
   pub after : now ≡ asked before v
 
 -- a branch was told to commit, and answered r as its plan promises
 pub record IsCommitted (before : Standing) (r : Settled) (now : Standing) : Type 0 where
-  pub planned : IfSome (planned_answer before.plan before.told.commits) (λ a. r ≡ a)
+  pub planned : IfSome (planned_answer before.badge.plan before.told.commits) (λ a. r ≡ a)
   pub after : now ≡ committed before r

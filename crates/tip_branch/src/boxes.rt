@@ -1,12 +1,11 @@
 //! What is done with a list of boxes.
 
 ghost use Rattle.std.specs.Prelude.{◌≡◌, ◌+◌, ◌<◌, ◌≤◌, ◌↔◌, ◌∷◌, [], ◌++◌, IsTrue, IfOk, length, map, reverse, take, drop, vec_len, vec_capacity};
-ghost use Rattle.std.specs.List.{All};
 ghost use Rattle.tip_branch.specs.Standings.{let_go};
-ghost use Rattle.tip_branch.specs.Lots.{plans_of};
+ghost use Rattle.tip_branch.specs.Lots.{badges_of, AreIn};
 ghost use Rattle.tip_branch.specs.Members.{new_member, new_members, fresh_members, ready_members};
 
-use crate::branch::{Branch, Phase, Plan};
+use crate::branch::{Badge, Branch, Phase};
 use crate::member::Member;
 use crate::roll::Roll;
 use std::alloc::{AllocError, Global};
@@ -37,7 +36,7 @@ fn is_in(branch: &Box<dyn Branch + Send>, phase: Phase) -> bool
 
 /// Whether all are in that phase.
 pub(crate) fn are_all_in(boxes: &[Box<dyn Branch + Send>], phase: Phase) -> bool
-    ensures { IsTrue result ↔ All (λ s. s.phase ≡ phase) (map standing boxes.now) }
+    ensures { IsTrue result ↔ AreIn phase (map standing boxes.now) }
 {
     for branch in boxes.iter() {
         if !is_in(branch, phase) {
@@ -48,9 +47,9 @@ pub(crate) fn are_all_in(boxes: &[Box<dyn Branch + Send>], phase: Phase) -> bool
 }
 
 fn member_for(number: u8, branch: &Box<dyn Branch + Send>) -> Member
-    ensures { result ≡ new_member number (standing branch.now).plan (standing branch.now).phase }
+    ensures { result ≡ new_member number (standing branch.now).badge (standing branch.now).phase }
 {
-    Member::new(number, branch.plan(), branch.phase())
+    Member::new(number, badge_of(branch), branch.phase())
 }
 
 /// Notes these branches as the members of these numbers.
@@ -66,35 +65,38 @@ pub(crate) fn enrol(numbers: &[u8], boxes: &[Box<dyn Branch + Send>]) -> Roll
     roll
 }
 
-fn plan_of(branch: &Box<dyn Branch + Send>) -> Plan
-    ensures { result ≡ (standing branch.now).plan }
+fn badge_of(branch: &Box<dyn Branch + Send>) -> Badge
+    ensures { result ≡ (standing branch.now).badge }
 {
-    branch.plan()
+    Badge {
+        plan: branch.plan(),
+        mark: branch.mark(),
+    }
 }
 
-/// The plans of these branches, in order.
-pub(crate) fn read_plans(
+/// What these branches are known by, in order.
+pub(crate) fn read_badges(
     alloc: Global,
     boxes: &[Box<dyn Branch + Send>],
-) -> Result<Vec<Plan>, AllocError>
-    ensures { IfOk result (λ plans. plans.items ≡ plans_of (map standing boxes.now)) }
+) -> Result<Vec<Badge>, AllocError>
+    ensures { IfOk result (λ known. known.items ≡ badges_of (map standing boxes.now)) }
 {
-    let mut plans = Vec::new(alloc);
+    let mut known = Vec::with_capacity(alloc, boxes.len())?;
     for branch in boxes.iter() {
-        plans.push(plan_of(branch))?;
+        known.push(badge_of(branch))?;
     }
-    Ok(plans)
+    Ok(known)
 }
 
-/// Notes ready branches of these plans as the members of these numbers.
-pub(crate) fn enrol_ready(numbers: &[u8], plans: &[Plan]) -> Roll
-    requires counted { length numbers.now ≡ length plans.now }
-    requires few { length plans.now ≤ 8 }
-    ensures { result ≡ ready_members numbers.now plans.now }
+/// Notes ready branches that are known so as the members of these numbers.
+pub(crate) fn enrol_ready(numbers: &[u8], known: &[Badge]) -> Roll
+    requires counted { length numbers.now ≡ length known.now }
+    requires few { length known.now ≤ 8 }
+    ensures { result ≡ ready_members numbers.now known.now }
 {
     let mut roll = Roll::new();
-    for i in 0..plans.len() {
-        roll.push(Member::new(numbers[i], plans[i], Phase::Ready));
+    for i in 0..known.len() {
+        roll.push(Member::new(numbers[i], known[i], Phase::Ready));
     }
     roll
 }
@@ -104,28 +106,28 @@ pub(crate) fn enrol_ready(numbers: &[u8], plans: &[Plan]) -> Roll
 pub(crate) fn take_first(
     count: u8,
     from: &mut Vec<Box<dyn Branch + Send>>,
-    plans: &mut Vec<Plan>,
+    known: &mut Vec<Badge>,
     into: &mut Vec<Box<dyn Branch + Send>>,
 ) -> Roll
-    requires counted { vec_len from.old ≡ vec_len plans.old }
-    requires enough { count ≤ vec_len plans.old }
+    requires counted { vec_len from.old ≡ vec_len known.old }
+    requires enough { count ≤ vec_len known.old }
     requires few { count ≤ 8 }
     requires empty { vec_len into.old ≡ 0 }
     requires room { count ≤ vec_capacity into.old }
     ensures counted { length result ≡ vec_len into.new }
-    ensures counted_left { vec_len from.new ≡ vec_len plans.new }
-    ensures noted { result ≡ fresh_members 1 (take count (reverse plans.old.items)) }
-    ensures plans_left { reverse plans.new.items ≡ drop count (reverse plans.old.items) }
+    ensures counted_left { vec_len from.new ≡ vec_len known.new }
+    ensures noted { result ≡ fresh_members 1 (take count (reverse known.old.items)) }
+    ensures known_left { reverse known.new.items ≡ drop count (reverse known.old.items) }
     ensures taken { into.new.items ≡ take count (reverse from.old.items) }
     ensures left { reverse from.new.items ≡ drop count (reverse from.old.items) }
 {
     let mut roll = Roll::new();
     for i in 0..count {
-        let (Some(branch), Some(plan)) = (from.pop(), plans.pop()) else {
+        let (Some(branch), Some(badge)) = (from.pop(), known.pop()) else {
             unreachable!()
         };
         put(into, branch);
-        roll.push(Member::new(i + 1, plan, Phase::Active));
+        roll.push(Member::new(i + 1, badge, Phase::Active));
     }
     roll
 }

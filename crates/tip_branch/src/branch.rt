@@ -92,10 +92,18 @@ pub struct Told {
     pub commits: u64,
 }
 
+/// What a branch is known by. It never changes.
+#[derive(Clone, Copy, Debug, PartialEq, Eq, Drop)]
+pub struct Badge {
+    pub plan: Plan,
+    /// A number that its maker gave it.
+    pub mark: u64,
+}
+
 /// What a branch stands for.
 #[derive(Clone, Copy, Debug, PartialEq, Eq, Drop)]
 pub struct Standing {
-    pub plan: Plan,
+    pub badge: Badge,
     pub phase: Phase,
     pub told: Told,
 }
@@ -104,7 +112,7 @@ pub struct Standing {
 pub trait Branch: Drop {
     ghost use Rattle.tip_branch.specs.declared.branch.Standing.{Standing};
 
-    /// Its plan, its phase, and what it was told.
+    /// What it is known by, its phase, and what it was told.
     ghost standing: { Self → Standing };
 
     /// Asks it for its vote.
@@ -126,5 +134,9 @@ pub trait Branch: Drop {
         ensures { result ≡ (standing self.now).phase };
 
     fn plan(&self) -> Plan
-        ensures { result ≡ (standing self.now).plan };
+        ensures { result ≡ (standing self.now).badge.plan };
+
+    /// The number that its maker gave it, by which its calls are known. It never changes.
+    fn mark(&self) -> u64
+        ensures { result ≡ (standing self.now).badge.mark };
 }

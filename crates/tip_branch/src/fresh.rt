@@ -1,15 +1,15 @@
 //! Boxes that no transaction has yet.
 
-ghost use Rattle.std.specs.Prelude.{◌≡◌, IfOk, MatchResult, ◌==◌, map, vec_len};
-ghost use Rattle.std.specs.List.{All};
+ghost use Rattle.std.specs.Prelude.{◌≡◌, IfOk, IfErr, MatchResult, map};
 ghost use Rattle.tip_branch.specs.Always.{Always};
-ghost use Rattle.tip_branch.specs.Lots.{plans_of};
+ghost use Rattle.tip_branch.specs.Lots.{badges, badges_of, boxes_in, AreIn};
 ghost use Rattle.tip_branch.specs.declared.branch.Phase.TheVariants.{Active};
 
 use crate::boxes;
-use crate::branch::{Branch, Phase, Plan};
-use std::alloc::{AllocError, Global};
-use std::fmt;
+use crate::branch::{Branch, Phase};
+use crate::lot::Lot;
+use crate::wrong_phase::WrongPhase;
+use std::alloc::{AllocFailed, Global};
 
 /// Branches that were told nothing yet, in the order in which transactions take them.
 #[derive(Drop)]
@@ -17,51 +17,37 @@ pub struct Fresh {
     boxes: Vec<Box<dyn Branch + Send>>,
 }
 
-/// Boxes of which one is not active.
-#[derive(Drop)]
-pub struct NotFresh {
-    pub boxes: Vec<Box<dyn Branch + Send>>,
-}
-
 impl Fresh {
     /// The boxes as fresh ones, where all are active.
-    pub fn of(boxes: Vec<Box<dyn Branch + Send>>) -> Result<Fresh, NotFresh>
+    pub fn of(boxes: Vec<Box<dyn Branch + Send>>) -> Result<Fresh, WrongPhase>
         requires { Always }
-        ensures active { MatchResult result (λ _. All (λ s. s.phase ≡ Active) (map standing boxes.items)) (λ _. ¬ All (λ s. s.phase ≡ Active) (map standing boxes.items)) }
-        ensures same { MatchResult result (λ fresh. fresh.boxes ≡ boxes) (λ fault. fault.boxes ≡ boxes) }
+        ensures active { MatchResult result (λ _. AreIn Active (map standing boxes.items)) (λ _. ¬ AreIn Active (map standing boxes.items)) }
+        ensures same { MatchResult result (λ fresh. fresh.boxes ≡ boxes) (λ fault. (fault.boxes ≡ boxes) × (fault.phase ≡ Active)) }
     {
         if boxes::are_all_in(&boxes, Phase::Active) {
             Ok(Fresh { boxes })
         } else {
-            Err(NotFresh { boxes })
+            Err(WrongPhase {
+                phase: Phase::Active,
+                boxes,
+            })
         }
     }
 
-    /// These boxes, which were fresh.
-    pub(crate) fn with_boxes(boxes: Vec<Box<dyn Branch + Send>>) -> Fresh
-        ensures { result.boxes ≡ boxes }
+    /// The boxes beside what each is known by, which it reads. Without memory they come back.
+    pub fn into_lot(self, alloc: Global) -> Result<Lot, AllocFailed<Fresh>>
+        requires { Always }
+        ensures phase { IfOk result (λ lot. lot.phase ≡ Active) }
+        ensures same { IfOk result (λ lot. boxes_in lot ≡ self.boxes.items) }
+        ensures known { IfOk result (λ lot. badges lot ≡ badges_of (map standing self.boxes.items)) }
+        ensures back { IfErr result (λ fault. fault.value ≡ self) }
     {
-        Fresh { boxes }
-    }
-
-    /// How many boxes there are.
-    pub fn len(&self) -> usize
-        ensures { result ≡ vec_len self.now.boxes }
-    {
-        self.boxes.len()
-    }
-
-    pub fn is_empty(&self) -> bool
-        ensures { result ≡ (vec_len self.now.boxes == 0) }
-    {
-        self.boxes.is_empty()
-    }
-
-    /// The plans of the boxes, in order.
-    pub fn plans(&self, alloc: Global) -> Result<Vec<Plan>, AllocError>
-        ensures { IfOk result (λ plans. plans.items ≡ plans_of (map standing self.now.boxes.items)) }
-    {
-        boxes::read_plans(alloc, &self.boxes)
+        match Lot::of(alloc, Phase::Active, self.into_boxes()) {
+            Ok(lot) => Ok(lot),
+            Err(fault) => Err(AllocFailed {
+                value: Fresh { boxes: fault.value },
+            }),
+        }
     }
 
     /// The boxes handed back.
@@ -71,17 +57,5 @@ impl Fresh {
     {
         let Fresh { boxes } = self;
         boxes
-    }
-}
-
-impl fmt::Display for NotFresh {
-    fn fmt<W: fmt::Write>(&self, f: &mut fmt::Formatter<W>) -> fmt::Result {
-        f.write_str("a branch is not active")
-    }
-}
-
-impl fmt::Debug for NotFresh {
-    fn fmt<W: fmt::Write>(&self, f: &mut fmt::Formatter<W>) -> fmt::Result {
-        f.write_str("NotFresh")
     }
 }

@@ -1,53 +1,51 @@
 //! Fresh boxes as plain data, for all that lies above this crate.
+//!
+//! No clause sees the boxes here, so each body moves one value and does nothing else: what becomes of
+//! the boxes is said by `Lot` and by `Party::of_first`.
 
-ghost use Rattle.std.specs.Prelude.{◌≡◌, ◌≤◌, ◌==◌, [], IfOk, IfErr, length, map, take, drop, vec_len};
+ghost use Rattle.std.specs.Prelude.{◌≡◌, ◌≤◌, ◌==◌, [], length, take, drop};
 ghost use Rattle.tip_branch.specs.Always.{Always};
-ghost use Rattle.tip_branch.specs.Lots.{plans_of};
 ghost use Rattle.tip_branch.specs.Members.{fresh_members};
+ghost use Rattle.tip_branch.specs.declared.branch.Phase.TheVariants.{Active};
 
-use crate::boxes;
-use crate::branch::{Branch, Plan};
-use crate::fresh::Fresh;
+use crate::branch::Phase;
 use crate::held_party::HeldParty;
+use crate::lot::Lot;
 use crate::party::Party;
 use crate::party_room::PartyRoom;
-use std::alloc::{AllocFailed, Global};
+use std::alloc::Global;
 use std::marker::Model;
 use tip_line::{Id, Realm};
 
-/// Fresh boxes, seen as the list of their plans.
-///
-/// The last box comes first, so that the first ones are taken without moving the rest.
+/// Fresh boxes, seen as the list of what each is known by.
 #[derive(Drop)]
 pub struct HeldFresh {
-    boxes: Vec<Box<dyn Branch + Send>>,
-    plans: Vec<Plan>,
+    lot: Lot,
 }
 
 impl Model for HeldFresh {
-    ghost use Rattle.std.specs.Prelude.{List, ◌≡◌, reverse, vec_len};
-    ghost use Rattle.tip_branch.specs.declared.branch.Plan.{Plan};
+    ghost use Rattle.std.specs.Prelude.{List, ◌≡◌};
+    ghost use Rattle.tip_branch.specs.declared.branch.Badge.{Badge};
+    ghost use Rattle.tip_branch.specs.declared.branch.Phase.TheVariants.{Active};
 
-    ghost Value = { List Plan };
+    ghost Value = { List Badge };
 
-    ghost view = { λ h. reverse h.plans.items };
+    ghost use Rattle.tip_branch.specs.Lots.{badges};
 
-    ghost invariant = { λ h. vec_len h.boxes ≡ vec_len h.plans };
+    ghost view = { λ h. badges h.lot };
+
+    ghost invariant = { λ h. h.lot.phase ≡ Active };
 }
 
 impl HeldFresh {
+    ghost use Rattle.tip_branch.specs.Lots.{badges};
     ghost use Rattle.tip_branch.specs.Notes.{idle_party};
 
-    /// The boxes with their plans, which it reads. Without memory they come back.
-    pub fn new(alloc: Global, fresh: Fresh) -> Result<HeldFresh, AllocFailed<Fresh>>
-        requires { Always }
-        ensures held { IfOk result (λ held. held ≡ plans_of (map standing fresh.boxes.items)) }
-        ensures back { IfErr result (λ fault. fault.value ≡ fresh) }
+    pub fn of(lot: Lot) -> HeldFresh
+        requires { lot.phase ≡ Active }
+        ensures { result ≡ badges lot }
     {
-        match fresh.plans(alloc) {
-            Ok(plans) => Ok(HeldFresh::of(fresh, plans)),
-            Err(_) => Err(AllocFailed { value: fresh }),
-        }
+        HeldFresh { lot }
     }
 
     /// No boxes, which takes no memory.
@@ -56,8 +54,7 @@ impl HeldFresh {
         ensures { result ≡ [] }
     {
         HeldFresh {
-            boxes: Vec::new(alloc),
-            plans: Vec::new(alloc),
+            lot: Lot::empty(alloc, Phase::Active),
         }
     }
 
@@ -69,29 +66,17 @@ impl HeldFresh {
         HeldFresh::none(alloc)
     }
 
-    /// The boxes with their plans, which were read before.
-    pub fn of(fresh: Fresh, plans: Vec<Plan>) -> HeldFresh
-        requires { vec_len plans ≡ vec_len fresh.boxes }
-        ensures { result ≡ plans.items }
-    {
-        let mut boxes = fresh.into_boxes();
-        let mut plans = plans;
-        boxes.reverse();
-        plans.reverse();
-        HeldFresh { boxes, plans }
-    }
-
     /// How many boxes there are.
     pub fn len(&self) -> usize
         ensures { result ≡ length self.now }
     {
-        self.plans.len()
+        self.lot.len()
     }
 
     pub fn is_empty(&self) -> bool
         ensures { result ≡ (length self.now == 0) }
     {
-        self.plans.is_empty()
+        self.lot.is_empty()
     }
 
     /// Takes the first boxes as the party of a new transaction.
@@ -100,21 +85,16 @@ impl HeldFresh {
         ensures party { result ≡ idle_party realm epoch id (fresh_members 1 (take room self.old)) }
         ensures rest { self.new ≡ drop room self.old }
     {
-        let PartyRoom { count, mut boxes } = room;
-        let roll = boxes::take_first(count, &mut self.boxes, &mut self.plans, &mut boxes);
-        HeldParty::of(Party::with_roll(realm, epoch, id, roll, boxes))
+        HeldParty::of(Party::of_first(&mut self.lot, room, realm, epoch, id))
     }
 
-    /// The boxes that are left, handed back in order.
-    pub fn into_fresh(self) -> Fresh
+    /// The boxes that are left.
+    pub fn into_lot(self) -> Lot
         requires { Always }
-        ensures { vec_len result.boxes ≡ length self }
+        ensures known { badges result ≡ self }
+        ensures phase { result.phase ≡ Active }
     {
-        let HeldFresh {
-            mut boxes,
-            plans: _,
-        } = self;
-        boxes.reverse();
-        Fresh::with_boxes(boxes)
+        let HeldFresh { lot } = self;
+        lot
     }
 }

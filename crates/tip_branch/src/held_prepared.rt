@@ -1,72 +1,61 @@
 //! Prepared boxes as plain data, for all that lies above this crate.
+//!
+//! No clause sees the boxes here, so each body moves one value and does nothing else: what becomes of
+//! the boxes is said by `Lot` and by `Party::of_ready`.
 
-ghost use Rattle.std.specs.Prelude.{◌≡◌, ◌==◌, IsTrue, IfOk, IfErr, length, map, vec_len};
+ghost use Rattle.std.specs.Prelude.{◌≡◌, ◌==◌, IsTrue, length};
 ghost use Rattle.tip_branch.specs.Always.{Always};
-ghost use Rattle.tip_branch.specs.Lots.{plans_of};
 ghost use Rattle.tip_branch.specs.Members.{are_numbers, ready_members};
+ghost use Rattle.tip_branch.specs.declared.branch.Phase.TheVariants.{Ready};
 
-use crate::boxes;
-use crate::branch::{Branch, Plan};
 use crate::held_party::HeldParty;
+use crate::lot::Lot;
 use crate::party::Party;
-use crate::prepared::Prepared;
-use std::alloc::{AllocFailed, Global};
 use std::marker::Model;
 use tip_line::{Id, Realm};
 
-/// Prepared boxes, seen as the list of their plans.
+/// Prepared boxes, seen as the list of what each is known by.
 #[derive(Drop)]
 pub struct HeldPrepared {
-    boxes: Vec<Box<dyn Branch + Send>>,
-    plans: Vec<Plan>,
+    lot: Lot,
 }
 
 impl Model for HeldPrepared {
-    ghost use Rattle.std.specs.Prelude.{List, ◌≡◌, vec_len};
-    ghost use Rattle.tip_branch.specs.declared.branch.Plan.{Plan};
+    ghost use Rattle.std.specs.Prelude.{List, ◌≡◌};
+    ghost use Rattle.tip_branch.specs.declared.branch.Badge.{Badge};
+    ghost use Rattle.tip_branch.specs.declared.branch.Phase.TheVariants.{Ready};
 
-    ghost Value = { List Plan };
+    ghost Value = { List Badge };
 
-    ghost view = { λ h. h.plans.items };
+    ghost use Rattle.tip_branch.specs.Lots.{badges};
 
-    ghost invariant = { λ h. vec_len h.boxes ≡ vec_len h.plans };
+    ghost view = { λ h. badges h.lot };
+
+    ghost invariant = { λ h. h.lot.phase ≡ Ready };
 }
 
 impl HeldPrepared {
+    ghost use Rattle.tip_branch.specs.Lots.{badges};
     ghost use Rattle.tip_branch.specs.Notes.{idle_party};
 
-    /// The boxes with their plans, which it reads. Without memory they come back.
-    pub fn new(alloc: Global, prepared: Prepared) -> Result<HeldPrepared, AllocFailed<Prepared>>
-        requires { Always }
-        ensures held { IfOk result (λ held. held ≡ plans_of (map standing prepared.boxes.items)) }
-        ensures back { IfErr result (λ fault. fault.value ≡ prepared) }
+    pub fn of(lot: Lot) -> HeldPrepared
+        requires { lot.phase ≡ Ready }
+        ensures { result ≡ badges lot }
     {
-        match prepared.plans(alloc) {
-            Ok(plans) => Ok(HeldPrepared::of(prepared, plans)),
-            Err(_) => Err(AllocFailed { value: prepared }),
-        }
-    }
-
-    /// The boxes with their plans, which were read before.
-    pub fn of(prepared: Prepared, plans: Vec<Plan>) -> HeldPrepared
-        requires { vec_len plans ≡ vec_len prepared.boxes }
-        ensures { result ≡ plans.items }
-    {
-        let boxes = prepared.into_boxes();
-        HeldPrepared { boxes, plans }
+        HeldPrepared { lot }
     }
 
     /// How many boxes there are.
     pub fn len(&self) -> usize
         ensures { result ≡ length self.now }
     {
-        self.plans.len()
+        self.lot.len()
     }
 
     pub fn is_empty(&self) -> bool
         ensures { result ≡ (length self.now == 0) }
     {
-        self.plans.is_empty()
+        self.lot.is_empty()
     }
 
     /// The boxes as the party of a transaction that is taken up again.
@@ -75,17 +64,17 @@ impl HeldPrepared {
         requires rising { IsTrue (are_numbers numbers.now) }
         ensures { result ≡ idle_party realm epoch id (ready_members numbers.now self) }
     {
-        let HeldPrepared { boxes, plans } = self;
-        let roll = boxes::enrol_ready(numbers, &plans);
-        HeldParty::of(Party::with_roll(realm, epoch, id, roll, boxes))
+        let HeldPrepared { lot } = self;
+        HeldParty::of(Party::of_ready(lot, realm, epoch, id, numbers))
     }
 
     /// The boxes handed back.
-    pub fn into_prepared(self) -> Prepared
+    pub fn into_lot(self) -> Lot
         requires { Always }
-        ensures { vec_len result.boxes ≡ length self }
+        ensures known { badges result ≡ self }
+        ensures phase { result.phase ≡ Ready }
     {
-        let HeldPrepared { boxes, plans: _ } = self;
-        Prepared::with_boxes(boxes)
+        let HeldPrepared { lot } = self;
+        lot
     }
 }

@@ -2,7 +2,7 @@
 
 ghost use Rattle.std.specs.Prelude.{◌≡◌};
 
-use crate::branch::{Phase, Plan, Settled, Standing, Told, Vote};
+use crate::branch::{Badge, Phase, Plan, Settled, Standing, Told, Vote};
 use tip_txn::Answer;
 
 /// What a party is to do while its transaction's lock is free.
@@ -31,7 +31,7 @@ pub enum Call {
 pub struct Member {
     /// Its number in its transaction, 1 to 8.
     pub number: u8,
-    /// Its plan, its phase, and what this party told it.
+    /// What it is known by, its phase, and what this party told it.
     pub standing: Standing,
     /// What it voted in this party, where it was asked.
     pub vote: Option<Vote>,
@@ -44,9 +44,9 @@ impl Member {
     ghost use Rattle.tip_branch.specs.Votes.{ballot};
     ghost use Rattle.tip_branch.specs.Errands.{is_vote_of_no};
 
-    /// A branch of this plan and phase, which was told nothing by its party.
-    pub(crate) fn new(number: u8, plan: Plan, phase: Phase) -> Member
-        ensures { result ≡ new_member number plan phase }
+    /// A branch that is known so, in this phase, which was told nothing by its party.
+    pub(crate) fn new(number: u8, badge: Badge, phase: Phase) -> Member
+        ensures { result ≡ new_member number badge phase }
     {
         let told = Told {
             asked: false,
@@ -55,7 +55,7 @@ impl Member {
         };
         Member {
             number,
-            standing: Standing { plan, phase, told },
+            standing: Standing { badge, phase, told },
             vote: None,
             call: None,
         }
@@ -113,10 +113,10 @@ impl Member {
         ensures { result ≡ promised_answer self }
     {
         let commits = self.standing.told.commits;
-        if self.standing.plan == Plan::Late && commits == 0 && self.vote.is_none() {
+        if self.standing.badge.plan == Plan::Late && commits == 0 && self.vote.is_none() {
             return None;
         }
-        self.standing.plan.answer(commits)
+        self.standing.badge.plan.answer(commits)
     }
 
     pub fn is_active(&self) -> bool

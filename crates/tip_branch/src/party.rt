@@ -1,15 +1,18 @@
 //! The branches of one transaction, with what they are to do and what is noted of them.
 
-ghost use Rattle.std.specs.Prelude.{◌≡◌, ◌≢◌, ◌⊎◌, ◌↔◌, IsTrue, Some, None, length, map, vec_len};
+ghost use Rattle.std.specs.Prelude.{◌≡◌, ◌≢◌, ◌≤◌, ◌⊎◌, ◌↔◌, IsTrue, Some, None, length, map, take, drop, vec_len};
 ghost use Rattle.std.specs.List.{All, list_any};
 ghost use Rattle.tip_branch.specs.Always.{Always};
+ghost use Rattle.tip_branch.specs.declared.branch.Phase.TheVariants.{Active, Ready};
 ghost use Rattle.tip_branch.specs.declared.member.Errand.TheVariants.{Idle};
 ghost use Rattle.tip_branch.specs.Members.{are_numbers, numbers_of, is_ready, outcome, member_of, phase_of, vote_of, call_of};
 ghost use Rattle.tip_branch.specs.Votes.{ballot, ballots_of, decided};
 ghost use Rattle.tip_txn.specs.Decisions.{Decides, Says};
 
 use crate::branch::{Branch, Phase, Settled, Vote};
+use crate::lot::Lot;
 use crate::member::{Call, Errand, Member};
+use crate::party_room::PartyRoom;
 use crate::roll::Roll;
 use crate::{boxes, telling};
 use tip_line::{Id, Realm};
@@ -34,8 +37,10 @@ pub struct Party {
 
 impl Party {
     ghost use Rattle.tip_branch.specs.Standings.{let_go};
+    ghost use Rattle.tip_branch.specs.Lots.{badges, boxes_in, IsTrueLot};
+    ghost use Rattle.tip_branch.specs.Members.{fresh_members, ready_members};
     ghost use Rattle.tip_branch.specs.Notes.{new_party, idle_party, given, ComesBack};
-    ghost use Rattle.tip_branch.specs.Parties.{noted, accounts, IsTrueToBoxes, AreCalledAsNoted};
+    ghost use Rattle.tip_branch.specs.Parties.{noted, boxes_of, accounts, IsTrueToBoxes, AreCalledAsNoted};
 
     /// The party of these branches, which have these numbers in its transaction.
     pub fn new(
@@ -62,8 +67,36 @@ impl Party {
         }
     }
 
+    /// The party of a new transaction: the first branches of a lot, as many as there is room for.
+    pub fn of_first(lot: &mut Lot, room: PartyRoom, realm: Realm, epoch: u32, id: Id) -> Party
+        requires { room ≤ length (badges lot.old) }
+        ensures noted { noted result ≡ idle_party realm epoch id (fresh_members 1 (take room (badges lot.old))) }
+        ensures taken { boxes_of result ≡ take room (boxes_in lot.old) }
+        ensures agrees { IsTrueLot standing lot.old → lot.old.phase ≡ Active → IsTrueToBoxes standing result }
+        ensures known { badges lot.new ≡ drop room (badges lot.old) }
+        ensures left { boxes_in lot.new ≡ drop room (boxes_in lot.old) }
+        ensures phase { lot.new.phase ≡ lot.old.phase }
+    {
+        let PartyRoom { count, mut boxes } = room;
+        let roll = lot.take_first(count, &mut boxes);
+        Party::with_roll(realm, epoch, id, roll, boxes)
+    }
+
+    /// The party of a transaction that is taken up again: all branches of a lot, which have these
+    /// numbers in it.
+    pub fn of_ready(lot: Lot, realm: Realm, epoch: u32, id: Id, numbers: &[u8]) -> Party
+        requires counted { length numbers.now ≡ length (badges lot) }
+        requires rising { IsTrue (are_numbers numbers.now) }
+        ensures noted { noted result ≡ idle_party realm epoch id (ready_members numbers.now (badges lot)) }
+        ensures taken { boxes_of result ≡ boxes_in lot }
+        ensures agrees { IsTrueLot standing lot → lot.phase ≡ Ready → IsTrueToBoxes standing result }
+    {
+        let (roll, boxes) = lot.take_all(numbers);
+        Party::with_roll(realm, epoch, id, roll, boxes)
+    }
+
     /// The party of these boxes with these notes.
-    pub(crate) fn with_roll(
+    fn with_roll(
         realm: Realm,
         epoch: u32,
         id: Id,
@@ -74,7 +107,7 @@ impl Party {
         requires rising { IsTrue (are_numbers (numbers_of roll)) }
         requires forgotten { All (λ m. m.call ≡ None) roll }
         ensures noted { noted result ≡ idle_party realm epoch id roll }
-        ensures own { accounts standing result ≡ map standing boxes.items }
+        ensures same { boxes_of result ≡ boxes.items }
     {
         Party {
             realm,

@@ -1,15 +1,15 @@
 //! Boxes of transactions that a stop of the process interrupted.
 
-ghost use Rattle.std.specs.Prelude.{◌≡◌, IfOk, MatchResult, ◌==◌, map, vec_len};
-ghost use Rattle.std.specs.List.{All};
+ghost use Rattle.std.specs.Prelude.{◌≡◌, IfOk, IfErr, MatchResult, map};
 ghost use Rattle.tip_branch.specs.Always.{Always};
-ghost use Rattle.tip_branch.specs.Lots.{plans_of};
+ghost use Rattle.tip_branch.specs.Lots.{badges, badges_of, boxes_in, AreIn};
 ghost use Rattle.tip_branch.specs.declared.branch.Phase.TheVariants.{Ready};
 
 use crate::boxes;
-use crate::branch::{Branch, Phase, Plan};
-use std::alloc::{AllocError, Global};
-use std::fmt;
+use crate::branch::{Branch, Phase};
+use crate::lot::Lot;
+use crate::wrong_phase::WrongPhase;
+use std::alloc::{AllocFailed, Global};
 
 /// Branches that wait for the outcome of one transaction, in the order of its members.
 #[derive(Drop)]
@@ -17,51 +17,37 @@ pub struct Prepared {
     boxes: Vec<Box<dyn Branch + Send>>,
 }
 
-/// Boxes of which one is not ready.
-#[derive(Drop)]
-pub struct NotReady {
-    pub boxes: Vec<Box<dyn Branch + Send>>,
-}
-
 impl Prepared {
     /// The boxes as prepared ones, where all are ready.
-    pub fn of(boxes: Vec<Box<dyn Branch + Send>>) -> Result<Prepared, NotReady>
+    pub fn of(boxes: Vec<Box<dyn Branch + Send>>) -> Result<Prepared, WrongPhase>
         requires { Always }
-        ensures ready { MatchResult result (λ _. All (λ s. s.phase ≡ Ready) (map standing boxes.items)) (λ _. ¬ All (λ s. s.phase ≡ Ready) (map standing boxes.items)) }
-        ensures same { MatchResult result (λ prepared. prepared.boxes ≡ boxes) (λ fault. fault.boxes ≡ boxes) }
+        ensures ready { MatchResult result (λ _. AreIn Ready (map standing boxes.items)) (λ _. ¬ AreIn Ready (map standing boxes.items)) }
+        ensures same { MatchResult result (λ prepared. prepared.boxes ≡ boxes) (λ fault. (fault.boxes ≡ boxes) × (fault.phase ≡ Ready)) }
     {
         if boxes::are_all_in(&boxes, Phase::Ready) {
             Ok(Prepared { boxes })
         } else {
-            Err(NotReady { boxes })
+            Err(WrongPhase {
+                phase: Phase::Ready,
+                boxes,
+            })
         }
     }
 
-    /// These boxes, which were prepared.
-    pub(crate) fn with_boxes(boxes: Vec<Box<dyn Branch + Send>>) -> Prepared
-        ensures { result.boxes ≡ boxes }
+    /// The boxes beside what each is known by, which it reads. Without memory they come back.
+    pub fn into_lot(self, alloc: Global) -> Result<Lot, AllocFailed<Prepared>>
+        requires { Always }
+        ensures phase { IfOk result (λ lot. lot.phase ≡ Ready) }
+        ensures same { IfOk result (λ lot. boxes_in lot ≡ self.boxes.items) }
+        ensures known { IfOk result (λ lot. badges lot ≡ badges_of (map standing self.boxes.items)) }
+        ensures back { IfErr result (λ fault. fault.value ≡ self) }
     {
-        Prepared { boxes }
-    }
-
-    /// How many boxes there are.
-    pub fn len(&self) -> usize
-        ensures { result ≡ vec_len self.now.boxes }
-    {
-        self.boxes.len()
-    }
-
-    pub fn is_empty(&self) -> bool
-        ensures { result ≡ (vec_len self.now.boxes == 0) }
-    {
-        self.boxes.is_empty()
-    }
-
-    /// The plans of the boxes, in order.
-    pub fn plans(&self, alloc: Global) -> Result<Vec<Plan>, AllocError>
-        ensures { IfOk result (λ plans. plans.items ≡ plans_of (map standing self.now.boxes.items)) }
-    {
-        boxes::read_plans(alloc, &self.boxes)
+        match Lot::of(alloc, Phase::Ready, self.into_boxes()) {
+            Ok(lot) => Ok(lot),
+            Err(fault) => Err(AllocFailed {
+                value: Prepared { boxes: fault.value },
+            }),
+        }
     }
 
     /// The boxes handed back.
@@ -71,17 +57,5 @@ impl Prepared {
     {
         let Prepared { boxes } = self;
         boxes
-    }
-}
-
-impl fmt::Display for NotReady {
-    fn fmt<W: fmt::Write>(&self, f: &mut fmt::Formatter<W>) -> fmt::Result {
-        f.write_str("a branch is not ready")
-    }
-}
-
-impl fmt::Debug for NotReady {
-    fn fmt<W: fmt::Write>(&self, f: &mut fmt::Formatter<W>) -> fmt::Result {
-        f.write_str("NotReady")
     }
 }

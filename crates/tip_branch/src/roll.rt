@@ -3,7 +3,7 @@
 ghost use Rattle.std.specs.Prelude.{◌≡◌, ◌<◌, ◌+◌, ◌∷◌, ◌++◌, [], length, map, slice_set, slice_index_or};
 ghost use Rattle.tip_branch.specs.Members.{forgetting, member_of};
 
-use crate::branch::{Phase, Plan};
+use crate::branch::{Badge, Phase, Plan};
 use crate::member::Member;
 use std::marker::Model;
 
@@ -33,8 +33,12 @@ impl Roll {
     pub(crate) fn new() -> Roll
         ensures { result ≡ [] }
     {
+        let nobody = Badge {
+            plan: Plan::Open,
+            mark: 0,
+        };
         Roll {
-            members: [Member::new(0, Plan::Open, Phase::Ended); MOST_MEMBERS],
+            members: [Member::new(0, nobody, Phase::Ended); MOST_MEMBERS],
             len: 0,
         }
     }

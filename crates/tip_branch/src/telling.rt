@@ -28,7 +28,7 @@ fn ask(branch: &mut Box<dyn Branch + Send>, member: Member) -> Member
     } else {
         Vote::No
     };
-    member.voting(member.standing.plan.vote().unwrap_or(said))
+    member.voting(member.standing.badge.plan.vote().unwrap_or(said))
 }
 
 /// Tells a ready member to commit.

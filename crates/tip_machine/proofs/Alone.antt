@@ -5,7 +5,7 @@ use Rattle.std.specs.Prelude.{◌&&◌, ◌||◌, ◌==◌, nat_le, find, length
 use Rattle.std.specs.Option.{option_and_then}
 use Rattle.std.proofs.lemmas.Option.{same_Some, none-some}
 use Rattle.tip_branch.specs.Notes.{PartyNotes}
-use Rattle.tip_branch.specs.declared.branch.Plan.{Plan}
+use Rattle.tip_branch.specs.declared.branch.Badge.{Badge}
 use Rattle.tip_line.specs.Command.{name_of}
 use Rattle.tip_line.specs.declared.command.Command.{Command}
 use Rattle.tip_line.specs.declared.command.Command.TheVariants.{Identify, Begin, Push, Pull, Prepare, Commit, Abort, Query, Reconnect, Multiplex, Tls, Error}
@@ -287,7 +287,7 @@ unfolding ask_pull EachAlone
 ask_pull_plain None id w alone plain = record { alone = plain.alone; none = plain.none; work = plain.work }
 ask_pull_plain (Some c) id w alone plain = subst IsPlain (sym (ask_pull_is c id w alone)) (record { alone = plain.alone; none = plain.none; work = plain.work })
 
-opened_plain : (boxes : List Plan) (w : Work) → IsPlain w → IsPlain (opened boxes w)
+opened_plain : (boxes : List Badge) (w : Work) → IsPlain w → IsPlain (opened boxes w)
 unfolding opened added
 opened_plain boxes w plain = either IsPlain (has_place (length boxes) w.state) _ _ (record { alone = pushed_alone w.state.connections _ (record { dialled = refl; early = refl; owed = refl; awaited = refl; role = refl }) plain.alone; none = plain.none; work = plain.work }) (record { alone = plain.alone; none = plain.none; work = plain.work })
 

@@ -3,7 +3,7 @@ use Rattle.std.proofs.Common.{◌≡◌, Bool, true, false, ℕ, List, Option, S
 use Rattle.std.specs.Prelude.{find}
 use Rattle.std.specs.Option.{IfSome}
 use Rattle.tip_branch.specs.Notes.{PartyNotes}
-use Rattle.tip_branch.specs.declared.branch.Plan.{Plan}
+use Rattle.tip_branch.specs.declared.branch.Badge.{Badge}
 use Rattle.tip_branch.specs.declared.member.Errand.TheVariants as errand
 use Rattle.tip_line.specs.declared.refusal.Refusal.{Refusal}
 use Rattle.tip_line.specs.declared.refusal.Refusal.TheVariants.{Full, Stale, Busy, NotActive, Known}
@@ -35,7 +35,7 @@ is_opening (Dial address purpose boxes) = true
 is_opening other = false
 
 -- what holds of an event that opens a connection, and of any other, holds of each
-pub each_event : (P : Event → Type 0) → ((boxes : List Plan) → P (Open boxes)) → ((address : List ℕ) (purpose : Purpose) (boxes : List Plan) → P (Dial address purpose boxes)) → ((event : Event) → is_opening event ≡ false → P event) → (event : Event) → P event
+pub each_event : (P : Event → Type 0) → ((boxes : List Badge) → P (Open boxes)) → ((address : List ℕ) (purpose : Purpose) (boxes : List Badge) → P (Dial address purpose boxes)) → ((event : Event) → is_opening event ≡ false → P event) → (event : Event) → P event
 each_event P opens dials others (Open boxes) = opens boxes
 each_event P opens dials others (Dial address purpose boxes) = dials address purpose boxes
 each_event P opens dials others (Line seat heard) = others (Line seat heard) refl

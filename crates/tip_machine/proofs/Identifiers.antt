@@ -5,7 +5,7 @@ use Rattle.std.specs.List.{list_all, list_any}
 use Rattle.std.proofs.lemmas.Bool.{and_left, and_parts, and_right, or_from, true≢false}
 use Rattle.std.proofs.lemmas.Bool.Decides.{nat_tests}
 use Rattle.std.proofs.lemmas.Option.{same_Some}
-use Rattle.tip_branch.specs.declared.branch.Plan.{Plan}
+use Rattle.tip_branch.specs.declared.branch.Badge.{Badge}
 use Rattle.tip_line.specs.declared.refusal.Refusal.TheVariants.{Full}
 use Rattle.tip_rows.specs.Keys.{Place as Key, is_same}
 use Rattle.tip_rows.proofs.OrderLemmas.{same_place}
@@ -223,11 +223,11 @@ unchanged key state = went_in key state (entered state) (still key (entered stat
 abbrev CountsIn : Key → State → Work → Type 0
 CountsIn key state v = Counts key state v.state
 
-opened-counts : (key : Key) (boxes : List Plan) (state : State) → CountsIn key state (opened boxes (entered state))
+opened-counts : (key : Key) (boxes : List Badge) (state : State) → CountsIn key state (opened boxes (entered state))
 unfolding opened
 opened-counts key boxes state = either (CountsIn key state) (has_place (length boxes) (entered state).state) (added (accepted boxes) (entered state)) (hand_back boxes (refuse Full (entered state))) (added-counts key (accepted boxes) state (λ n. refl)) (unchanged key state)
 
-dial-counts : (key : Key) (serves : Bool) (address : List ℕ) (purpose : Purpose) (boxes : List Plan) (state : State) → CountsIn key state (dial serves address purpose boxes (entered state))
+dial-counts : (key : Key) (serves : Bool) (address : List ℕ) (purpose : Purpose) (boxes : List Badge) (state : State) → CountsIn key state (dial serves address purpose boxes (entered state))
 unfolding dial
 dial-counts key serves address purpose boxes state = either (CountsIn key state) (serves && has_place (length boxes) (entered state).state) _ (hand_back boxes (refuse Full (entered state))) (added-counts key (dialled address purpose boxes) state (λ n. refl)) (unchanged key state)
 

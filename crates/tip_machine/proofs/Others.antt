@@ -6,7 +6,7 @@ use Rattle.std.specs.Option.{IfSome, option_map_or}
 use Rattle.std.proofs.lemmas.Bool.{and_left, or_parts}
 use Rattle.std.proofs.lemmas.Bool.Decides.{nat_tests}
 use Rattle.std.proofs.lemmas.Option.{same_Some, none-some}
-use Rattle.tip_branch.specs.declared.branch.Plan.{Plan}
+use Rattle.tip_branch.specs.declared.branch.Badge.{Badge}
 use Rattle.tip_line.specs.declared.command.CommandName.{CommandName}
 use Rattle.tip_line.specs.declared.response.ResponseName.{ResponseName}
 use Rattle.tip_rows.specs.Keys.{Place as Key, is_same}
@@ -257,11 +257,11 @@ added-touches event new state numbered = (
   },
 )
 
-opened-touches : (event : Event) (boxes : List Plan) (state : State) → Touches event state (opened boxes (entered state))
+opened-touches : (event : Event) (boxes : List Badge) (state : State) → Touches event state (opened boxes (entered state))
 unfolding opened
 opened-touches event boxes state = either (Touches event state) (has_place (length boxes) (entered state).state) (added (accepted boxes) (entered state)) _ (added-touches event (accepted boxes) state (λ n. refl)) (untouched event state (entered state).state refl refl)
 
-dial-touches : (event : Event) (serves : Bool) (address : List ℕ) (purpose : Purpose) (boxes : List Plan) (state : State) → Touches event state (dial serves address purpose boxes (entered state))
+dial-touches : (event : Event) (serves : Bool) (address : List ℕ) (purpose : Purpose) (boxes : List Badge) (state : State) → Touches event state (dial serves address purpose boxes (entered state))
 unfolding dial
 dial-touches event serves address purpose boxes state = either (Touches event state) (serves && has_place (length boxes) (entered state).state) _ _ (added-touches event (dialled address purpose boxes) state (λ n. refl)) (untouched event state (entered state).state refl refl)
 

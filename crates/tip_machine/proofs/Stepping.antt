@@ -2,7 +2,7 @@
 use Rattle.std.proofs.Common.{◌≡◌, ◌≤◌, Bool, ℕ, ◌+◌, List, Some, None, refl, ap, arith, sym, ◌∙◌, ◌⊎◌, inl, inr}
 use Rattle.std.specs.Prelude.{◌&&◌, IsSome, length}
 use Rattle.std.proofs.lemmas.Option.{same_Some, none-some}
-use Rattle.tip_branch.specs.declared.branch.Plan.{Plan}
+use Rattle.tip_branch.specs.declared.branch.Badge.{Badge}
 use Rattle.tip_line.specs.declared.refusal.Refusal.{Refusal}
 use Rattle.tip_line.specs.declared.refusal.Refusal.TheVariants.{Full, Frozen}
 use Rattle.tip_machine.specs.Types.{Event}
@@ -31,14 +31,14 @@ pub record Opens (before after : Work) : Type 0 where
 abbrev pub Went : Work → Work → Type 0
 Went before after = Goes before after ⊎ Opens before after
 
-handed_back : (w : Work) (boxes : List Plan) → Went w (hand_back boxes (refuse Full w))
+handed_back : (w : Work) (boxes : List Badge) → Went w (hand_back boxes (refuse Full w))
 handed_back w boxes = inl (record { head = refl; opened = refl; quiet = λ some. refl })
 
-opened-went : (boxes : List Plan) (w : Work) → Went w (opened boxes w)
+opened-went : (boxes : List Badge) (w : Work) → Went w (opened boxes w)
 unfolding opened added
 opened-went boxes w = either (Went w) (has_place (length boxes) w.state) (added (accepted boxes) w) _ (inr (record { head = refl; opened = refl; refusal = refl })) (handed_back w boxes)
 
-dial-went : (serves : Bool) (address : List ℕ) (purpose : Purpose) (boxes : List Plan) (w : Work) → Went w (dial serves address purpose boxes w)
+dial-went : (serves : Bool) (address : List ℕ) (purpose : Purpose) (boxes : List Badge) (w : Work) → Went w (dial serves address purpose boxes w)
 unfolding dial added
 dial-went serves address purpose boxes w = either (Went w) (serves && has_place (length boxes) w.state) _ _ (inr (record { head = refl; opened = refl; refusal = refl })) (handed_back w boxes)
 

@@ -5,7 +5,7 @@ use Rattle.std.specs.List.{list_all}
 use Rattle.std.specs.Option.{option_to_list}
 use Rattle.std.proofs.lemmas.Bool.{and_from}
 use Rattle.tip_branch.specs.Notes.{PartyNotes}
-use Rattle.tip_branch.specs.declared.branch.Plan.{Plan}
+use Rattle.tip_branch.specs.declared.branch.Badge.{Badge}
 use Rattle.tip_conn.specs.declared.state.Side.{Side}
 use Rattle.tip_conn.specs.declared.state.Side.TheVariants.{Primary, Secondary}
 use Rattle.tip_conn.specs.declared.state.State.{State as ConnectionState}
@@ -70,10 +70,10 @@ lost_quiet : (errands : List PartyNotes) (world : World) → errands ≡ [] → 
 lost_quiet [] world none quiet = quiet
 lost_quiet (party ∷ errands) world none quiet = absurd (cc)
 
-restarted_quiet : (boxes : Key → List Plan) (errands : List PartyNotes) (world : World) → errands ≡ [] → IsQuiet world → IsQuiet (record { state = restarted_from boxes world; rows = world.rows; errands = errands })
+restarted_quiet : (boxes : Key → List Badge) (errands : List PartyNotes) (world : World) → errands ≡ [] → IsQuiet world → IsQuiet (record { state = restarted_from boxes world; rows = world.rows; errands = errands })
 restarted_quiet boxes errands world none quiet = record { numbered = refl; alone = tt; transactions = rw quiet.rows refl; rows = quiet.rows; errands = none }
 
-renewed_quiet : (boxes : Key → List Plan) (outcome : Outcome) (world : World) → IsQuiet world → IsQuiet (renewed boxes outcome world).world
+renewed_quiet : (boxes : Key → List Badge) (outcome : Outcome) (world : World) → IsQuiet world → IsQuiet (renewed boxes outcome world).world
 renewed_quiet boxes Stored world quiet = restarted_quiet boxes world.errands world quiet.errands quiet
 renewed_quiet boxes NoChange world quiet = quiet
 renewed_quiet boxes Refused world quiet = quiet

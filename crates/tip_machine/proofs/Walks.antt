@@ -5,7 +5,7 @@ use Rattle.std.specs.Option.{IfSome}
 use Rattle.std.proofs.lemmas.Bool.Decides.{nat_tests}
 use Rattle.std.proofs.lemmas.Option.{same_Some, none-some}
 use Rattle.tip_branch.specs.Notes.{PartyNotes}
-use Rattle.tip_branch.specs.declared.branch.Plan.{Plan}
+use Rattle.tip_branch.specs.declared.branch.Badge.{Badge}
 use Rattle.tip_rows.specs.Keys.{Place as Key}
 use Rattle.tip_rows.proofs.OrderLemmas.{same_place}
 use Rattle.tip_table.specs.Lists.{without}
@@ -32,7 +32,7 @@ pub record Closed (R : Work → Work → Type 0) (May : ℕ → Type 0) (On : Ke
   pub tells : (w : Work) (told : List Told) → R w (record w { answer = record w.answer { told = told } })
   pub works : (w : Work) (party : Option PartyNotes) → R w (record w { answer = record w.answer { work = party } })
   pub spends : (w : Work) (party : Option PartyNotes) → R w (record w { answer = record w.answer { spent = party } })
-  pub hands : (w : Work) (boxes : Option (List Plan)) → R w (record w { answer = record w.answer { unused = boxes } })
+  pub hands : (w : Work) (boxes : Option (List Badge)) → R w (record w { answer = record w.answer { unused = boxes } })
   pub alters : (key : Key) (f : Transaction → Transaction) (w : Work) → On key → ((t : Transaction) → (f t).key ≡ t.key) → R w (alter key f w)
   pub ends : (key : Key) (w : Work) → On key → R w (end key w)
   pub makes : (from : Origin) (c : Connection) (w : Work) → May c.number → On (next_key w.state.head c) → connection_of c.number w.state ≡ Some c → R w (make from c w)

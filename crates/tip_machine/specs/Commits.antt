@@ -1,6 +1,5 @@
 -- Worked examples of transactions that come to their outcome: what short scripts show.
 use Rattle.std.specs.Prelude.{[], ◌∷◌, ◌++◌, codes, Some, None}
-use Rattle.tip_branch.specs.declared.branch.Plan.TheVariants as plan
 use Rattle.tip_branch.specs.declared.branch.Settled.TheVariants.{Done, Later}
 use Rattle.tip_branch.specs.declared.branch.Vote.TheVariants as vote
 use Rattle.tip_branch.specs.declared.member.Call.TheVariants as call
@@ -10,7 +9,7 @@ use Rattle.tip_line.specs.declared.refusal.Refusal.TheVariants as refusal
 use Rattle.tip_line.specs.declared.response.Response.TheVariants as response
 use Rattle.tip_rows.specs.declared.row.Row.TheVariants as row
 use Rattle.tip_machine.specs.Outputs.{Output}
-use Rattle.tip_machine.specs.Scripts.{Example, Line, ask, at, connected, connects, dials, hears, hears_back, id, key, name, north, north_with, pulls, pushes, put, remove, resumes, say, t}
+use Rattle.tip_machine.specs.Scripts.{Example, Line, ask, at, connected, connects, dials, hears, hears_back, id, key, late_box, name, no, north, north_with, pulls, pushes, put, read_only, remove, resumes, say, t, yes}
 use Rattle.tip_machine.specs.declared.answer.Asked.TheVariants as asked
 use Rattle.tip_machine.specs.declared.answer.Said.TheVariants as said
 use Rattle.tip_machine.specs.declared.connection.Purpose.TheVariants as purpose
@@ -20,7 +19,7 @@ abbrev pub late : Example
 late = record {
   world = north;
   lines =
-      connects (at 1 1) None (plan.Late ∷ []) ++ (
+      connects (at 1 1) None (late_box 11 ∷ []) ++ (
       hears (at 1 1) command.Begin ∷
       hears (at 1 1) command.Commit ∷
       Line.Goes ∷
@@ -31,13 +30,13 @@ late = record {
       connected (at 1 1) ++ (
       say 1 (said.Begun t) ∷
       Output.Works id errand.Vote ∷
-      Output.Called id 1 (call.Vote vote.Yes) ∷
+      Output.Called id 1 (late_box 11) (call.Vote vote.Yes) ∷
       put t (row.Committed ((1, codes "b1") ∷ []) []) ∷
       say 1 said.Committed ∷
       Output.Works id errand.Commit ∷
-      Output.Called id 1 (call.Commit Later) ∷
+      Output.Called id 1 (late_box 11) (call.Commit Later) ∷
       Output.Works id errand.Commit ∷
-      Output.Called id 1 (call.Commit Done) ∷
+      Output.Called id 1 (late_box 11) (call.Commit Done) ∷
       remove t ∷ []);
 }
 
@@ -46,7 +45,7 @@ abbrev pub a_no : Example
 a_no = record {
   world = north_with (record { connections = 8; transactions = 8; branches = 3; boxes = 9; entries = 100 }) ((1, codes "b1") ∷ (2, codes "b2") ∷ (3, codes "b3") ∷ []);
   lines =
-      connects (at 1 1) None (plan.Yes ∷ plan.No ∷ plan.Yes ∷ []) ++ (
+      connects (at 1 1) None (yes 11 ∷ no 12 ∷ yes 13 ∷ []) ++ (
       hears (at 1 1) command.Begin ∷
       hears (at 1 1) command.Commit ∷
       Line.Goes ∷
@@ -55,12 +54,12 @@ a_no = record {
       connected (at 1 1) ++ (
       say 1 (said.Begun t) ∷
       Output.Works id errand.Vote ∷
-      Output.Called id 1 (call.Vote vote.Yes) ∷
-      Output.Called id 2 (call.Vote vote.No) ∷
+      Output.Called id 1 (yes 11) (call.Vote vote.Yes) ∷
+      Output.Called id 2 (no 12) (call.Vote vote.No) ∷
       say 1 said.Aborted ∷
       Output.Works id errand.Abort ∷
-      Output.Called id 1 call.Abort ∷
-      Output.Dropped id 3 ∷ []);
+      Output.Called id 1 (yes 11) call.Abort ∷
+      Output.Dropped id 3 (yes 13) ∷ []);
 }
 
 -- a row names the branches by the labels of the realm
@@ -68,7 +67,7 @@ abbrev pub labelled : Example
 labelled = record {
   world = north_with (record { connections = 8; transactions = 8; branches = 2; boxes = 8; entries = 100 }) ((1, codes "ledger") ∷ (2, codes "queue") ∷ []);
   lines =
-      connects (at 1 1) None (plan.Yes ∷ plan.Yes ∷ []) ++ (
+      connects (at 1 1) None (yes 11 ∷ yes 12 ∷ []) ++ (
       hears (at 1 1) command.Begin ∷
       hears (at 1 1) command.Commit ∷
       Line.Goes ∷ []);
@@ -76,8 +75,8 @@ labelled = record {
       connected (at 1 1) ++ (
       say 1 (said.Begun t) ∷
       Output.Works id errand.Vote ∷
-      Output.Called id 1 (call.Vote vote.Yes) ∷
-      Output.Called id 2 (call.Vote vote.Yes) ∷
+      Output.Called id 1 (yes 11) (call.Vote vote.Yes) ∷
+      Output.Called id 2 (yes 12) (call.Vote vote.Yes) ∷
       put t (row.Committed ((1, codes "ledger") ∷ (2, codes "queue") ∷ []) []) ∷
       say 1 said.Committed ∷
       Output.Works id errand.Commit ∷ []);
@@ -88,10 +87,10 @@ abbrev pub push_and_prepare : Example
 push_and_prepare = record {
   world = north;
   lines =
-      connects (at 1 1) None (plan.Yes ∷ []) ++ (
+      connects (at 1 1) None (yes 11 ∷ []) ++ (
       hears (at 1 1) (command.Push (codes "s1")) ∷
       hears (at 1 1) command.Prepare ∷
-      connects (at 1 2) (Some (codes "a.x")) (plan.ReadOnly ∷ []) ++ (
+      connects (at 1 2) (Some (codes "a.x")) (read_only 21 ∷ []) ++ (
       hears (at 1 2) (command.Push (codes "s1")) ∷
       hears (at 1 2) command.Prepare ∷
       Line.Goes ∷ []));
@@ -99,11 +98,11 @@ push_and_prepare = record {
       connected (at 1 1) ++ (
       say 1 (said.Pushed t) ∷
       say 1 said.Aborted ∷
-      Output.Dropped id 1 ∷
+      Output.Dropped id 1 (yes 11) ∷
       connected (at 1 2) ++ (
       say 2 (said.Pushed (key 1 2 1)) ∷
       Output.Works (name (key 1 2 1)) errand.Vote ∷
-      Output.Called (name (key 1 2 1)) 1 (call.Vote vote.ReadOnly) ∷
+      Output.Called (name (key 1 2 1)) 1 (read_only 21) (call.Vote vote.ReadOnly) ∷
       say 2 said.ReadOnly ∷ []));
 }
 
@@ -112,7 +111,7 @@ abbrev pub one_part_says_no : Example
 one_part_says_no = record {
   world = north;
   lines =
-      connects (at 1 1) None (plan.Yes ∷ []) ++ (
+      connects (at 1 1) None (yes 11 ∷ []) ++ (
       hears (at 1 1) command.Begin ∷
       connects (at 1 2) (Some (codes "p.x")) [] ++ (
       hears (at 1 2) (command.Pull id (codes "p7")) ∷
@@ -136,9 +135,9 @@ one_part_says_no = record {
       Output.Works id errand.Vote ∷
       say 1 said.Aborted ∷
       ask 2 asked.Abort ∷
-      Output.Called id 1 (call.Vote vote.Yes) ∷
+      Output.Called id 1 (yes 11) (call.Vote vote.Yes) ∷
       Output.Works id errand.Abort ∷
-      Output.Called id 1 call.Abort ∷ [])));
+      Output.Called id 1 (yes 11) call.Abort ∷ [])));
 }
 
 -- a transaction with two remote parts is forgotten once both have acknowledged
@@ -146,7 +145,7 @@ abbrev pub two_parts : Example
 two_parts = record {
   world = north;
   lines =
-      connects (at 1 1) None (plan.ReadOnly ∷ []) ++ (
+      connects (at 1 1) None (read_only 11 ∷ []) ++ (
       hears (at 1 1) command.Begin ∷
       connects (at 1 2) (Some (codes "p.x")) [] ++ (
       hears (at 1 2) (command.Pull id (codes "p7")) ∷
@@ -170,7 +169,7 @@ two_parts = record {
       ask 2 asked.Prepare ∷
       ask 3 asked.Prepare ∷
       Output.Works id errand.Vote ∷
-      Output.Called id 1 (call.Vote vote.ReadOnly) ∷
+      Output.Called id 1 (read_only 11) (call.Vote vote.ReadOnly) ∷
       put t (row.Committed [] ((codes "p.x", codes "p7") ∷ (codes "q.x", codes "q7") ∷ [])) ∷
       say 1 said.Committed ∷
       ask 2 asked.Commit ∷
@@ -185,7 +184,7 @@ abbrev pub pulled : Example
 pulled = record {
   world = north;
   lines =
-      dials (codes "m.x") purpose.Plain (plan.Yes ∷ []) ∷
+      dials (codes "m.x") purpose.Plain (yes 11 ∷ []) ∷
       hears_back (at 1 1) (response.Identified 3) ∷
       pulls (at 1 1) (codes "m5") ∷
       hears_back (at 1 1) response.Pulled ∷
@@ -198,13 +197,13 @@ pulled = record {
       ask 1 (asked.Identify (codes "n.x") (codes "m.x")) ∷
       ask 1 (asked.Pull (codes "m5") t) ∷
       Output.Works id errand.Vote ∷
-      Output.Called id 1 (call.Vote vote.Yes) ∷
+      Output.Called id 1 (yes 11) (call.Vote vote.Yes) ∷
       put t (row.Prepared (codes "m.x") (codes "m5") ((1, codes "b1") ∷ []) []) ∷
       say 1 said.Prepared ∷
       remove t ∷
       say 1 said.Aborted ∷
       Output.Works id errand.Abort ∷
-      Output.Called id 1 call.Abort ∷ [];
+      Output.Called id 1 (yes 11) call.Abort ∷ [];
 }
 
 -- our transaction is pushed to another manager, which has nothing to commit
@@ -212,7 +211,7 @@ abbrev pub pushed : Example
 pushed = record {
   world = north;
   lines =
-      connects (at 1 1) None (plan.Yes ∷ []) ++ (
+      connects (at 1 1) None (yes 11 ∷ []) ++ (
       hears (at 1 1) command.Begin ∷
       dials (codes "p.x") purpose.Plain [] ∷
       hears_back (at 1 2) (response.Identified 4) ∷
@@ -230,11 +229,11 @@ pushed = record {
       ask 2 (asked.Push t) ∷
       ask 2 asked.Prepare ∷
       Output.Works id errand.Vote ∷
-      Output.Called id 1 (call.Vote vote.Yes) ∷
+      Output.Called id 1 (yes 11) (call.Vote vote.Yes) ∷
       put t (row.Committed ((1, codes "b1") ∷ []) []) ∷
       say 1 said.Committed ∷
       Output.Works id errand.Commit ∷
-      Output.Called id 1 (call.Commit Done) ∷
+      Output.Called id 1 (yes 11) (call.Commit Done) ∷
       remove t ∷ []);
 }
 
@@ -243,9 +242,9 @@ abbrev pub known_or_not_pulled : Example
 known_or_not_pulled = record {
   world = north;
   lines =
-      connects (at 1 1) (Some (codes "m.x")) (plan.Yes ∷ []) ++ (
+      connects (at 1 1) (Some (codes "m.x")) (yes 11 ∷ []) ++ (
       hears (at 1 1) (command.Push (codes "m5")) ∷
-      dials (codes "m.x") purpose.Plain (plan.Yes ∷ []) ∷
+      dials (codes "m.x") purpose.Plain (yes 21 ∷ []) ∷
       hears_back (at 1 2) (response.Identified 3) ∷
       pulls (at 1 2) (codes "m5") ∷
       pulls (at 1 2) (codes "m6") ∷
@@ -257,7 +256,7 @@ known_or_not_pulled = record {
       ask 2 (asked.Identify (codes "n.x") (codes "m.x")) ∷
       Output.Refused refusal.Known ∷
       ask 2 (asked.Pull (codes "m6") (key 1 2 1)) ∷
-      Output.Dropped (name (key 1 2 1)) 1 ∷ []);
+      Output.Dropped (name (key 1 2 1)) 1 (yes 21) ∷ []);
 }
 
 -- we are a superior and a subordinate at once
@@ -265,7 +264,7 @@ abbrev pub in_doubt_and_committed : Example
 in_doubt_and_committed = record {
   world = north;
   lines =
-      connects (at 1 1) (Some (codes "a.x")) (plan.Yes ∷ []) ++ (
+      connects (at 1 1) (Some (codes "a.x")) (yes 11 ∷ []) ++ (
       hears (at 1 1) (command.Push (codes "s1")) ∷
       connects (at 1 2) (Some (codes "p.x")) [] ++ (
       hears (at 1 2) (command.Pull id (codes "p7")) ∷
@@ -282,14 +281,14 @@ in_doubt_and_committed = record {
       say 2 said.Pulled ∷
       ask 2 asked.Prepare ∷
       Output.Works id errand.Vote ∷
-      Output.Called id 1 (call.Vote vote.Yes) ∷
+      Output.Called id 1 (yes 11) (call.Vote vote.Yes) ∷
       put t (row.Prepared (codes "a.x") (codes "s1") ((1, codes "b1") ∷ []) ((codes "p.x", codes "p7") ∷ [])) ∷
       say 1 said.Prepared ∷
       put t (row.Committed ((1, codes "b1") ∷ []) ((codes "p.x", codes "p7") ∷ [])) ∷
       say 1 said.Committed ∷
       ask 2 asked.Commit ∷
       Output.Works id errand.Commit ∷
-      Output.Called id 1 (call.Commit Done) ∷
+      Output.Called id 1 (yes 11) (call.Commit Done) ∷
       remove t ∷ []));
 }
 
@@ -298,7 +297,7 @@ abbrev pub out_of_turn : Example
 out_of_turn = record {
   world = north;
   lines =
-      connects (at 1 1) None (plan.ReadOnly ∷ []) ++ (
+      connects (at 1 1) None (read_only 11 ∷ []) ++ (
       hears (at 1 1) command.Begin ∷
       connects (at 1 2) (Some (codes "p.x")) [] ++ (
       hears (at 1 2) (command.Pull id (codes "p7")) ∷
@@ -314,6 +313,6 @@ out_of_turn = record {
       Output.Refused refusal.Busy ∷
       ask 2 asked.Prepare ∷
       Output.Works id errand.Vote ∷
-      Output.Called id 1 (call.Vote vote.ReadOnly) ∷
+      Output.Called id 1 (read_only 11) (call.Vote vote.ReadOnly) ∷
       say 1 said.Committed ∷ []));
 }

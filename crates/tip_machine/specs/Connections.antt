@@ -4,7 +4,7 @@ use Rattle.tip_line.specs.declared.command.CommandName.{CommandName}
 use Rattle.tip_line.specs.declared.command.CommandName.TheVariants as command
 use Rattle.tip_line.specs.declared.response.ResponseName.{ResponseName}
 use Rattle.tip_line.specs.declared.response.ResponseName.TheVariants as response
-use Rattle.tip_branch.specs.declared.branch.Plan.{Plan}
+use Rattle.tip_branch.specs.declared.branch.Badge.{Badge}
 use Rattle.tip_conn.specs.Table.{next_of}
 use Rattle.tip_conn.specs.declared.state.State.{State}
 use Rattle.tip_conn.specs.declared.state.State.TheVariants.{Initial, Idle, Begun, Enlisted, Prepared, Error}
@@ -25,11 +25,11 @@ abbrev pub has_number : ℕ → Connection → Bool
 has_number number connection = connection.number == number
 
 -- a connection that another manager has just opened: we are its secondary (section 4)
-abbrev pub accepted : List Plan → ℕ → Connection
+abbrev pub accepted : List Badge → ℕ → Connection
 accepted boxes number = record { number = number; dialled = false; state = Initial; side = Secondary; peer = None; boxes = boxes; owed = None; awaited = None; role = None; made = 0 }
 
 -- a connection that we have just opened: we are its primary, and have said IDENTIFY (section 4)
-abbrev pub dialled : List ℕ → Purpose → List Plan → ℕ → Connection
+abbrev pub dialled : List ℕ → Purpose → List Badge → ℕ → Connection
 dialled address purpose boxes number = record (accepted boxes number) { dialled = true; side = Primary; peer = Some address; awaited = Some (awaited.Identify purpose) }
 
 -- The connection table

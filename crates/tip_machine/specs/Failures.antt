@@ -1,6 +1,5 @@
 -- Worked examples of failures, restarts and refusals: what short scripts show.
 use Rattle.std.specs.Prelude.{[], ◌∷◌, ◌++◌, codes, Some, None}
-use Rattle.tip_branch.specs.declared.branch.Plan.TheVariants as plan
 use Rattle.tip_branch.specs.declared.branch.Settled.TheVariants.{Done}
 use Rattle.tip_branch.specs.declared.branch.Vote.TheVariants as vote
 use Rattle.tip_branch.specs.declared.member.Call.TheVariants as call
@@ -10,7 +9,7 @@ use Rattle.tip_line.specs.declared.refusal.Refusal.TheVariants as refusal
 use Rattle.tip_line.specs.declared.response.Response.TheVariants as response
 use Rattle.tip_rows.specs.declared.row.Row.TheVariants as row
 use Rattle.tip_machine.specs.Outputs.{Output}
-use Rattle.tip_machine.specs.Scripts.{Example, Line, ask, at, close, connected, connects, dials, hears, hears_back, hears_nothing, id, key, loses, north, north_with, not_removed, opens, put, remove, resumes, say, t}
+use Rattle.tip_machine.specs.Scripts.{Example, Line, ask, at, close, connected, connects, dials, hears, hears_back, hears_nothing, id, key, loses, north, north_with, not_removed, opens, put, read_only, remove, resumes, say, t, yes}
 use Rattle.tip_machine.specs.declared.answer.Asked.TheVariants as asked
 use Rattle.tip_machine.specs.declared.answer.Said.TheVariants as said
 use Rattle.tip_machine.specs.declared.connection.Purpose.TheVariants as purpose
@@ -22,7 +21,7 @@ abbrev pub part_lost : Example
 part_lost = record {
   world = north;
   lines =
-      connects (at 1 1) None (plan.Yes ∷ []) ++ (
+      connects (at 1 1) None (yes 11 ∷ []) ++ (
       hears (at 1 1) command.Begin ∷
       connects (at 1 2) (Some (codes "p.x")) [] ++ (
       hears (at 1 2) (command.Pull id (codes "p7")) ∷
@@ -46,9 +45,9 @@ part_lost = record {
       Output.Works id errand.Vote ∷
       say 1 said.Aborted ∷
       ask 2 asked.Abort ∷
-      Output.Called id 1 (call.Vote vote.Yes) ∷
+      Output.Called id 1 (yes 11) (call.Vote vote.Yes) ∷
       Output.Works id errand.Abort ∷
-      Output.Called id 1 call.Abort ∷ [])));
+      Output.Called id 1 (yes 11) call.Abort ∷ [])));
 }
 
 -- a part says what is no line: the superior is answered before the part is closed
@@ -56,7 +55,7 @@ abbrev pub part_not_valid : Example
 part_not_valid = record {
   world = north;
   lines =
-      connects (at 1 1) None (plan.Yes ∷ []) ++ (
+      connects (at 1 1) None (yes 11 ∷ []) ++ (
       hears (at 1 1) command.Begin ∷
       connects (at 1 2) (Some (codes "p.x")) [] ++ (
       hears (at 1 2) (command.Pull id (codes "p7")) ∷
@@ -79,7 +78,7 @@ abbrev pub not_valid : Example
 not_valid = record {
   world = north;
   lines =
-      connects (at 1 1) None (plan.Yes ∷ []) ++ (
+      connects (at 1 1) None (yes 11 ∷ []) ++ (
       hears (at 1 1) command.Begin ∷
       hears (at 1 1) command.Begin ∷
       connects (at 1 2) None [] ++ (
@@ -91,7 +90,7 @@ not_valid = record {
       say 1 (said.Begun t) ∷
       say 1 said.Error ∷
       close 1 ∷
-      Output.Dropped id 1 ∷
+      Output.Dropped id 1 (yes 11) ∷
       connected (at 1 2) ++ (
       say 2 said.Error ∷
       close 2 ∷
@@ -104,7 +103,7 @@ abbrev pub lost_vote : Example
 lost_vote = record {
   world = north;
   lines =
-      connects (at 1 1) None (plan.Yes ∷ []) ++ (
+      connects (at 1 1) None (yes 11 ∷ []) ++ (
       hears (at 1 1) command.Begin ∷
       hears (at 1 1) command.Commit ∷
       Line.Loses ∷
@@ -113,7 +112,7 @@ lost_vote = record {
       connected (at 1 1) ++ (
       say 1 (said.Begun t) ∷
       Output.Works id errand.Vote ∷
-      Output.Dropped id 1 ∷ []);
+      Output.Dropped id 1 (yes 11) ∷ []);
 }
 
 -- a transaction in doubt is reached again after a restart, and aborted
@@ -121,12 +120,12 @@ abbrev pub restarted_in_doubt : Example
 restarted_in_doubt = record {
   world = north;
   lines =
-      connects (at 1 1) (Some (codes "a.x")) (plan.Yes ∷ []) ++ (
+      connects (at 1 1) (Some (codes "a.x")) (yes 11 ∷ []) ++ (
       hears (at 1 1) (command.Push (codes "s1")) ∷
       hears (at 1 1) command.Prepare ∷
       Line.Goes ∷
       Line.Restarts ∷
-      connects (at 2 1) (Some (codes "a.x")) (plan.Yes ∷ []) ++ (
+      connects (at 2 1) (Some (codes "a.x")) (yes 11 ∷ []) ++ (
       hears (at 2 1) command.Begin ∷
       connects (at 2 2) (Some (codes "a.x")) [] ++ (
       hears (at 2 2) (command.Reconnect id) ∷
@@ -136,7 +135,7 @@ restarted_in_doubt = record {
       connected (at 1 1) ++ (
       say 1 (said.Pushed t) ∷
       Output.Works id errand.Vote ∷
-      Output.Called id 1 (call.Vote vote.Yes) ∷
+      Output.Called id 1 (yes 11) (call.Vote vote.Yes) ∷
       put t (row.Prepared (codes "a.x") (codes "s1") ((1, codes "b1") ∷ []) []) ∷
       say 1 said.Prepared ∷
       connected (at 2 1) ++ (
@@ -146,7 +145,7 @@ restarted_in_doubt = record {
       remove t ∷
       say 2 said.Aborted ∷
       Output.Works id errand.Abort ∷
-      Output.Called id 1 call.Abort ∷ [])));
+      Output.Called id 1 (yes 91) call.Abort ∷ [])));
 }
 
 -- the store refuses to remove a row: nobody is told, and after a restart the superior may still commit
@@ -154,7 +153,7 @@ abbrev pub refused_removal : Example
 refused_removal = record {
   world = north;
   lines =
-      connects (at 1 1) (Some (codes "a.x")) (plan.Yes ∷ []) ++ (
+      connects (at 1 1) (Some (codes "a.x")) (yes 11 ∷ []) ++ (
       hears (at 1 1) (command.Push (codes "s1")) ∷
       hears (at 1 1) command.Prepare ∷
       Line.Goes ∷
@@ -168,7 +167,7 @@ refused_removal = record {
       connected (at 1 1) ++ (
       say 1 (said.Pushed t) ∷
       Output.Works id errand.Vote ∷
-      Output.Called id 1 (call.Vote vote.Yes) ∷
+      Output.Called id 1 (yes 11) (call.Vote vote.Yes) ∷
       put t (row.Prepared (codes "a.x") (codes "s1") ((1, codes "b1") ∷ []) []) ∷
       say 1 said.Prepared ∷
       not_removed t ∷
@@ -178,7 +177,7 @@ refused_removal = record {
       put t (row.Committed ((1, codes "b1") ∷ []) []) ∷
       say 1 said.Committed ∷
       Output.Works id errand.Commit ∷
-      Output.Called id 1 (call.Commit Done) ∷
+      Output.Called id 1 (yes 91) (call.Commit Done) ∷
       remove t ∷ []));
 }
 
@@ -187,7 +186,7 @@ abbrev pub presumed_abort : Example
 presumed_abort = record {
   world = north;
   lines =
-      connects (at 1 1) (Some (codes "a.x")) (plan.Yes ∷ []) ++ (
+      connects (at 1 1) (Some (codes "a.x")) (yes 11 ∷ []) ++ (
       hears (at 1 1) (command.Push (codes "s1")) ∷
       hears (at 1 1) command.Prepare ∷
       Line.Goes ∷
@@ -200,7 +199,7 @@ presumed_abort = record {
       connected (at 1 1) ++ (
       say 1 (said.Pushed t) ∷
       Output.Works id errand.Vote ∷
-      Output.Called id 1 (call.Vote vote.Yes) ∷
+      Output.Called id 1 (yes 11) (call.Vote vote.Yes) ∷
       put t (row.Prepared (codes "a.x") (codes "s1") ((1, codes "b1") ∷ []) []) ∷
       say 1 said.Prepared ∷
       Output.Opened (at 1 2) ∷
@@ -208,7 +207,7 @@ presumed_abort = record {
       ask 2 (asked.Query (codes "s1")) ∷
       remove t ∷
       Output.Works id errand.Abort ∷
-      Output.Called id 1 call.Abort ∷ []);
+      Output.Called id 1 (yes 11) call.Abort ∷ []);
 }
 
 -- a part is lost after it voted: the outcome is brought to it by RECONNECT
@@ -216,7 +215,7 @@ abbrev pub part_reached_again : Example
 part_reached_again = record {
   world = north;
   lines =
-      connects (at 1 1) None (plan.ReadOnly ∷ []) ++ (
+      connects (at 1 1) None (read_only 11 ∷ []) ++ (
       hears (at 1 1) command.Begin ∷
       connects (at 1 2) (Some (codes "p.x")) [] ++ (
       hears (at 1 2) (command.Pull id (codes "p7")) ∷
@@ -237,7 +236,7 @@ part_reached_again = record {
       say 2 said.Pulled ∷
       ask 2 asked.Prepare ∷
       Output.Works id errand.Vote ∷
-      Output.Called id 1 (call.Vote vote.ReadOnly) ∷
+      Output.Called id 1 (read_only 11) (call.Vote vote.ReadOnly) ∷
       put t (row.Committed [] ((codes "p.x", codes "p7") ∷ [])) ∷
       say 1 said.Committed ∷
       ask 2 asked.Commit ∷
@@ -255,7 +254,7 @@ abbrev pub taken_over : Example
 taken_over = record {
   world = north;
   lines =
-      connects (at 1 1) (Some (codes "a.x")) (plan.Yes ∷ []) ++ (
+      connects (at 1 1) (Some (codes "a.x")) (yes 11 ∷ []) ++ (
       hears (at 1 1) (command.Push (codes "s1")) ∷
       hears (at 1 1) command.Prepare ∷
       Line.Goes ∷
@@ -267,7 +266,7 @@ taken_over = record {
       connected (at 1 1) ++ (
       say 1 (said.Pushed t) ∷
       Output.Works id errand.Vote ∷
-      Output.Called id 1 (call.Vote vote.Yes) ∷
+      Output.Called id 1 (yes 11) (call.Vote vote.Yes) ∷
       put t (row.Prepared (codes "a.x") (codes "s1") ((1, codes "b1") ∷ []) []) ∷
       say 1 said.Prepared ∷
       connected (at 1 2) ++ (
@@ -276,7 +275,7 @@ taken_over = record {
       put t (row.Committed ((1, codes "b1") ∷ []) []) ∷
       say 2 said.Committed ∷
       Output.Works id errand.Commit ∷
-      Output.Called id 1 (call.Commit Done) ∷
+      Output.Called id 1 (yes 11) (call.Commit Done) ∷
       remove t ∷ []));
 }
 
@@ -285,7 +284,7 @@ abbrev pub resumed : Example
 resumed = record {
   world = north;
   lines =
-      connects (at 1 1) None (plan.Yes ∷ []) ++ (
+      connects (at 1 1) None (yes 11 ∷ []) ++ (
       hears (at 1 1) command.Begin ∷
       hears (at 1 1) command.Commit ∷
       Line.Goes ∷
@@ -296,11 +295,11 @@ resumed = record {
       connected (at 1 1) ++ (
       say 1 (said.Begun t) ∷
       Output.Works id errand.Vote ∷
-      Output.Called id 1 (call.Vote vote.Yes) ∷
+      Output.Called id 1 (yes 11) (call.Vote vote.Yes) ∷
       put t (row.Committed ((1, codes "b1") ∷ []) []) ∷
       say 1 said.Committed ∷
       Output.Works id errand.Commit ∷
-      Output.Called id 1 (call.Commit Done) ∷
+      Output.Called id 1 (yes 11) (call.Commit Done) ∷
       not_removed t ∷
       remove t ∷
       Output.Refused refusal.NotActive ∷ []);
@@ -311,10 +310,10 @@ abbrev pub frozen_and_renewed : Example
 frozen_and_renewed = record {
   world = north_with (record { connections = 8; transactions = 8; branches = 1; boxes = 8; entries = 2 }) ((1, codes "b1") ∷ []);
   lines =
-      connects (at 1 1) None (plan.Yes ∷ []) ++ (
+      connects (at 1 1) None (yes 11 ∷ []) ++ (
       hears (at 1 1) command.Begin ∷
       Line.Renews ∷
-      opens (plan.Yes ∷ []) ∷
+      opens (yes 21 ∷ []) ∷
       hears (at 2 1) command.Tls ∷ []);
   shown =
       connected (at 1 1) ++ (
@@ -328,19 +327,19 @@ abbrev pub stranger : Example
 stranger = record {
   world = north;
   lines =
-      connects (at 1 1) None (plan.Yes ∷ []) ++ (
+      connects (at 1 1) None (yes 11 ∷ []) ++ (
       hears (at 1 1) command.Begin ∷
       hears (at 1 1) command.Commit ∷
       Line.Renews ∷
       Line.Goes ∷
-      connects (at 2 1) None (plan.Yes ∷ []) ++ (
+      connects (at 2 1) None (yes 11 ∷ []) ++ (
       hears (at 2 1) command.Begin ∷ []));
   shown =
       connected (at 1 1) ++ (
       say 1 (said.Begun t) ∷
       Output.Works id errand.Vote ∷
       Output.Refused refusal.Stranger ∷
-      Output.Called id 1 (call.Vote vote.Yes) ∷
+      Output.Called id 1 (yes 11) (call.Vote vote.Yes) ∷
       connected (at 2 1) ++ (
       say 1 (said.Begun (key 2 1 1)) ∷ []));
 }

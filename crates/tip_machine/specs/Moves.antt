@@ -2,7 +2,7 @@
 use Rattle.std.specs.Prelude.{◌+◌, List, [], ◌∷◌, ◌++◌, map, flat_map, Option, Some, if◌then◌else◌}
 use Rattle.std.specs.Option.{option_to_list}
 use Rattle.tip_branch.specs.Notes.{PartyNotes}
-use Rattle.tip_branch.specs.declared.branch.Plan.{Plan}
+use Rattle.tip_branch.specs.declared.branch.Badge.{Badge}
 use Rattle.tip_branch.specs.declared.member.Errand.{Errand}
 use Rattle.tip_branch.specs.declared.member.Errand.TheVariants as errand
 use Rattle.tip_line.specs.declared.refusal.Refusal.TheVariants as refusal
@@ -37,9 +37,9 @@ pub data Move : Type 0 where
   -- the oldest errand is lost: its party does not come back
   Lose : Move
   -- the process starts again; these boxes are adopted for the branches of each row
-  Restart : (Key → List Plan) → Move
+  Restart : (Key → List Badge) → Move
   -- the realm alone starts again, if the store lets its epoch rise
-  Renew : (Key → List Plan) → Outcome → Move
+  Renew : (Key → List Badge) → Outcome → Move
 
 -- what a move shows, and what is there afterwards
 pub record Moved : Type 0 where
@@ -96,7 +96,7 @@ lost_from (party ∷ errands) world = record { shown = drops_of party; world = r
 abbrev pub risen : Head → Head
 risen head = record head { epoch = head.epoch + 1; given = 0; entries = 0 }
 
-abbrev pub restarted_from : (Key → List Plan) → World → State
+abbrev pub restarted_from : (Key → List Badge) → World → State
 restarted_from boxes world = restarted (risen world.state.head) (map (λ row. record { key = row.0; row = row.1; boxes = boxes row.0 }) world.rows)
 
 abbrev pub drops_at : PartyPlace → List Output
@@ -108,7 +108,7 @@ drops_at Spent = []
 abbrev pub drops_here : State → List Output
 drops_here state = flat_map (λ transaction. drops_at transaction.place) state.transactions
 
-abbrev pub renewed : (Key → List Plan) → Outcome → World → Moved
+abbrev pub renewed : (Key → List Badge) → Outcome → World → Moved
 renewed boxes Stored world = record { shown = drops_here world.state; world = record world { state = restarted_from boxes world } }
 renewed boxes other world = record { shown = Output.Refused refusal.Refused ∷ []; world = world }
 

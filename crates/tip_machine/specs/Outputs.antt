@@ -1,6 +1,7 @@
 -- What is seen of a realm from outside, in one order (ours).
 use Rattle.std.specs.Prelude.{ℕ, List, [], ◌++◌, map, filter, filter_map, Option, option_map}
 use Rattle.std.specs.Option.{option_map_or, option_to_list}
+use Rattle.tip_branch.specs.declared.branch.Badge.{Badge}
 use Rattle.tip_branch.specs.declared.member.Call.{Call}
 use Rattle.tip_branch.specs.declared.member.Errand.{Errand}
 use Rattle.tip_branch.specs.Members.{is_active}
@@ -17,21 +18,21 @@ pub data Output : Type 0 where
   Refused : Refusal → Output
   Opened : Seat → Output
   -- a branch of a transaction was called, and answered so
-  Called : (id : List ℕ) → (member : ℕ) → Call → Output
+  Called : (id : List ℕ) → (member : ℕ) → Badge → Call → Output
   Changed : Change → Outcome → Output
   Told : ALine → Output
   -- a transaction's party goes out
   Works : (id : List ℕ) → Errand → Output
   -- a branch that was still active is rolled back
-  Dropped : (id : List ℕ) → (member : ℕ) → Output
+  Dropped : (id : List ℕ) → (member : ℕ) → Badge → Output
 
 -- the new calls of a party that came back
 abbrev pub calls_of : PartyNotes → List Output
-calls_of party = filter_map (λ member. option_map (Output.Called party.id member.number) member.call) party.members
+calls_of party = filter_map (λ member. option_map (Output.Called party.id member.number member.standing.badge) member.call) party.members
 
 -- the active branches of a party that is let go
 abbrev pub drops_of : PartyNotes → List Output
-drops_of party = map (λ member. Output.Dropped party.id member.number) (filter is_active party.members)
+drops_of party = map (λ member. Output.Dropped party.id member.number member.standing.badge) (filter is_active party.members)
 
 -- the calls that an event brings with it: they were made before it, whatever is answered
 abbrev pub brought : Event → List Output

@@ -1,7 +1,7 @@
 -- A realm that starts again (ours, for RFC 2371, sections 10 and 15): what it is after a start hangs on its stored rows, the
 -- boxes that were adopted for them and the new epoch alone.
 use Rattle.std.specs.Prelude.{ℕ, List, [], ◌∷◌, map, Some}
-use Rattle.tip_branch.specs.declared.branch.Plan.{Plan}
+use Rattle.tip_branch.specs.declared.branch.Badge.{Badge}
 use Rattle.tip_branch.specs.Members.{ready_members}
 use Rattle.tip_branch.specs.Notes.{idle_party}
 use Rattle.tip_rows.specs.Keys.{Place as Key}
@@ -20,15 +20,15 @@ use Rattle.tip_machine.specs.declared.transaction.PartyPlace.TheVariants.{Here, 
 pub record Loaded : Type 0 where
   pub key : Key
   pub row : Row
-  pub boxes : List Plan
+  pub boxes : List Badge
 
 -- the party of a row: its branches are ready; where it names none, there is nobody to tell (ours)
-abbrev pub adopted : Head → Key → List (ℕ × List ℕ) → List Plan → PartyPlace
+abbrev pub adopted : Head → Key → List (ℕ × List ℕ) → List Badge → PartyPlace
 adopted head key [] boxes = Spent
 adopted head key (branch ∷ branches) boxes = Here (idle_party head.name head.epoch (identifier head.name key) (ready_members (map (λ b. b.0) (branch ∷ branches)) boxes))
 
 -- the transaction of a row: in doubt, or committed with no subordinate that has acknowledged; no connection is on it (ours)
-abbrev pub reopened : Head → Key → List Plan → Row → Transaction
+abbrev pub reopened : Head → Key → List Badge → Row → Transaction
 reopened head key boxes (row.Prepared address superior branches subordinates) = record {
   key = key;
   origin = origin.Subordinate (Some address) superior;

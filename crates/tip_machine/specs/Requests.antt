@@ -2,7 +2,7 @@
 -- back, and the host asks for something.
 use Rattle.std.specs.Prelude.{ℕ, ◌+◌, ◌==◌, ◌&&◌, Bool, false, List, [], ◌∷◌, ◌++◌, length, Option, Some, None, find, if◌then◌else◌}
 use Rattle.tip_branch.specs.Notes.{PartyNotes}
-use Rattle.tip_branch.specs.declared.branch.Plan.{Plan}
+use Rattle.tip_branch.specs.declared.branch.Badge.{Badge}
 use Rattle.tip_branch.specs.declared.member.Errand.TheVariants as errand
 use Rattle.tip_line.specs.declared.command.Command.TheVariants.{Error}
 use Rattle.tip_line.specs.declared.refusal.Refusal.TheVariants.{Full, Stale, Busy, NotActive, Stranger, Known}
@@ -32,7 +32,7 @@ use Rattle.tip_machine.specs.declared.transaction.PartyPlace.TheVariants.{Here, 
 -- Connections
 
 -- boxes that no transaction took are handed back (ours)
-abbrev pub hand_back : List Plan → Work → Work
+abbrev pub hand_back : List Badge → Work → Work
 hand_back boxes work = record work { answer = record work.answer { unused = Some boxes } }
 
 -- a connection is added, with the next number (ours, for section 5)
@@ -46,11 +46,11 @@ added new work = record {
 }
 
 -- another manager opens a connection (section 4; the limits are ours)
-unfoldable pub opened : List Plan → Work → Work
+unfoldable pub opened : List Badge → Work → Work
 opened boxes work = if has_place (length boxes) work.state then added (accepted boxes) work else hand_back boxes (refuse Full work)
 
 -- we open a connection, and identify ourselves (section 13, IDENTIFY; the limits are ours)
-unfoldable pub dial : Bool → List ℕ → Purpose → List Plan → Work → Work
+unfoldable pub dial : Bool → List ℕ → Purpose → List Badge → Work → Work
 dial serves address purpose boxes work =
     if serves && has_place (length boxes) work.state
     then tell (work.state.head.given + 1) (Ask (asked.Identify work.state.head.address address)) (added (dialled address purpose boxes) work)

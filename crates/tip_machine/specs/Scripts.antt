@@ -4,7 +4,7 @@ use Rattle.std.specs.Prelude.{◌≡◌, ℕ, List, [], ◌∷◌, ◌++◌, map
 use Rattle.tip_branch.specs.Members.{aborting, committing, is_no, is_ready, voting}
 use Rattle.tip_branch.specs.Notes.{PartyNotes}
 use Rattle.tip_branch.specs.Plans.{planned_answer, planned_vote}
-use Rattle.tip_branch.specs.declared.branch.Plan.{Plan}
+use Rattle.tip_branch.specs.declared.branch.Badge.{Badge}
 use Rattle.tip_branch.specs.declared.branch.Plan.TheVariants as plan
 use Rattle.tip_branch.specs.declared.branch.Settled.TheVariants.{Done}
 use Rattle.tip_branch.specs.declared.branch.Vote.{Vote}
@@ -38,14 +38,14 @@ use Rattle.tip_machine.specs.declared.head.Limits.{Limits}
 
 -- the members that are asked, up to the first that votes no
 abbrev pub vote_of : Member → Vote
-vote_of member = unwrap_or (planned_vote member.standing.plan) vote.Yes
+vote_of member = unwrap_or (planned_vote member.standing.badge.plan) vote.Yes
 
 abbrev pub all_asked : List Member → List Member
 all_asked [] = []
 all_asked (member ∷ members) = voting member (vote_of member) ∷ (if is_no (vote_of member) then members else all_asked members)
 
 abbrev pub told_commit : Member → Member
-told_commit member = if is_ready member then committing member (unwrap_or (planned_answer member.standing.plan member.standing.told.commits) Done) else member
+told_commit member = if is_ready member then committing member (unwrap_or (planned_answer member.standing.badge.plan member.standing.told.commits) Done) else member
 
 abbrev pub told_abort : Member → Member
 told_abort member = if is_ready member then aborting member else member
@@ -74,9 +74,22 @@ abbrev pub oldest : List PartyNotes → (PartyNotes → Move) → Move
 oldest [] go = Move.Lose
 oldest (party ∷ errands) go = go (comes_back party)
 
+-- boxes, by what they promise and their marks
+abbrev pub yes : ℕ → Badge
+yes mark = record { plan = plan.Yes; mark = mark }
+
+abbrev pub no : ℕ → Badge
+no mark = record { plan = plan.No; mark = mark }
+
+abbrev pub read_only : ℕ → Badge
+read_only mark = record { plan = plan.ReadOnly; mark = mark }
+
+abbrev pub late_box : ℕ → Badge
+late_box mark = record { plan = plan.Late; mark = mark }
+
 -- one box of kind yes is adopted for each branch
-abbrev pub all_yes : Key → List Plan
-all_yes key = plan.Yes ∷ plan.Yes ∷ plan.Yes ∷ []
+abbrev pub all_yes : Key → List Badge
+all_yes key = yes 91 ∷ yes 92 ∷ yes 93 ∷ []
 
 abbrev pub move_of : Line → World → Move
 move_of (Happens event) world = Move.Step event Stored
@@ -116,10 +129,10 @@ StaysSound example = Reaches example.world example.lines
 abbrev pub at : ℕ → ℕ → Seat
 at epoch number = record { epoch = epoch; number = number }
 
-abbrev pub opens : List Plan → Line
+abbrev pub opens : List Badge → Line
 opens boxes = Line.Happens (event.Open boxes)
 
-abbrev pub dials : List ℕ → Purpose → List Plan → Line
+abbrev pub dials : List ℕ → Purpose → List Badge → Line
 dials address purpose boxes = Line.Happens (event.Dial address purpose boxes)
 
 abbrev pub hears : Seat → Command → Line
@@ -144,7 +157,7 @@ abbrev pub resumes : List ℕ → Line
 resumes id = Line.Happens (event.Resume id)
 
 -- a manager opens a connection and identifies itself
-abbrev pub connects : Seat → Option (List ℕ) → List Plan → List Line
+abbrev pub connects : Seat → Option (List ℕ) → List Badge → List Line
 connects seat peer boxes = opens boxes ∷ hears seat (command.Identify 3 3 peer (codes "-")) ∷ []
 
 -- Words for what is shown

@@ -2,7 +2,7 @@
 use Rattle.std.specs.Prelude.{ℕ, zero, suc, ◌+◌, ◌==◌, ◌&&◌, Bool, true, false, List, [], ◌∷◌, ◌++◌, map, drop, Option, Some, None, is_some, is_none, unwrap_or, filter, slice_get, if◌then◌else◌}
 use Rattle.std.specs.List.{list_any, list_all}
 use Rattle.std.specs.Str.{bytes_eq}
-use Rattle.tip_branch.specs.declared.branch.Plan.{Plan}
+use Rattle.tip_branch.specs.declared.branch.Badge.{Badge}
 use Rattle.tip_branch.specs.declared.member.Member.{Member}
 use Rattle.tip_branch.specs.Members.{fresh_members, is_ready}
 use Rattle.tip_branch.specs.Notes.{PartyNotes, idle_party}
@@ -92,11 +92,11 @@ is_decided_at None (origin.Subordinate address superior) = false
 is_decided_at (Some peer) (origin.Subordinate address superior) = is_text peer address
 
 -- a transaction that has just begun, with active branches in these boxes
-abbrev pub begun : Head → Key → Origin → List Plan → Transaction
-begun head key origin plans = record {
+abbrev pub begun : Head → Key → Origin → List Badge → Transaction
+begun head key origin boxes = record {
   key = key;
   origin = origin;
-  place = Here (idle_party head.name head.epoch (identifier head.name key) (fresh_members 1 plans));
+  place = Here (idle_party head.name head.epoch (identifier head.name key) (fresh_members 1 boxes));
   branches = head.branches;
   txn = fresh (identifier head.name key);
 }

@@ -50,8 +50,8 @@ reached id state number = part_of id state (option_and_then (λ connection. conn
 -- what an output tells a branch of the transaction of this identifier, in the state that it leaves; an active branch that is
 -- rolled back is told to abort
 abbrev pub told_by : List ℕ → State → Output → Option Said
-told_by id state (Output.Called other number call) = if bytes_eq id other then of_call number call else None
-told_by id state (Output.Dropped other number) = if bytes_eq id other then Some (Branch.Local number, Verdict.Abort) else None
+told_by id state (Output.Called other number badge call) = if bytes_eq id other then of_call number call else None
+told_by id state (Output.Dropped other number badge) = if bytes_eq id other then Some (Branch.Local number, Verdict.Abort) else None
 told_by id state (Output.Told told) = option_and_then (λ branch. option_map (λ verdict. (branch, verdict)) (of_item told.item)) (reached id state told.connection)
 told_by id state other = None
 

@@ -8,7 +8,7 @@ use Rattle.std.proofs.lemmas.List.{append-nil}
 use Rattle.std.proofs.lemmas.Option.{same_Some, none-some, slice_get_within, slice_get_past, slice_get-get_or}
 use Rattle.std.specs.Cmp.{unsigned_Decides}
 use Rattle.tipd.proofs.Hearing.{lines_behind}
-use Rattle.tip_branch.specs.declared.branch.Plan.{Plan}
+use Rattle.tip_branch.specs.declared.branch.Badge.{Badge}
 use Rattle.tip_core.specs.Hosted.{Hosted, realm, Steps}
 use Rattle.tip_line.specs.declared.refusal.Refusal.{Refusal}
 use Rattle.tip_line.specs.declared.refusal.Refusal.TheVariants.{NoRealm}
@@ -221,7 +221,7 @@ unmoved core core' actors scene place is nobody others absent = record {
   none = λ other behind. none_still core core' scene place others absent other (is.none other behind) (other == place) refl;
 }
 
-pub opens_so : (core core' : Hosted) (place : ℕ) (boxes : List Plan) (answer : Answer) → boxes ≡ [] → Steps core core' place (event.Open boxes) NoChange answer → Steps core core' place (event.Open []) NoChange answer
+pub opens_so : (core core' : Hosted) (place : ℕ) (boxes : List Badge) (answer : Answer) → boxes ≡ [] → Steps core core' place (event.Open boxes) NoChange answer → Steps core core' place (event.Open []) NoChange answer
 opens_so core core' place boxes answer none steps = subst (λ b. Steps core core' place (event.Open b) NoChange answer) none steps
 
 -- a realm that is there opens a connection

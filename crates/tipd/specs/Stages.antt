@@ -5,7 +5,7 @@ use Rattle.tip_machine.specs.declared.head.Start.{Start}
 use Rattle.tipd.specs.Scenes.{Moved}
 use Rattle.tipd.specs.Standing.{IsScene, IsMoved}
 use Rattle.tipd.specs.Transcripts.{Stage, Declaring, Playing, Acted}
-use Rattle.tip_branch.specs.declared.branch.Plan.{Plan}
+use Rattle.tip_branch.specs.declared.branch.Badge.{Badge}
 use Rattle.tipd.specs.declared.declared.Declared as declarations
 use Rattle.tipd.specs.declared.fault.LineFault.{LineFault}
 use Rattle.tipd.specs.declared.fault.LineFault.TheVariants.{NotUnderstood, Memory}
@@ -16,10 +16,10 @@ use Rattle.tipd.specs.declared.stage.Stage.TheVariants as stage
 
 -- the code's values: the realms declared, the realms at work, and the stage
 abbrev pub Declared : Type 0
-Declared = declarations.Declared Hosted (List Plan)
+Declared = declarations.Declared Hosted (List Badge)
 
 abbrev pub APlaying : Type 0
-APlaying = playings.Playing Hosted (List Plan)
+APlaying = playings.Playing Hosted (List Badge)
 
 abbrev pub AStage : Type 0
 AStage = stages.Stage Declared APlaying

@@ -7,7 +7,7 @@ use Rattle.tip_branch.proofs.boxes.enrol.Goals as goal
 
 pub loop-i-preserved : goal.loop-i-preserved
 loop-i-preserved g c = record {
-  enrolled = c.push.ensures ∙ enrolled_more (λ b. (goal.Branch-dyn g (b.vtable, b.value)).standing b.value) c.args.numbers.now c.args.boxes.now c.loop-i.roll c.loop-i.i c.member_for.result 0 c.index-boxes-i.result (omega arith) (omega arith) c.requires.counted c.loop-i.invariant.enrolled (c.member_for.ensures ∙ ap (λ b. new_member (get_or c.args.numbers.now c.loop-i.i 0) ((goal.Branch-dyn g (b.vtable, b.value)).standing b.value).plan ((goal.Branch-dyn g (b.vtable, b.value)).standing b.value).phase) c.index-boxes-i.is);
+  enrolled = c.push.ensures ∙ enrolled_more (λ b. (goal.Branch-dyn g (b.vtable, b.value)).standing b.value) c.args.numbers.now c.args.boxes.now c.loop-i.roll c.loop-i.i c.member_for.result 0 c.index-boxes-i.result (omega arith) (omega arith) c.requires.counted c.loop-i.invariant.enrolled (c.member_for.ensures ∙ ap (λ b. new_member (get_or c.args.numbers.now c.loop-i.i 0) ((goal.Branch-dyn g (b.vtable, b.value)).standing b.value).badge ((goal.Branch-dyn g (b.vtable, b.value)).standing b.value).phase) c.index-boxes-i.is);
   counted = grind (arith, common_steps);
 }
 

@@ -4,6 +4,6 @@ use Rattle.tip_branch.proofs.boxes.enrol_ready.Given as goal
 
 abbrev pub invariant-loop-i : goal.invariant-loop-i
 invariant-loop-i l = record {
-  enrolled : l.roll ≡ take l.i (ready_members l.numbers l.plans);
+  enrolled : l.roll ≡ take l.i (ready_members l.numbers l.known);
   counted : length l.roll ≡ l.i;
 }

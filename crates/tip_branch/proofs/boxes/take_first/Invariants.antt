@@ -4,11 +4,11 @@ use Rattle.tip_branch.proofs.boxes.take_first.Given as goal
 
 abbrev pub invariant-loop-i : goal.invariant-loop-i
 invariant-loop-i g l = record {
-  noted : l.roll ≡ fresh_members 1 (take l.i (reverse l.initial.plans.items));
-  plans_left : reverse l.plans.items ≡ drop l.i (reverse l.initial.plans.items);
+  noted : l.roll ≡ fresh_members 1 (take l.i (reverse l.initial.known.items));
+  known_left : reverse l.known.items ≡ drop l.i (reverse l.initial.known.items);
   taken : l.into.items ≡ take l.i (reverse l.initial.from.items);
   left : reverse l.from.items ≡ drop l.i (reverse l.initial.from.items);
-  counted : vec_len l.from ≡ vec_len l.plans;
+  counted : vec_len l.from ≡ vec_len l.known;
   enrolled : length l.roll ≡ l.i;
   filled : vec_len l.into ≡ l.i;
   room : l.count ≤ vec_capacity l.into;

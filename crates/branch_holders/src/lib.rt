@@ -1,9 +1,0 @@
-//! Shows that parties and fresh boxes are plain data above their crate: in an enum, in a struct, in a
-//! table with an invariant, and behind a lock.
-#![tactic(auto)]
-
-mod place;
-mod table;
-
-pub use place::{Place, Transaction};
-pub use table::{Table, number_behind};

@@ -1,0 +1,519 @@
+//! What no clause says: dropped parties, boxes that are handed back, and each plan's answers.
+
+ghost use Rattle.std.specs.Prelude.{◌≡◌, IfOk, length, vec_len};
+ghost use Rattle.tip_branch.specs.Standings.{nothing};
+ghost use Rattle.tip_branch.specs.declared.branch.Phase.TheVariants.{Active};
+
+use std::alloc::{AllocError, Global};
+use std::sync::atomic::{AtomicU64, Ordering};
+use std::sync::{Arc, Mutex};
+use std::test::Fail;
+use std::thread;
+use tip_branch::{
+    Badge, Branch, Call, Errand, Fresh, HeldFresh, HeldParty, HeldPrepared, Party, PartyRoom, Phase,
+    Plan, Prepared, Settled, Standing, Told, Vote, are_numbers,
+};
+use tip_line::{Id, Realm};
+
+/// How often a branch was told what, as it counted itself.
+#[derive(Drop)]
+struct Counters {
+    votes: AtomicU64,
+    commits: AtomicU64,
+    aborts: AtomicU64,
+}
+
+impl Counters {
+    fn new() -> Counters {
+        Counters {
+            votes: AtomicU64::new(0),
+            commits: AtomicU64::new(0),
+            aborts: AtomicU64::new(0),
+        }
+    }
+
+    /// Votes, commits and aborts.
+    fn counted(&self) -> (u64, u64, u64) {
+        (
+            self.votes.load(Ordering::SeqCst),
+            self.commits.load(Ordering::SeqCst),
+            self.aborts.load(Ordering::SeqCst),
+        )
+    }
+}
+
+/// A branch that keeps its plan, votes yes where it promises nothing, and counts its calls.
+#[derive(Drop)]
+struct Probe {
+    standing: Standing,
+    counters: Arc<Counters>,
+    ghost untold: { standing.phase ≡ Active → standing.told ≡ nothing },
+}
+
+impl Branch for Probe {
+    ghost standing = { λ p. p.standing };
+
+    fn vote(&mut self) -> Vote {
+        self.counters.votes.fetch_add(1, Ordering::SeqCst);
+        let vote = self.standing.badge.plan.vote().unwrap_or(Vote::Yes);
+        self.standing = Standing {
+            badge: self.standing.badge,
+            phase: match vote {
+                Vote::Yes => Phase::Ready,
+                Vote::No | Vote::ReadOnly => Phase::Ended,
+            },
+            told: Told {
+                asked: true,
+                aborted: self.standing.told.aborted,
+                commits: self.standing.told.commits,
+            },
+        };
+        vote
+    }
+
+    fn commit(&mut self) -> Settled {
+        self.counters.commits.fetch_add(1, Ordering::SeqCst);
+        let commits = self.standing.told.commits;
+        let settled = self.standing.badge.plan.answer(commits).unwrap_or(Settled::Done);
+        self.standing = Standing {
+            badge: self.standing.badge,
+            phase: match settled {
+                Settled::Done => Phase::Ended,
+                Settled::Later => Phase::Ready,
+            },
+            told: Told {
+                asked: self.standing.told.asked,
+                aborted: self.standing.told.aborted,
+                commits: if commits == u64::MAX {
+                    commits
+                } else {
+                    commits + 1
+                },
+            },
+        };
+        settled
+    }
+
+    fn abort(&mut self) {
+        self.counters.aborts.fetch_add(1, Ordering::SeqCst);
+        self.standing = Standing {
+            badge: self.standing.badge,
+            phase: Phase::Ended,
+            told: Told {
+                asked: self.standing.told.asked,
+                aborted: true,
+                commits: self.standing.told.commits,
+            },
+        };
+    }
+
+    fn phase(&self) -> Phase {
+        self.standing.phase
+    }
+
+    fn plan(&self) -> Plan {
+        self.standing.badge.plan
+    }
+
+    fn mark(&self) -> u64 {
+        self.standing.badge.mark
+    }
+}
+
+fn make_probe(
+    plan: Plan,
+    mark: u64,
+    phase: Phase,
+    counters: &Arc<Counters>,
+) -> Result<Probe, AllocError> {
+    let told = Told {
+        asked: false,
+        aborted: false,
+        commits: 0,
+    };
+    Ok(Probe {
+        standing: Standing {
+            badge: Badge { plan, mark },
+            phase,
+            told,
+        },
+        counters: Arc::try_clone(counters)?,
+    })
+}
+
+fn make_realm(alloc: Global) -> Result<Realm, Fail> {
+    Ok(Realm::new(alloc, b"north")?)
+}
+
+fn make_id(alloc: Global) -> Result<Id, Fail> {
+    Ok(Id::new(alloc, b"north-1-1-1")?)
+}
+
+#[test]
+fn a_dropped_party_aborts_its_active_member_alone(rt: HostRuntime) -> Result<(), Fail> {
+    let alloc = rt.alloc();
+    let ready = Arc::new(alloc, Counters::new())?;
+    let active = Arc::new(alloc, Counters::new())?;
+    let mut boxes: Vec<Box<dyn Branch + Send>> = Vec::new(alloc);
+    boxes.push(Box::new(alloc, make_probe(Plan::Yes, 0, Phase::Ready, &ready)?)?)?;
+    boxes.push(Box::new(alloc, make_probe(Plan::Yes, 0, Phase::Active, &active)?)?)?;
+    let numbers = vec![in alloc; 2u8, 5]?;
+    assert_eq!(rt; numbers.len(), boxes.len());
+    assert!(rt; are_numbers(&numbers));
+    let party = Party::new(make_realm(alloc)?, 7, make_id(alloc)?, numbers, boxes);
+    assert_eq!(rt; party.epoch(), 7);
+    assert_eq!(rt; party.realm().as_str(), "north");
+    assert_eq!(rt; party.id().as_str(), "north-1-1-1");
+    assert_eq!(rt; party.phase_of(2), Some(Phase::Ready));
+    assert_eq!(rt; party.phase_of(5), Some(Phase::Active));
+    assert_eq!(rt; party.phase_of(1), None);
+    drop(party);
+    assert_eq!(rt; ready.aborts.load(Ordering::SeqCst), 0);
+    assert_eq!(rt; active.aborts.load(Ordering::SeqCst), 1);
+    Ok(())
+}
+
+#[test]
+fn numbers_of_members_rise_from_one_to_eight(rt: HostRuntime) {
+    assert!(rt; are_numbers(&[]));
+    assert!(rt; are_numbers(&[1, 2, 8]));
+    assert!(rt; !are_numbers(&[0, 1]));
+    assert!(rt; !are_numbers(&[2, 2]));
+    assert!(rt; !are_numbers(&[3, 1]));
+    assert!(rt; !are_numbers(&[9]));
+}
+
+#[test]
+fn a_branch_that_voted_is_not_fresh(rt: HostRuntime) -> Result<(), Fail> {
+    let alloc = rt.alloc();
+    let counters = Arc::new(alloc, Counters::new())?;
+    let mut boxes: Vec<Box<dyn Branch + Send>> = Vec::new(alloc);
+    boxes.push(Box::new(alloc, make_probe(Plan::No, 0, Phase::Active, &counters)?)?)?;
+    boxes.push(Box::new(alloc, make_probe(Plan::Yes, 0, Phase::Ready, &counters)?)?)?;
+    match Fresh::of(boxes) {
+        Ok(_) => assert!(rt; false),
+        Err(fault) => {
+            assert_eq!(rt;
+                format!(in alloc; "{fault}")?.as_str(),
+                "a branch is not active"
+            );
+            assert_eq!(rt; fault.boxes.len(), 2);
+            assert_eq!(rt; fault.boxes[0].plan(), Plan::No);
+            assert_eq!(rt; fault.boxes[1].plan(), Plan::Yes);
+        }
+    }
+    Ok(())
+}
+
+#[test]
+fn a_fresh_branch_is_not_prepared(rt: HostRuntime) -> Result<(), Fail> {
+    let alloc = rt.alloc();
+    let counters = Arc::new(alloc, Counters::new())?;
+    let mut boxes: Vec<Box<dyn Branch + Send>> = Vec::new(alloc);
+    boxes.push(Box::new(alloc, make_probe(Plan::Yes, 0, Phase::Active, &counters)?)?)?;
+    match Prepared::of(boxes) {
+        Ok(_) => assert!(rt; false),
+        Err(fault) => {
+            assert_eq!(rt;
+                format!(in alloc; "{fault}")?.as_str(),
+                "a branch is not ready"
+            );
+            assert_eq!(rt; fault.boxes.len(), 1);
+        }
+    }
+    Ok(())
+}
+
+/// A party of these branches, numbered from 1.
+fn make_party(alloc: Global, boxes: Vec<Box<dyn Branch + Send>>) -> Result<Party, Fail> {
+    let fresh = Fresh::of(boxes)?;
+    let mut held = HeldFresh::of(fresh.into_lot(alloc).map_err(|_| "no memory")?);
+    let count = if held.len() <= 8 { held.len() as u8 } else { 8 };
+    let room = PartyRoom::new(alloc, count)?;
+    Ok(
+        held.take_party(room, make_realm(alloc)?, 1, make_id(alloc)?)
+            .into_party(),
+    )
+}
+
+#[test]
+fn each_plan_answers_as_it_promises(rt: HostRuntime) -> Result<(), Fail> {
+    let alloc = rt.alloc();
+    let counters = Arc::new(alloc, Counters::new())?;
+    for (plan, vote, first, second) in [
+        (Plan::Yes, Vote::Yes, Some(Settled::Done), None),
+        (Plan::No, Vote::No, None, None),
+        (Plan::ReadOnly, Vote::ReadOnly, None, None),
+        (
+            Plan::Late,
+            Vote::Yes,
+            Some(Settled::Later),
+            Some(Settled::Done),
+        ),
+        (Plan::Open, Vote::Yes, Some(Settled::Done), None),
+    ] {
+        let mut boxes: Vec<Box<dyn Branch + Send>> = Vec::new(alloc);
+        boxes.push(Box::new(alloc, make_probe(plan, 0, Phase::Active, &counters)?)?)?;
+        let mut party = make_party(alloc, boxes)?;
+        party.give(Errand::Vote);
+        assert_eq!(rt; party.vote_all(), vote);
+        assert_eq!(rt; party.errand(), Errand::Idle);
+        assert_eq!(rt; party.vote_of(1), Some(vote));
+        assert_eq!(rt; party.call_of(1), Some(Call::Vote(vote)));
+        party.give(Errand::Commit);
+        assert_eq!(rt; party.call_of(1), None);
+        assert_eq!(rt; party.settle(), first.unwrap_or(Settled::Done));
+        assert_eq!(rt; party.call_of(1), first.map(Call::Commit));
+        party.give(Errand::Commit);
+        assert_eq!(rt; party.settle(), Settled::Done);
+        assert_eq!(rt; party.call_of(1), second.map(Call::Commit));
+        assert_eq!(rt; party.phase_of(1), Some(Phase::Ended));
+    }
+    assert_eq!(rt; counters.aborts.load(Ordering::SeqCst), 0);
+    Ok(())
+}
+
+#[test]
+fn nobody_is_asked_after_a_no(rt: HostRuntime) -> Result<(), Fail> {
+    let alloc = rt.alloc();
+    let counters = Arc::new(alloc, Counters::new())?;
+    let mut boxes: Vec<Box<dyn Branch + Send>> = Vec::new(alloc);
+    for plan in [Plan::Yes, Plan::No, Plan::Yes] {
+        boxes.push(Box::new(alloc, make_probe(plan, 0, Phase::Active, &counters)?)?)?;
+    }
+    let mut party = make_party(alloc, boxes)?;
+    party.give(Errand::Vote);
+    assert_eq!(rt; party.vote_all(), Vote::No);
+    assert_eq!(rt; party.call_of(1), Some(Call::Vote(Vote::Yes)));
+    assert_eq!(rt; party.call_of(2), Some(Call::Vote(Vote::No)));
+    assert_eq!(rt; party.call_of(3), None);
+    assert_eq!(rt; party.phase_of(3), Some(Phase::Active));
+    party.give(Errand::Abort);
+    assert_eq!(rt; party.settle(), Settled::Done);
+    assert_eq!(rt; party.call_of(1), Some(Call::Abort));
+    assert_eq!(rt; party.call_of(2), None);
+    assert_eq!(rt; counters.aborts.load(Ordering::SeqCst), 1);
+    let boxes = party.spend();
+    assert_eq!(rt; counters.aborts.load(Ordering::SeqCst), 2);
+    assert_eq!(rt; boxes.len(), 3);
+    Ok(())
+}
+
+#[test]
+fn transactions_take_boxes_in_order(rt: HostRuntime) -> Result<(), Fail> {
+    let alloc = rt.alloc();
+    let counters = Arc::new(alloc, Counters::new())?;
+    let mut boxes: Vec<Box<dyn Branch + Send>> = Vec::new(alloc);
+    for plan in [Plan::Yes, Plan::No, Plan::Late] {
+        boxes.push(Box::new(alloc, make_probe(plan, 0, Phase::Active, &counters)?)?)?;
+    }
+    let fresh = Fresh::of(boxes)?;
+    let mut held = HeldFresh::of(fresh.into_lot(alloc).map_err(|_| "no memory")?);
+    assert!(rt; held.len() == 3);
+    let room = PartyRoom::new(alloc, 2)?;
+    let first = held.take_party(room, make_realm(alloc)?, 1, make_id(alloc)?);
+    let members = first.party().members();
+    assert_eq!(rt; members.len(), 2);
+    assert_eq!(rt;
+        (members[0].number, members[0].standing.badge.plan),
+        (1, Plan::Yes)
+    );
+    assert_eq!(rt;
+        (members[1].number, members[1].standing.badge.plan),
+        (2, Plan::No)
+    );
+    let left = held.into_lot();
+    assert!(rt; left.len() == 1);
+    let boxes = left.into_boxes();
+    assert_eq!(rt; boxes.len(), 1);
+    assert_eq!(rt; boxes[0].plan(), Plan::Late);
+    Ok(())
+}
+
+#[test]
+fn prepared_boxes_are_taken_up_again(rt: HostRuntime) -> Result<(), Fail> {
+    let alloc = rt.alloc();
+    let counters = Arc::new(alloc, Counters::new())?;
+    let mut boxes: Vec<Box<dyn Branch + Send>> = Vec::new(alloc);
+    boxes.push(Box::new(alloc, make_probe(Plan::Yes, 0, Phase::Ready, &counters)?)?)?;
+    let prepared = Prepared::of(boxes)?;
+    let held = HeldPrepared::of(prepared.into_lot(alloc).map_err(|_| "no memory")?);
+    let numbers = [3];
+    assert_eq!(rt; numbers.len(), held.len());
+    assert!(rt; are_numbers(&numbers));
+    let mut party = held.into_party(make_realm(alloc)?, 2, make_id(alloc)?, &numbers);
+    party.give(Errand::Commit);
+    let mut party = party.into_party();
+    assert!(rt; party.errand() == Errand::Commit);
+    assert_eq!(rt; party.vote_of(3), None);
+    party.give(Errand::Commit);
+    assert_eq!(rt; party.settle(), Settled::Done);
+    assert_eq!(rt; party.call_of(3), Some(Call::Commit(Settled::Done)));
+    Ok(())
+}
+
+#[test]
+fn a_party_crosses_threads_behind_a_lock(rt: HostRuntime) -> Result<(), Fail> {
+    let alloc = rt.alloc();
+    let counters = Arc::new(alloc, Counters::new())?;
+    let mut boxes: Vec<Box<dyn Branch + Send>> = Vec::new(alloc);
+    boxes.push(Box::new(alloc, make_probe(Plan::Yes, 0, Phase::Active, &counters)?)?)?;
+    let party = HeldParty::of(make_party(alloc, boxes)?);
+    let shared = Arc::new(alloc, Mutex::new(Some(party)))?;
+    let theirs = Arc::try_clone(&shared)?;
+    let other = thread::spawn(&rt, move || {
+        let party = theirs.lock(&rt).take();
+        drop(party);
+    })?;
+    other.join(&rt);
+    assert_eq!(rt; counters.aborts.load(Ordering::SeqCst), 1);
+    assert!(rt; shared.lock(&rt).is_none());
+    Ok(())
+}
+
+/// A boxed branch, made again where memory was refused.
+fn make_box(
+    alloc: Global,
+    phase: Phase,
+    counters: &Arc<Counters>,
+) -> Result<Box<dyn Branch + Send>, Fail> {
+    match Box::new(alloc, make_probe(Plan::Yes, 0, phase, counters)?) {
+        Ok(branch) => Ok(branch),
+        Err(_) => Ok(Box::new(alloc, make_probe(Plan::Yes, 0, phase, counters)?)?),
+    }
+}
+
+/// One boxed branch, by itself.
+fn make_boxes(
+    alloc: Global,
+    phase: Phase,
+    counters: &Arc<Counters>,
+) -> Result<Vec<Box<dyn Branch + Send>>, Fail> {
+    let mut boxes: Vec<Box<dyn Branch + Send>> = match Vec::with_capacity(alloc, 1) {
+        Ok(boxes) => boxes,
+        Err(_) => Vec::with_capacity(alloc, 1)?,
+    };
+    boxes.push(make_box(alloc, phase, counters)?)?;
+    Ok(boxes)
+}
+
+/// A growth that is refused is asked for again, so that this holds whichever one is refused.
+#[test]
+fn a_refused_growth_gives_the_boxes_back(rt: HostRuntime) -> Result<(), Fail> {
+    let alloc = rt.alloc();
+    let counters = match Arc::new(alloc, Counters::new()) {
+        Ok(counters) => counters,
+        Err(_) => Arc::new(alloc, Counters::new())?,
+    };
+    let fresh = Fresh::of(make_boxes(alloc, Phase::Active, &counters)?)?;
+    let lot = match fresh.into_lot(alloc) {
+        Ok(lot) => lot,
+        Err(fault) => fault.value.into_lot(alloc).map_err(|_| "no memory")?,
+    };
+    assert_eq!(rt; lot.len(), 1);
+    let prepared = Prepared::of(make_boxes(alloc, Phase::Ready, &counters)?)?;
+    let lot = match prepared.into_lot(alloc) {
+        Ok(lot) => lot,
+        Err(fault) => fault.value.into_lot(alloc).map_err(|_| "no memory")?,
+    };
+    assert_eq!(rt; lot.len(), 1);
+    if PartyRoom::new(alloc, 8).is_err() {
+        let _ = PartyRoom::new(alloc, 8)?;
+    }
+    assert_eq!(rt; counters.aborts.load(Ordering::SeqCst), 0);
+    Ok(())
+}
+
+/// Three unlike branches, with their marks, and who counts for each.
+const UNLIKE: [(Plan, u64); 3] = [(Plan::Yes, 71), (Plan::Late, 82), (Plan::Open, 93)];
+
+fn make_unlike(
+    alloc: Global,
+    phase: Phase,
+    counters: &mut Vec<Arc<Counters>>,
+) -> Result<Vec<Box<dyn Branch + Send>>, Fail> {
+    let mut boxes: Vec<Box<dyn Branch + Send>> = Vec::new(alloc);
+    for (plan, mark) in UNLIKE {
+        let own = Arc::new(alloc, Counters::new())?;
+        boxes.push(Box::new(alloc, make_probe(plan, mark, phase, &own)?)?)?;
+        counters.push(own)?;
+    }
+    Ok(boxes)
+}
+
+#[test]
+fn each_fresh_box_is_told_what_its_mark_is_noted_for(rt: HostRuntime) -> Result<(), Fail> {
+    let alloc = rt.alloc();
+    let mut counters = Vec::new(alloc);
+    let mut party = make_party(alloc, make_unlike(alloc, Phase::Active, &mut counters)?)?;
+    for (member, (plan, mark)) in party.members().iter().zip(UNLIKE) {
+        assert_eq!(rt; member.standing.badge, Badge { plan, mark });
+    }
+    party.give(Errand::Vote);
+    assert_eq!(rt; party.vote_all(), Vote::Yes);
+    party.give(Errand::Commit);
+    assert_eq!(rt; party.settle(), Settled::Later);
+    for (own, counted) in counters.iter().zip([(1, 1, 0), (1, 1, 0), (1, 1, 0)]) {
+        assert_eq!(rt; own.counted(), counted);
+    }
+    assert_eq!(rt; party.phase_of(2), Some(Phase::Ready));
+    for (branch, (_, mark)) in party.spend().iter().zip(UNLIKE) {
+        assert_eq!(rt; branch.mark(), mark);
+    }
+    for own in counters.iter() {
+        assert_eq!(rt; own.counted(), (1, 1, 0));
+    }
+    Ok(())
+}
+
+#[test]
+fn each_prepared_box_is_told_what_its_mark_is_noted_for(rt: HostRuntime) -> Result<(), Fail> {
+    let alloc = rt.alloc();
+    let mut counters = Vec::new(alloc);
+    let prepared = Prepared::of(make_unlike(alloc, Phase::Ready, &mut counters)?)?;
+    let held = HeldPrepared::of(prepared.into_lot(alloc).map_err(|_| "no memory")?);
+    let numbers = [2, 3, 5];
+    assert_eq!(rt; numbers.len(), held.len());
+    assert!(rt; are_numbers(&numbers));
+    let mut party = held
+        .into_party(make_realm(alloc)?, 2, make_id(alloc)?, &numbers)
+        .into_party();
+    for (member, (plan, mark)) in party.members().iter().zip(UNLIKE) {
+        assert_eq!(rt; member.standing.badge, Badge { plan, mark });
+    }
+    party.give(Errand::Commit);
+    assert_eq!(rt; party.settle(), Settled::Later);
+    assert_eq!(rt; party.phase_of(2), Some(Phase::Ended));
+    assert_eq!(rt; party.phase_of(3), Some(Phase::Ready));
+    party.give(Errand::Abort);
+    assert_eq!(rt; party.settle(), Settled::Done);
+    for (own, counted) in counters.iter().zip([(0, 1, 0), (0, 1, 1), (0, 1, 0)]) {
+        assert_eq!(rt; own.counted(), counted);
+    }
+    drop(party);
+    for (own, aborts) in counters.iter().zip([0, 1, 0]) {
+        assert_eq!(rt; own.counted(), (0, 1, aborts));
+    }
+    Ok(())
+}
+
+#[test]
+fn a_lot_that_is_let_go_tells_nobody(rt: HostRuntime) -> Result<(), Fail> {
+    let alloc = rt.alloc();
+    let mut counters = Vec::new(alloc);
+    let fresh = Fresh::of(make_unlike(alloc, Phase::Active, &mut counters)?)?;
+    let mut held = HeldFresh::of(fresh.into_lot(alloc).map_err(|_| "no memory")?);
+    assert!(rt; held.len() == 3);
+    let room = PartyRoom::new(alloc, 1)?;
+    let party = held.take_party(room, make_realm(alloc)?, 1, make_id(alloc)?);
+    drop(party);
+    let boxes = held.into_lot().into_boxes();
+    assert_eq!(rt; boxes.len(), 2);
+    for (branch, mark) in boxes.iter().zip([82, 93]) {
+        assert_eq!(rt; branch.mark(), mark);
+    }
+    for (own, aborts) in counters.iter().zip([1, 0, 0]) {
+        assert_eq!(rt; own.counted(), (0, 0, aborts));
+    }
+    Ok(())
+}
