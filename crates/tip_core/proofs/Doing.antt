@@ -80,7 +80,7 @@ refused_does old new realm lowest highest peer c before after spoken does = subs
 
 -- a refusal changes no table
 refused : (tables : Realms) (realm : ℕ) (why : Refusal) (before after : Made) → after.answer ≡ record before.answer { refusal = Some why } → Does tables tables realm after (refuse why (work_at realm tables before))
-refused tables realm why before after is = record { answer = is; becomes = record { own = refl; others = λ other differ. refl; count = refl } }
+refused tables realm why before after is = record { answer = is; becomes = record { own = refl; others = λ other differ. refl; count = refl; room = refl } }
 
 push_busy : (found : Option Connection) (id : List ℕ) (w : Work) → ¬ (found ≡ None) → EachAlone found → ask_push found id w ≡ refuse Busy w
 unfolding EachAlone
@@ -118,7 +118,7 @@ pull_stale_does tables realm seat id before after none is = subst (Does tables t
 
 -- a stranger changes no table
 met : (tables : Realms) (realm : ℕ) (party : PartyNotes) (before after : Made) → after ≡ record before { answer = record before.answer { refusal = Some Stranger; spent = Some party } } → IsDone tables tables realm after (strange party (work_at realm tables before))
-met tables realm party before after is = record { answer = ap (λ m. m.answer) is; becomes = record { own = refl; others = λ other differ. refl; count = refl } }
+met tables realm party before after is = record { answer = ap (λ m. m.answer) is; becomes = record { own = refl; others = λ other differ. refl; count = refl; room = refl } }
 
 voted_none : (found : Option Transaction) (party : PartyNotes) (w : Work) → found ≡ None → voted found party w ≡ strange party w
 unfolding voted
@@ -161,8 +161,9 @@ step_does old mid new realm event outcome made after alone room becomes answer d
         own = does.becomes.own;
         others = λ other differ. does.becomes.others other differ ∙ becomes.others other differ;
         count = does.becomes.count ∙ becomes.count;
+        room = does.becomes.room ∙ becomes.room;
       };
     })
 
 pub frozen_does : (tables : Realms) (realm : ℕ) (event : Event) (outcome : Outcome) (after : Made) → is_open (state_at realm tables) ≡ false → after.answer ≡ (frozen event (state_at realm tables)).answer → Does tables tables realm after (step (state_at realm tables) event outcome)
-frozen_does tables realm event outcome after full is = subst (Does tables tables realm after) (sym (other (is_open (state_at realm tables)) _ (frozen event (state_at realm tables)) full)) (record { answer = is; becomes = record { own = refl; others = λ other differ. refl; count = refl } })
+frozen_does tables realm event outcome after full is = subst (Does tables tables realm after) (sym (other (is_open (state_at realm tables)) _ (frozen event (state_at realm tables)) full)) (record { answer = is; becomes = record { own = refl; others = λ other differ. refl; count = refl; room = refl } })

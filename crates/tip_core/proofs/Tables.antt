@@ -2,7 +2,7 @@
 use Rattle.std.proofs.Common.{◌≡◌, ℕ, List, Some, refl, ap, sym}
 use Rattle.tip_table.specs.Kept.{StandsAt, of, item_at, with_item_at}
 use Rattle.tip_table.specs.Lists.{changed}
-use Rattle.tip_table.proofs.Standing.{write, write_others}
+use Rattle.tip_table.proofs.Standing.{capacity-written, write, write_others}
 use Rattle.tip_machine.specs.Connections.{has_number}
 use Rattle.tip_machine.specs.States.{State}
 use Rattle.tip_machine.specs.Types.{Connection}
@@ -18,4 +18,5 @@ connection_changed tables realm number place f connection value stands is writes
   own = ap (with_connections (state_at realm tables)) (write tables.connections realm (has_number number) f place connection value stands is writes);
   others = λ other differ. ap (with_connections (state_at other tables)) (write_others tables.connections place value other (record { realm = realm; at = stands.at }) stands.there (λ e. differ (sym e)));
   count = refl;
+  room = capacity-written tables.connections place value;
 }

@@ -1,6 +1,6 @@
 -- What a core stands for, and what one event does to it.
 use Rattle.std.specs.Prelude.{ℕ, Bool, false, ◌≡◌, ◌≢◌, ◌≤◌, List, [], Option, Some, None, option_map, slice_get}
-use Rattle.tip_table.specs.Kept.{Kept, of}
+use Rattle.tip_table.specs.Kept.{Kept, capacity, of}
 use Rattle.tip_machine.specs.States.{State, seated}
 use Rattle.tip_machine.specs.Requests.{may_take_on}
 use Rattle.tip_machine.specs.Steps.{step, wants, nowhere}
@@ -23,6 +23,10 @@ realm hosted place = option_map (λ head. record { head = head; connections = of
 -- how many connections can be made without memory
 abbrev pub free : Hosted → ℕ
 free hosted = hosted.connections.free
+
+-- how many connections can be there without memory
+abbrev pub room_in : Hosted → ℕ
+room_in hosted = capacity hosted.connections
 
 -- ONE EVENT: its realm goes by its own machine, every other realm stays, and one for a realm that is not there does nothing
 pub record Steps (old new : Hosted) (place : ℕ) (event : Event) (outcome : Outcome) (answer : Answer) : Type 0 where

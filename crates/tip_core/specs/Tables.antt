@@ -1,6 +1,6 @@
 -- How the shared tables stand for the realms.
 use Rattle.std.specs.Prelude.{ℕ, ◌≡◌, ◌≢◌, [], length, slice_index_or}
-use Rattle.tip_table.specs.Kept.{of}
+use Rattle.tip_table.specs.Kept.{capacity, of}
 use Rattle.tip_machine.specs.Alone.{AreAlone}
 use Rattle.tip_machine.specs.Heads.{IsCounted}
 use Rattle.tip_machine.specs.States.{Attempt, State, Work}
@@ -33,6 +33,8 @@ pub record Becomes (old new : Realms) (realm : ℕ) (state : State) : Type 0 whe
   pub own : state_at realm new ≡ state
   pub others : (other : ℕ) → other ≢ realm → state_at other new ≡ state_at other old
   pub count : length new.heads.items ≡ length old.heads.items
+  -- no memory was taken
+  pub room : capacity new.connections ≡ capacity old.connections
 
 -- what an event has done so far in its realm
 abbrev pub work_at : ℕ → Realms → Made → Work

@@ -3,7 +3,7 @@ ghost use Rattle.std.specs.Prelude.{◌≡◌, ℕ, [], None, IfOk, IsOk, OnOk, 
 ghost use Rattle.tip_branch.specs.Always.{Always};
 ghost use Rattle.tip_machine.specs.Heads.{starting};
 ghost use Rattle.tip_machine.specs.States.{started};
-ghost use Rattle.tip_core.specs.Hosted.{realm as realm_at, may_take_in, IsRoomFor, Steps};
+ghost use Rattle.tip_core.specs.Hosted.{realm as realm_at, room_in, may_take_in, IsRoomFor, Steps};
 ghost use Rattle.tip_core.specs.Isolation.{IsIsolated};
 
 use crate::realms::Realms;
@@ -84,7 +84,8 @@ impl Core {
     #[tactic(auto, using(crate::proofs::Stepping::steps, crate::proofs::Stepping::nowhere_steps, crate::proofs::Stepping::counted))]
     pub fn apply(&mut self, realm: usize, event: Event, room: Room, outcome: Outcome) -> Answer
         requires { IsRoomFor self.old realm event room }
-        ensures { Steps self.old self.new realm event outcome result }
+        ensures steps { Steps self.old self.new realm event outcome result }
+        ensures room { room_in self.new ≡ room_in self.old }
     {
         let mut making = room.into_making();
         if realm >= self.realms.heads.len() {

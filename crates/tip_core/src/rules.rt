@@ -24,6 +24,7 @@ use crate::making::Making;
 use crate::realms::Realms;
 use tip_branch::{HeldFresh, HeldParty};
 use tip_conn::{Admit, admit};
+use tip_line::CommandName::{Multiplex, Query, Tls};
 use tip_line::{Address, Command, CommandName, Refusal};
 use tip_machine::{Connection, Event, Heard, Item, Outcome, Said, Seat, is_served};
 
@@ -77,24 +78,6 @@ impl Realms<Connection> {
         requires room { 2 ≤ making.old.free }
         ensures { (connection : OneConnection) → find (has_number number) (state_at realm self.old).connections ≡ Some connection →
             Does self.old self.new realm making.new (reply connection.number command said (work_at realm self.old making.old)) }
-    {
-        self.answer(realm, number, place, command, said, making);
-    }
-
-    /// The same, by the connection's number.
-    #[tactic(auto, unfolding(tip_machine::specs::Changes::reply))]
-    fn answer(
-        &mut self,
-        realm: usize,
-        number: u32,
-        place: usize,
-        command: CommandName,
-        said: Said,
-        making: &mut Making,
-    )
-        requires stands { StandsAt self.old.connections realm (has_number number) place }
-        requires room { 2 ≤ making.old.free }
-        ensures { Does self.old self.new realm making.new (reply number command said (work_at realm self.old making.old)) }
     {
         let response = said.name();
         making.tell(number, Item::Say(said));
@@ -150,30 +133,13 @@ impl Realms<Connection> {
                 primary,
                 secondary: _,
             } => self.greet(realm, number, place, (low, high), primary, making),
-            Command::Query { superior: _ } => self.reply(
-                realm,
-                number,
-                place,
-                CommandName::Query,
-                Said::QueriedNotFound,
-                making,
-            ),
-            Command::Multiplex { protocol: _ } => self.reply(
-                realm,
-                number,
-                place,
-                CommandName::Multiplex,
-                Said::CantMultiplex,
-                making,
-            ),
-            Command::Tls => self.reply(
-                realm,
-                number,
-                place,
-                CommandName::Tls,
-                Said::CantTls,
-                making,
-            ),
+            Command::Query { superior: _ } => {
+                self.reply(realm, number, place, Query, Said::QueriedNotFound, making)
+            }
+            Command::Multiplex { protocol: _ } => {
+                self.reply(realm, number, place, Multiplex, Said::CantMultiplex, making)
+            }
+            Command::Tls => self.reply(realm, number, place, Tls, Said::CantTls, making),
             Command::Error => self.close(realm, number, place, making),
             Command::Begin
             | Command::Push { .. }

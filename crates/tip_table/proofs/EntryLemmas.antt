@@ -67,6 +67,11 @@ standing_in-written (x ∷ xs) zero value (suc other) = refl
 standing_in-written (x ∷ xs) (suc place) value zero = refl
 standing_in-written (x ∷ xs) (suc place) value (suc other) = ap (λ o. option_map (behind x.realm) o) (standing_in-written xs place value other)
 
+pub length-written_in : {T : Type 0} (entries : List (Entry T)) (place : ℕ) (value : T) → length (written_in entries place value) ≡ length entries
+length-written_in [] place value = refl
+length-written_in (x ∷ xs) zero value = refl
+length-written_in (x ∷ xs) (suc place) value = ap suc (length-written_in xs place value)
+
 pub set-written_in : {T : Type 0} (entries : List (Entry T)) (place : ℕ) (default : Entry T) (value : T) → slice_set entries place (record (get_or entries place default) { item = value }) ≡ written_in entries place value
 set-written_in [] place default value = refl
 set-written_in (x ∷ xs) zero default value = refl

@@ -1,13 +1,18 @@
 -- What stands at a place, told by the test that it is the first to pass.
-use Rattle.std.proofs.Common.{◌≡◌, ◌≢◌, ℕ, zero, suc, List, [], ◌∷◌, ◌++◌, Option, Some, None, Bool, true, false, refl, ap, arith, ◌∙◌, sym, ◌↔◌}
+use Rattle.std.proofs.Common.{◌≡◌, ◌≢◌, ℕ, zero, suc, ◌+◌, List, [], ◌∷◌, ◌++◌, Option, Some, None, Bool, true, false, refl, ap, arith, ◌∙◌, sym, ◌↔◌}
 use Rattle.std.specs.Prelude.{◌==◌, IsSome, IfSome, position, slice_get, slice_set, remove}
 use Rattle.std.specs.List.{find}
 use Rattle.std.specs.Option.{option_and_then}
 use Rattle.std.proofs.lemmas.Bool.Decides.{nat_tests}
 use Rattle.tip_table.specs.Lists.{IsFirst, changed, without}
 use Rattle.tip_table.specs.Entries.{Item, items_in}
-use Rattle.tip_table.specs.Kept.{Kept, StandsAt, of, places, item_at, with_item_at, written, taken_out}
-use Rattle.tip_table.proofs.EntryLemmas.{items_in-written, standing_in-written, is_sought, sought, none-sought}
+use Rattle.tip_table.specs.Kept.{Kept, StandsAt, capacity, of, places, item_at, with_item_at, written, taken_out}
+use Rattle.tip_table.proofs.EntryLemmas.{items_in-written, length-written_in, standing_in-written, is_sought, sought, none-sought}
+
+-- a write takes no room
+pub capacity-written : {T : Type 0} (kept : Kept T) (place : ℕ) (value : T) → capacity (with_item_at kept place value) ≡ capacity kept
+unfolding with_item_at
+capacity-written kept place value = ap (λ n. n + kept.free) (length-written_in kept.entries place value)
 
 -- the first item of a list that passes
 find-first : {T : Type 0} (test : T → Bool) (items : List T) (at : ℕ) → IsFirst test items at → find test items ≡ slice_get items at

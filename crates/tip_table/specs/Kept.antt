@@ -1,5 +1,5 @@
 -- What a table keeps: the items of each realm in the order made, and the places at which they stand.
-use Rattle.std.specs.Prelude.{◌≡◌, ℕ, Bool, ◌==◌, if◌then◌else◌, List, Option, Some, None, slice_get, slice_set, remove}
+use Rattle.std.specs.Prelude.{◌≡◌, ℕ, ◌+◌, Bool, ◌==◌, if◌then◌else◌, List, Option, Some, None, length, slice_get, slice_set, remove}
 use Rattle.std.specs.Option.{option_and_then}
 use Rattle.tip_table.specs.Lists.{IsFirst}
 use Rattle.tip_table.specs.Entries.{Item, items_in, standing_in, written_in}
@@ -10,6 +10,10 @@ pub record Kept (T : Type 0) : Type 0 where
   pub entries : List (Entry T)
   -- how many items can be added without memory
   pub free : ℕ
+
+-- how many items it can keep without memory
+abbrev pub capacity : {T : Type 0} → Kept T → ℕ
+capacity kept = length kept.entries + kept.free
 
 -- the items of a realm, in the order made
 unfoldable pub of : {T : Type 0} → Kept T → ℕ → List T

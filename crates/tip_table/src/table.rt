@@ -2,7 +2,7 @@
 ghost use Rattle.std.specs.Prelude.{◌≡◌, ◌≢◌, ◌↔◌, ◌==◌, ◌&&◌, ℕ, ◌+◌, ◌<◌, ◌≤◌, [], ◌∷◌, ◌++◌, Some, None, length, position, count_by, IsSome, IsOk, IfSome, OnOk};
 ghost use Rattle.std.specs.List.{find};
 ghost use Rattle.tip_table.specs.Entries.{Item};
-ghost use Rattle.tip_table.specs.Kept.{StandsAt, of, places, item_at, taken_out};
+ghost use Rattle.tip_table.specs.Kept.{StandsAt, capacity, of, places, item_at, taken_out};
 
 use crate::test::Test;
 use std::alloc::{AllocError, Allocator, Global};
@@ -71,6 +71,7 @@ impl<T: Drop, A: Allocator> Table<T, A> {
         ensures others { (other : ℕ) → other ≢ realm → of self.new other ≡ of self.old other }
         ensures places { (place : ℕ) (there : Item) → places self.old place ≡ Some there → places self.new place ≡ Some there }
         ensures free { self.new.free + 1 ≡ self.old.free }
+        ensures room { capacity self.new ≡ capacity self.old }
     {
         self.entries.push_reserved(Entry { realm, item });
     }
@@ -109,6 +110,7 @@ impl<T: Drop, A: Allocator> Table<T, A> {
         ensures taken { item_at self.old place ≡ Some result }
         ensures left { (realm : ℕ) → of self.new realm ≡ taken_out (places self.old place) realm (of self.old realm) }
         ensures free { self.new.free ≡ self.old.free + 1 }
+        ensures room { capacity self.new ≡ capacity self.old }
     {
         self.entries.remove(place).item
     }

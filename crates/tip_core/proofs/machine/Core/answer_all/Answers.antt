@@ -7,5 +7,5 @@ pub loop-event-preserved : goal.loop-event-preserved
 loop-event-preserved g c = record {
   whole = grind (arith, common_steps);
   counted = grind (arith, common_steps);
-  isolated = rw (c.push_reserved.ensures.items, c.reserve.ensures.items) (isolated_more c.args.self.now c.room.new.self c.apply-answer.new.self c.loop-event.yielded c.loop-event.answers.items c.in-Some.event (record { realm = c.in-Some.event.realm; item = c.apply-answer.result }) refl (isolated_same c.args.self.now c.loop-event.self c.room.new.self c.loop-event.yielded c.loop-event.answers.items c.room.ensures.realms c.loop-event.invariant.isolated) c.apply-answer.ensures);
+  isolated = rw (c.push_reserved.ensures.items, c.reserve.ensures.items) (isolated_more c.args.self.now c.room.new.self c.apply-answer.new.self c.loop-event.yielded c.loop-event.answers.items c.in-Some.event (record { realm = c.in-Some.event.realm; item = c.apply-answer.result }) refl (isolated_same c.args.self.now c.loop-event.self c.room.new.self c.loop-event.yielded c.loop-event.answers.items c.room.ensures.realms c.loop-event.invariant.isolated) c.apply-answer.ensures.steps);
 }

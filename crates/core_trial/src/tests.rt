@@ -1,0 +1,117 @@
+//! What no clause says: that a run answers, while memory is there.
+
+use crate::first_said;
+use std::alloc::Global;
+use std::test::Fail;
+use tip_branch::HeldFresh;
+use tip_core::{Core, Run};
+use tip_line::{Address, Realm, Refusal};
+use tip_machine::{Answer, Event, Heard, InRealm, Limits, Said, Seat, Start};
+use tip_rows::{Branches, Label};
+
+/// A realm with one branch, in its first epoch.
+fn start(alloc: Global, name: &[u8]) -> Result<Start, Fail> {
+    let mut branches = Vec::new(alloc);
+    branches.push((1u8, Label::new(alloc, b"b1")?))?;
+    Ok(Start {
+        name: Realm::new(alloc, name)?,
+        address: Address::new(alloc, b"n.x")?,
+        limits: Limits {
+            connections: 8,
+            transactions: 8,
+            branches: 1,
+            boxes: 8,
+            entries: 100,
+        },
+        branches: Branches::new(branches).map_err(|_| "these are branches")?,
+        epoch: 1,
+    })
+}
+
+fn open(alloc: Global, realm: usize) -> InRealm<Event> {
+    InRealm {
+        realm,
+        item: Event::Open {
+            boxes: HeldFresh::none(alloc),
+        },
+    }
+}
+
+/// A line on the realm's first connection.
+fn line(alloc: Global, realm: usize, text: &[u8]) -> Result<InRealm<Event>, Fail> {
+    Ok(InRealm {
+        realm,
+        item: Event::Line {
+            seat: FIRST,
+            heard: Heard::of(alloc, text)?,
+        },
+    })
+}
+
+/// The seat of a realm's first connection.
+const FIRST: Seat = Seat {
+    epoch: 1,
+    number: 1,
+};
+
+/// 64 realms, each named by two letters.
+fn starts(alloc: Global) -> Result<Vec<Start>, Fail> {
+    let mut starts = Vec::with_capacity(alloc, 64)?;
+    for place in 0u8..64 {
+        starts.push(start(alloc, &[b'a' + place / 8, b'a' + place % 8])?)?;
+    }
+    Ok(starts)
+}
+
+/// Each realm is opened a connection, and one that is not there; then lines come in three of them.
+fn events(alloc: Global) -> Result<Vec<InRealm<Event>>, Fail> {
+    let mut events = Vec::with_capacity(alloc, 70)?;
+    for realm in 0..65 {
+        events.push(open(alloc, realm))?;
+    }
+    for (realm, text) in LINES {
+        events.push(line(alloc, realm, text.as_bytes())?)?;
+    }
+    Ok(events)
+}
+
+const LINES: [(usize, &str); 5] = [
+    (0, "IDENTIFY 3 3 - -"),
+    (1, "QUERY x"),
+    (2, "IDENTIFY 1 9 - -"),
+    (1, "IDENTIFY 3 3 - -"),
+    (0, "QUERY north-1-1-1"),
+];
+
+/// What the realms say to these lines; the fourth comes on a connection that the second has closed.
+const SAID: [Option<Said>; 5] = [
+    Some(Said::Identified),
+    Some(Said::Error),
+    Some(Said::Identified),
+    None,
+    Some(Said::QueriedNotFound),
+];
+
+fn has_opened(answer: &InRealm<Answer>) -> bool {
+    answer.item.opened == Some(FIRST)
+}
+
+fn has_refused(answer: &InRealm<Answer>, why: Refusal) -> bool {
+    answer.item.refusal == Some(why)
+}
+
+#[test]
+fn each_realm_answers_as_alone(rt: HostRuntime) -> Result<(), Fail> {
+    let alloc = rt.alloc();
+    let mut core = Core::new(alloc).start(alloc, starts(alloc)?)?;
+    let Run { answers, end } = core.run(alloc, events(alloc)?);
+    assert!(rt; end.is_ok());
+    assert_eq!(rt; answers.len(), 70);
+    assert!(rt; answers[..64].iter().all(|answer| has_opened(answer)));
+    assert!(rt; has_refused(&answers[64], Refusal::NoRealm));
+    assert!(rt; has_refused(&answers[68], Refusal::Stale));
+    for (answer, said) in answers[65..].iter().zip(SAID) {
+        assert_eq!(rt; first_said(&answer.item), said);
+    }
+    Ok(())
+}
