@@ -58,11 +58,11 @@ module _ (P : Connection → Type 0) (c : Connection) (same : P c) where
 
   pub reacted-keeps : (reaction : Reaction) (key : Key) → ((command : CommandName) (response : ResponseName) → P (moved command response c)) → ((awaited : Awaited) → P (awaiting awaited c)) → P (reacted reaction key c).connection
   reacted-keeps reaction key moves awaits = step (is_on key c) (went c.owed) where
-    went : (owed : Option CommandName) → P (reacts reaction owed c).connection
+    went : (owed : Option CommandName) → P (reacts reaction key owed c).connection
     went (Some command) = either-keeps (answers command c) (reaction.owed command) (λ said. moves command (response_name said))
-    went None = either-keeps (demands c) (demanded_as reaction c.role c) (λ demand. awaits demand.awaited)
+    went None = either-keeps (demands key c) (demanded_as reaction c.role c) (λ demand. awaits demand.awaited)
 
-    step : (b : Bool) → P (reacts reaction c.owed c).connection → P (cond b (reacts reaction c.owed c) (stays c)).connection
+    step : (b : Bool) → P (reacts reaction key c.owed c).connection → P (cond b (reacts reaction key c.owed c) (stays c)).connection
     step true p = p
     step false p = same
 
@@ -83,7 +83,7 @@ off_first false on off passes = absurd (cc)
 
 -- one of the number that is not on the transaction stays
 reacted_off : (key : Key) (reaction : Reaction) (n : ℕ) (c : Connection) → is_there key n c ≡ false → has_number n c ≡ true → (reacted reaction key c).connection ≡ c
-reacted_off key reaction n c off is = stays_off (is_on key c) (reacts reaction c.owed c) c (off_first (has_number n c) (is_on key c) off is)
+reacted_off key reaction n c off is = stays_off (is_on key c) (reacts reaction key c.owed c) c (off_first (has_number n c) (is_on key c) off is)
 
 find-cons : (test : Connection → Bool) (b : Bool) (c d : Connection) (xs ys : Option Connection) → test d ≡ b → test c ≡ b → (b ≡ true → d ≡ c) → xs ≡ ys → cond (test d) (Some d) xs ≡ cond (test c) (Some c) ys
 find-cons test true c d xs ys e f same rest = rw (e, f) (ap Some (same refl))

@@ -52,9 +52,9 @@ abbrev pub command_of : List ℕ → Asked → Command
 command_of realm (asked.Identify ours theirs) = command.Identify 3 3 (Some ours) theirs
 command_of realm (asked.Push key) = command.Push (identifier realm key)
 command_of realm (asked.Pull superior key) = command.Pull superior (identifier realm key)
-command_of realm asked.Prepare = command.Prepare
-command_of realm asked.Commit = command.Commit
-command_of realm asked.Abort = command.Abort
+command_of realm (asked.Prepare key) = command.Prepare
+command_of realm (asked.Commit key) = command.Commit
+command_of realm (asked.Abort key) = command.Abort
 command_of realm (asked.Query superior) = command.Query superior
 command_of realm (asked.Reconnect subordinate) = command.Reconnect subordinate
 

@@ -130,11 +130,11 @@ one_part_says_no = record {
       say 2 said.Pulled ∷
       connected (at 1 3) ++ (
       say 3 said.Pulled ∷
-      ask 2 asked.Prepare ∷
-      ask 3 asked.Prepare ∷
+      ask 2 (asked.Prepare t) ∷
+      ask 3 (asked.Prepare t) ∷
       Output.Works id errand.Vote ∷
       say 1 said.Aborted ∷
-      ask 2 asked.Abort ∷
+      ask 2 (asked.Abort t) ∷
       Output.Called id 1 (yes 11) (call.Vote vote.Yes) ∷
       Output.Works id errand.Abort ∷
       Output.Called id 1 (yes 11) call.Abort ∷ [])));
@@ -166,14 +166,14 @@ two_parts = record {
       say 2 said.Pulled ∷
       connected (at 1 3) ++ (
       say 3 said.Pulled ∷
-      ask 2 asked.Prepare ∷
-      ask 3 asked.Prepare ∷
+      ask 2 (asked.Prepare t) ∷
+      ask 3 (asked.Prepare t) ∷
       Output.Works id errand.Vote ∷
       Output.Called id 1 (read_only 11) (call.Vote vote.ReadOnly) ∷
       put t (row.Committed [] ((codes "p.x", codes "p7") ∷ (codes "q.x", codes "q7") ∷ [])) ∷
       say 1 said.Committed ∷
-      ask 2 asked.Commit ∷
-      ask 3 asked.Commit ∷
+      ask 2 (asked.Commit t) ∷
+      ask 3 (asked.Commit t) ∷
       connected (at 1 4) ++ (
       say 4 said.QueriedExists ∷
       remove t ∷ []))));
@@ -227,7 +227,7 @@ pushed = record {
       Output.Opened (at 1 2) ∷
       ask 2 (asked.Identify (codes "n.x") (codes "p.x")) ∷
       ask 2 (asked.Push t) ∷
-      ask 2 asked.Prepare ∷
+      ask 2 (asked.Prepare t) ∷
       Output.Works id errand.Vote ∷
       Output.Called id 1 (yes 11) (call.Vote vote.Yes) ∷
       put t (row.Committed ((1, codes "b1") ∷ []) []) ∷
@@ -279,14 +279,14 @@ in_doubt_and_committed = record {
       say 1 (said.Pushed t) ∷
       connected (at 1 2) ++ (
       say 2 said.Pulled ∷
-      ask 2 asked.Prepare ∷
+      ask 2 (asked.Prepare t) ∷
       Output.Works id errand.Vote ∷
       Output.Called id 1 (yes 11) (call.Vote vote.Yes) ∷
       put t (row.Prepared (codes "a.x") (codes "s1") ((1, codes "b1") ∷ []) ((codes "p.x", codes "p7") ∷ [])) ∷
       say 1 said.Prepared ∷
       put t (row.Committed ((1, codes "b1") ∷ []) ((codes "p.x", codes "p7") ∷ [])) ∷
       say 1 said.Committed ∷
-      ask 2 asked.Commit ∷
+      ask 2 (asked.Commit t) ∷
       Output.Works id errand.Commit ∷
       Output.Called id 1 (yes 11) (call.Commit Done) ∷
       remove t ∷ []));
@@ -311,7 +311,7 @@ out_of_turn = record {
       connected (at 1 2) ++ (
       say 2 said.Pulled ∷
       Output.Refused refusal.Busy ∷
-      ask 2 asked.Prepare ∷
+      ask 2 (asked.Prepare t) ∷
       Output.Works id errand.Vote ∷
       Output.Called id 1 (read_only 11) (call.Vote vote.ReadOnly) ∷
       say 1 said.Committed ∷ []));

@@ -40,11 +40,11 @@ part_lost = record {
       say 2 said.Pulled ∷
       connected (at 1 3) ++ (
       say 3 said.Pulled ∷
-      ask 2 asked.Prepare ∷
-      ask 3 asked.Prepare ∷
+      ask 2 (asked.Prepare t) ∷
+      ask 3 (asked.Prepare t) ∷
       Output.Works id errand.Vote ∷
       say 1 said.Aborted ∷
-      ask 2 asked.Abort ∷
+      ask 2 (asked.Abort t) ∷
       Output.Called id 1 (yes 11) (call.Vote vote.Yes) ∷
       Output.Works id errand.Abort ∷
       Output.Called id 1 (yes 11) call.Abort ∷ [])));
@@ -66,7 +66,7 @@ part_not_valid = record {
       say 1 (said.Begun t) ∷
       connected (at 1 2) ++ (
       say 2 said.Pulled ∷
-      ask 2 asked.Prepare ∷
+      ask 2 (asked.Prepare t) ∷
       Output.Works id errand.Vote ∷
       say 1 said.Aborted ∷
       say 2 said.Error ∷
@@ -234,12 +234,12 @@ part_reached_again = record {
       say 1 (said.Begun t) ∷
       connected (at 1 2) ++ (
       say 2 said.Pulled ∷
-      ask 2 asked.Prepare ∷
+      ask 2 (asked.Prepare t) ∷
       Output.Works id errand.Vote ∷
       Output.Called id 1 (read_only 11) (call.Vote vote.ReadOnly) ∷
       put t (row.Committed [] ((codes "p.x", codes "p7") ∷ [])) ∷
       say 1 said.Committed ∷
-      ask 2 asked.Commit ∷
+      ask 2 (asked.Commit t) ∷
       connected (at 1 3) ++ (
       say 3 said.QueriedExists ∷
       Output.Opened (at 1 4) ∷

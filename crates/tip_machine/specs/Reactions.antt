@@ -22,9 +22,9 @@ use Rattle.tip_machine.specs.declared.connection.Awaited.TheVariants as awaited
 use Rattle.tip_machine.specs.declared.connection.Role.{Role}
 use Rattle.tip_machine.specs.declared.connection.Role.TheVariants.{Superior, Subordinate}
 
--- how a subordinate is asked PREPARE, COMMIT or ABORT
+-- how a subordinate is asked PREPARE, COMMIT or ABORT for a transaction
 pub record Demand : Type 0 where
-  pub asked : Asked
+  pub asked : Key → Asked
   pub awaited : Awaited
 
 abbrev pub prepare : Demand
@@ -94,16 +94,16 @@ stays connection = record { connection = connection; items = [] }
 abbrev pub answers : CommandName → Connection → Said → Reacted
 answers command connection said = record { connection = moved command (response_name said) connection; items = Say said ∷ [] }
 
-abbrev pub demands : Connection → Demand → Reacted
-demands connection demand = record { connection = awaiting demand.awaited connection; items = Ask demand.asked ∷ [] }
+abbrev pub demands : Key → Connection → Demand → Reacted
+demands key connection demand = record { connection = awaiting demand.awaited connection; items = Ask (demand.asked key) ∷ [] }
 
-abbrev pub reacts : Reaction → Option CommandName → Connection → Reacted
-reacts reaction (Some command) connection = option_map_or (answers command connection) (reaction.owed command) (stays connection)
-reacts reaction None connection = option_map_or (demands connection) (demanded_as reaction connection.role connection) (stays connection)
+abbrev pub reacts : Reaction → Key → Option CommandName → Connection → Reacted
+reacts reaction key (Some command) connection = option_map_or (answers command connection) (reaction.owed command) (stays connection)
+reacts reaction key None connection = option_map_or (demands key connection) (demanded_as reaction connection.role connection) (stays connection)
 
 -- a connection that is not on the transaction stays
 abbrev pub reacted : Reaction → Key → Connection → Reacted
-reacted reaction key connection = if is_on key connection then reacts reaction connection.owed connection else stays connection
+reacted reaction key connection = if is_on key connection then reacts reaction key connection.owed connection else stays connection
 
 abbrev pub told_by : Reaction → Key → Connection → List Told
 told_by reaction key connection = map (λ item. record { connection = connection.number; item = item }) (reacted reaction key connection).items

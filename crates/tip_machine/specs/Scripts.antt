@@ -24,6 +24,7 @@ use Rattle.tip_machine.specs.Moves.{Move, World, moved}
 use Rattle.tip_machine.specs.Outputs.{Output}
 use Rattle.tip_machine.specs.Served.{everything}
 use Rattle.tip_machine.specs.States.{started}
+use Rattle.tip_machine.specs.Verdicts.{Agrees, told}
 use Rattle.tip_machine.specs.declared.answer.Asked.{Asked}
 use Rattle.tip_machine.specs.declared.answer.Item.TheVariants.{Say, Ask, Close}
 use Rattle.tip_machine.specs.declared.answer.Said.{Said}
@@ -115,6 +116,10 @@ pub record Example : Type 0 where
 
 abbrev pub Shows : Example → Type 0
 Shows example = played example.world example.lines ≡ example.shown
+
+-- what its branches are told of the first transaction agrees
+abbrev pub TellsOneThing : Example → Type 0
+TellsOneThing example = Agrees (told (codes "north") (identifier (codes "north") (record { epoch = 1; connection = 1; number = 1 })) example.shown)
 
 -- the invariants hold at first, and in each state that is reached
 abbrev pub Reaches : World → List Line → Type 0

@@ -99,15 +99,16 @@ impl Said {
 }
 
 /// A command that we send as the primary. A transaction of ours stands in it as its key, another manager's word as it came.
+/// PREPARE, COMMIT and ABORT have the key of the transaction that they are about, which is not sent.
 #[derive(Debug, Drop)]
 pub enum Asked {
     /// The version is 3.
     Identify { ours: Address, theirs: Address },
     Push(Key),
     Pull { superior: Id, subordinate: Key },
-    Prepare,
-    Commit,
-    Abort,
+    Prepare(Key),
+    Commit(Key),
+    Abort(Key),
     Query(Id),
     Reconnect(Id),
 }
@@ -134,9 +135,9 @@ impl Asked {
                 superior: superior.copy()?,
                 subordinate: identifier(alloc, realm, *subordinate)?,
             },
-            Asked::Prepare => Command::Prepare,
-            Asked::Commit => Command::Commit,
-            Asked::Abort => Command::Abort,
+            Asked::Prepare(_) => Command::Prepare,
+            Asked::Commit(_) => Command::Commit,
+            Asked::Abort(_) => Command::Abort,
             Asked::Query(superior) => Command::Query {
                 superior: superior.copy()?,
             },
