@@ -1,5 +1,5 @@
 //! Rows in memory.
-ghost use Rattle.std.specs.Prelude.{◌≡◌, ◌+◌, ◌%◌, ◌^◌, ◌∷◌, [], ℕ, List, true, false, map, filter, take, drop, length, option_map, unwrap_or, pos, Some, ◌↔◌, IsTrue, IfOk, IfErr, OnOk, OnErr, MatchResult};
+ghost use Rattle.std.specs.Prelude.{refl, ◌≡◌, ◌+◌, ◌%◌, ◌^◌, ◌∷◌, [], ℕ, List, true, false, map, filter, take, drop, length, option_map, unwrap_or, pos, Some, ◌↔◌, IsTrue, IfOk, IfErr, OnOk, OnErr, MatchResult};
 ghost use Rattle.std.specs.Prelude.{find};
 ghost use Rattle.std.specs.Option.{option_copied};
 ghost use Rattle.std.specs.List.{list_any, position};
@@ -12,6 +12,7 @@ ghost use Rattle.tip_rows.specs.Memory.{IsDemanded, log_of, is_due_in, epoch_in,
 use crate::heap_row::HeapRow;
 use crate::key::Key;
 use crate::log::{LoadFault, Loaded, RaiseFault, Refused, RowLog};
+use crate::medium::OwnMemory;
 use crate::row::Row;
 use std::alloc::{AllocError, Allocator, Global};
 use std::marker::Model;
@@ -156,6 +157,10 @@ impl<A: Allocator> MemRows<A> {
 }
 
 impl<A: Allocator + Copy> RowLog for MemRows<A> {
+    type Medium = OwnMemory;
+
+    ghost medium = { λ _. record {} };
+
     ghost stands = { λ s log. log_of s ≡ log };
 
     ghost faults = { λ s. s.faults };
@@ -221,6 +226,10 @@ impl<A: Allocator + Copy> RowLog for MemRows<A> {
     fn faults(&self) -> u64 {
         self.faults
     }
+
+    ghost true_while_faithful = { λ _ faithful. faithful };
+
+    ghost leaves_some = { λ rows _. ∣ (log_of rows, refl) ∣₁ };
 }
 
 /// Counts a call, if it was refused.
