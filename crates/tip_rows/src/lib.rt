@@ -8,7 +8,6 @@ mod label;
 mod log;
 mod medium;
 mod memory;
-mod parts;
 mod reading;
 #[cfg(test)]
 mod refusals;

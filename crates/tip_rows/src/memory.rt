@@ -290,66 +290,38 @@ fn set_epoch(known: &mut Known, realm: &Realm, epoch: u32)
     }
 }
 
-/// Sets the epoch of a realm.
-fn set_epochs(known: &mut [Known], realm: &Realm, epoch: u32)
-    ensures { known.new ≡ map (epoch_named realm.now epoch) known.old }
-{
-    for k in known {
-        set_epoch(k, realm, epoch);
-    }
-}
-
 /// Raises every epoch that is not at its end.
 fn raise_each<A: Allocator>(known: &mut Vec<Known, A>)
     ensures { known.new.items ≡ map raised_known known.old.items }
 {
-    raise_all(known);
+    for k in known.as_mut_slice() {
+        raise_one(k);
+    }
 }
 
 /// Raises the epoch of one known realm, if it is not at its end.
 fn raise_of<A: Allocator>(known: &mut Vec<Known, A>, realm: &Realm)
     ensures { known.new.items ≡ map (raised_named realm.now) known.old.items }
 {
-    raise(known, realm);
+    for k in known.as_mut_slice() {
+        raise_named(k, realm);
+    }
 }
 
 /// Sets the epoch of one known realm.
 fn set_known_epoch<A: Allocator>(known: &mut Vec<Known, A>, realm: &Realm, epoch: u32)
     ensures { known.new.items ≡ map (epoch_named realm.now epoch) known.old.items }
 {
-    set_epochs(known, realm, epoch);
+    for k in known.as_mut_slice() {
+        set_epoch(k, realm, epoch);
+    }
 }
 
 /// Says whether the next change of one known realm is to be refused.
 fn set_due<A: Allocator>(known: &mut Vec<Known, A>, realm: &Realm, is_refusing: bool)
     ensures { known.new.items ≡ map (refusing_named realm.now is_refusing) known.old.items }
 {
-    demand(known, realm, is_refusing);
-}
-
-/// Raises each epoch that is not at its end.
-fn raise_all(known: &mut [Known])
-    ensures { known.new ≡ map raised_known known.old }
-{
-    for k in known {
-        raise_one(k);
-    }
-}
-
-/// Raises the epoch of one realm, if it is not at its end.
-fn raise(known: &mut [Known], realm: &Realm)
-    ensures { known.new ≡ map (raised_named realm.now) known.old }
-{
-    for k in known {
-        raise_named(k, realm);
-    }
-}
-
-/// Says whether the next change of a realm is to be refused.
-fn demand(known: &mut [Known], realm: &Realm, is_refusing: bool)
-    ensures { known.new ≡ map (refusing_named realm.now is_refusing) known.old }
-{
-    for k in known {
+    for k in known.as_mut_slice() {
         set_refusing(k, realm, is_refusing);
     }
 }
