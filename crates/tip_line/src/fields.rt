@@ -53,7 +53,8 @@ impl<'a, const MARK: u8> Fields<'a, MARK> {
         ensures none { result ≡ None → self.entry ≡ [] }
         ensures only { self.entry ≡ [] → result ≡ None }
     {
-        self.rest
+        let Fields { rest } = self;
+        rest
     }
 }
 
