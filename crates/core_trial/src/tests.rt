@@ -28,11 +28,12 @@ fn start(alloc: Global, name: &[u8]) -> Result<Start, Fail> {
     })
 }
 
-fn open(alloc: Global, realm: usize) -> InRealm<Event> {
+/// A connection without boxes is opened.
+fn open(alloc: Global, realm: usize, none: &HeldFresh) -> InRealm<Event> {
     InRealm {
         realm,
         item: Event::Open {
-            boxes: HeldFresh::none(alloc),
+            boxes: none.empty_like(alloc),
         },
     }
 }
@@ -64,10 +65,10 @@ fn starts(alloc: Global) -> Result<Vec<Start>, Fail> {
 }
 
 /// Each realm is opened a connection, and one that is not there; then lines come in three of them.
-fn events(alloc: Global) -> Result<Vec<InRealm<Event>>, Fail> {
+fn events(alloc: Global, none: &HeldFresh) -> Result<Vec<InRealm<Event>>, Fail> {
     let mut events = Vec::with_capacity(alloc, 70)?;
     for realm in 0..65 {
-        events.push(open(alloc, realm))?;
+        events.push(open(alloc, realm, none))?;
     }
     for (realm, text) in LINES {
         events.push(line(alloc, realm, text.as_bytes())?)?;
@@ -100,7 +101,7 @@ fn is_expected(place: usize, answer: &Answer) -> bool {
 fn each_realm_answers_as_alone(rt: HostRuntime) -> Result<(), Fail> {
     let alloc = rt.alloc();
     let mut core = Core::new(alloc).start(alloc, starts(alloc)?)?;
-    let Run { answers, end } = core.run(alloc, events(alloc)?);
+    let Run { answers, end } = core.run(alloc, events(alloc, &HeldFresh::none(alloc))?);
     assert!(rt; end.is_ok());
     assert_eq!(rt; answers.len(), 70);
     for (place, answer) in answers.iter().enumerate() {

@@ -9,3 +9,4 @@ pub mod Responses
 pub mod IdLemmas
 pub mod ReadingLaws
 pub mod Printing
+pub mod FieldLemmas

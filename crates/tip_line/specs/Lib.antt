@@ -9,3 +9,4 @@ pub mod Version
 pub mod Command
 pub mod Response
 pub mod Refusal
+pub mod Fields

@@ -74,16 +74,15 @@ impl<A: Allocator> Buffer<A> {
         ensures bound { result ≤ length piece.now }
         ensures taken { Leaves (pending self.old ++ take result piece.now) [] (pending self.new) }
         ensures fits { Reads (pending self.old) [] → min (length piece.now) 1024 ≤ result }
+        ensures memory { vec_capacity self.new.octets ≡ vec_capacity self.old.octets }
     {
         if self.room() < piece.len() {
             self.find();
             self.make_room(piece.len());
         }
         let taken = self.room().min(piece.len());
-        match self.octets.extend_from_slice(&piece[..taken]) {
-            Ok(()) => taken,
-            Err(_) => unreachable!(),
-        }
+        append(&mut self.octets, &piece[..taken]);
+        taken
     }
 
     /// Passes over the blank lines at the front, and says what stands behind them.
@@ -146,6 +145,7 @@ impl<A: Allocator> Buffer<A> {
         ensures reading { IsReading self.new }
         ensures same { pending self.new ≡ pending self.old }
         ensures room { IsWithin (pending self.old) → min wanted 1024 + vec_len self.new.octets ≤ vec_capacity self.new.octets }
+        ensures memory { vec_capacity self.new.octets ≡ vec_capacity self.old.octets }
     {
         if self.room() < wanted && matches!(self.stop(), Stop::Open) {
             self.octets.copy_within(self.start.., 0);
@@ -170,6 +170,17 @@ impl<A: Allocator> Buffer<A> {
             Stop::Fault(_) => (),
         }
         stop
+    }
+}
+
+/// Appends octets for which there is room. `extend_from_slice` does not say that it leaves the capacity then.
+fn append<A: Allocator>(octets: &mut Vec<u8, A>, piece: &[u8])
+    requires { vec_len octets.old + length piece.now ≤ vec_capacity octets.old }
+    ensures items { octets.new.items ≡ octets.old.items ++ piece.now }
+    ensures memory { vec_capacity octets.new ≡ vec_capacity octets.old }
+{
+    for octet in piece {
+        octets.push_reserved(*octet);
     }
 }
 

@@ -4,6 +4,7 @@
 mod buffer;
 mod command;
 mod fault;
+mod fields;
 mod id;
 pub mod laws;
 mod lines;
@@ -18,6 +19,7 @@ mod words;
 
 pub use command::{Command, CommandName};
 pub use fault::{ParseFault, WordFault};
+pub use fields::Fields;
 pub use id::{Id, IdParts, number_of};
 pub use lines::{Cause, Line, Lines};
 pub use realm::{Realm, is_realm};

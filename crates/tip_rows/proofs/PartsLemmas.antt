@@ -1,42 +1,13 @@
 -- The parts of a text, as they are taken and read one by one.
-use Rattle.std.proofs.Common.{◌≡◌, ℕ, ◌+◌, ◌-◌, ◌<◌, ◌≤◌, List, [], ◌∷◌, ◌++◌, length, take, drop, Option, Some, None, Result, Ok, Err, IsErr, IsErrAnd, MatchResult, codes, subst, Bool, true, false, eqb, cond, not, if◌then◌else◌, nat_lt, refl, ap, sym, ◌∙◌, arith}
-use Rattle.std.specs.List.{slice_split, position, position_or_len}
+use Rattle.std.proofs.Common.{◌≡◌, ℕ, List, [], ◌∷◌, ◌++◌, Option, Some, None, Result, Ok, Err, IsErr, IsErrAnd, MatchResult, codes, subst, Bool, true, false, eqb, not, if◌then◌else◌, refl, ap, sym, ◌∙◌, arith}
+use Rattle.std.specs.List.{slice_split}
 use Rattle.std.specs.Str.{bytes_eq}
 use Rattle.std.proofs.lemmas.Bool.Decides.{nat_tests}
-use Rattle.std.proofs.lemmas.List.{take_all, length-drop}
-use Rattle.std.proofs.lemmas.List.Sums.{fails_before_first}
-use Rattle.std.proofs.lemmas.List.Splits.{slice_split_first, slice_split_none}
 use Rattle.tip_rows.specs.Labels.{is_label}
-use Rattle.tip_rows.specs.Reading.{is_member, branch_in, branches_onto, items_in, parts_left, Fails, Gives, subordinate_in, subordinates_onto}
+use Rattle.tip_rows.specs.Reading.{is_member, branch_in, branches_onto, items_in, Fails, Gives, subordinate_in, subordinates_onto}
 use Rattle.tip_rows.specs.declared.reading.Version.{Version}
 use Rattle.tip_rows.specs.declared.text.RowFault.{RowFault}
 use Rattle.tip_rows.specs.declared.text.RowFault.TheVariants.{BadRow, Memory}
-
-found : (n len end : ℕ) (within : Bool) → nat_lt n len ≡ within → cond within (Some n) None ≡ Some end → (n < len) × (n ≡ end)
-found n len end true h e = (grind (arith, nat_tests), cc)
-found n len end false h e = absurd (cc)
-
-not_found : (n len : ℕ) (within : Bool) → nat_lt n len ≡ within → cond within (Some n) None ≡ None → len ≤ n
-not_found n len true h e = absurd (cc)
-not_found n len false h e = grind (arith, nat_tests)
-
--- what stands from an index on
-pub rest_from : (text : List ℕ) (from : ℕ) → take (length text - from) (drop from text) ≡ drop from text
-rest_from text from = take_all (length text - from) (drop from text) (rw length-drop (omega arith))
-
--- a part ends at the first mark, or with the text
-pub part_cut : (mark : ℕ) (finished : Bool) (rest more : List ℕ) (end : ℕ) → finished ≡ false → position (λ octet. eqb octet mark) rest ≡ Some end → more ≡ drop (end + 1) rest →
-    parts_left mark finished rest ≡ take end rest ∷ parts_left mark finished more
-part_cut mark true rest more end f e m = absurd (cc)
-part_cut mark false rest more end f e m =
-    let at = found (position_or_len (λ octet. eqb octet mark) rest) (length rest) end (nat_lt (position_or_len (λ octet. eqb octet mark) rest) (length rest)) refl e in
-    slice_split_first (λ octet. eqb octet mark) rest 0 at.0 ∙ ap (λ n. take n rest ∷ slice_split (λ octet. eqb octet mark) (drop (n + 1) rest)) at.1 ∙ ap (λ t. take end rest ∷ slice_split (λ octet. eqb octet mark) t) (sym m)
-
-pub part_last : (mark : ℕ) (finished : Bool) (rest : List ℕ) → finished ≡ false → position (λ octet. eqb octet mark) rest ≡ None → parts_left mark finished rest ≡ rest ∷ []
-part_last mark true rest f e = absurd (cc)
-part_last mark false rest f e =
-    let none = not_found (position_or_len (λ octet. eqb octet mark) rest) (length rest) (nat_lt (position_or_len (λ octet. eqb octet mark) rest) (length rest)) refl e in
-    slice_split_none (λ octet. eqb octet mark) rest (λ k d h. fails_before_first (λ octet. eqb octet mark) rest k d (omega (arith, none, h)))
 
 -- what a push leaves where it is no fault
 pub pushed : {X : Type 0} (ok err : Bool) (items old new : List X) → items ≡ (if ok then new else old) → ok ≡ not err → err ≡ false → items ≡ new

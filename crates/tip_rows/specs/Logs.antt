@@ -1,5 +1,5 @@
 -- What a log of rows holds, and what its calls do to it.
-use Rattle.std.specs.Prelude.{◌≡◌, ℕ, ◌+◌, ◌%◌, ◌^◌, ℤ, pos, List, [], ◌∷◌, Bool, true, false, ◌&&◌, if◌then◌else◌, Option, Some, None, option_map, unwrap_or, find, Result, Ok, Err, ◌⊎◌, ◌≢◌, ◌≤◌, MatchResult, nat_lt, IsSome, is_some}
+use Rattle.std.specs.Prelude.{◌≡◌, ℕ, ◌+◌, ◌%◌, ◌^◌, ℤ, pos, List, [], ◌∷◌, Bool, true, false, ◌&&◌, if◌then◌else◌, Option, Some, None, option_map, unwrap_or, find, Result, Ok, Err, ◌⊎◌, ◌≢◌, ◌≤◌, ◌↔◌, MatchResult, nat_lt, IsSome, is_some}
 use Rattle.std.specs.List.{list_all, list_any}
 use Rattle.std.specs.Ordering.{is_lt, nat_cmp}
 use Rattle.std.specs.Cmp.Lexicographic.{slice_cmp}
@@ -113,13 +113,16 @@ is_refused_raise (Err raise_fault.EpochEnd) = false
 abbrev pub Stands : {S T E : Type 0} → (S → Log → Type 0) → (Log → Log) → S → S → Result T E → Type 0
 Stands stands change old new result = (log : Log) → stands old log → MatchResult result (λ _. stands new (change log)) (λ _. stands new log)
 
+-- a store stands for one log, and a stop leaves that log and nothing else
+pub record IsSettled {S : Type 0} (stands may_leave : S → Log → Type 0) (store : S) : Type 0 where
+  pub log : Log
+  pub shown : stands store log
+  pub one : (other : Log) → stands store other → other ≡ log
+  pub left : (other : Log) → may_leave store other ↔ (other ≡ log)
+
 -- a stop after the call leaves what a stop before it could leave, or the changed log
 abbrev pub LeavesOne : {S : Type 0} → (S → Log → Type 0) → (S → Type 0) → (S → Log → Type 0) → (Log → Log) → S → S → Type 0
 LeavesOne stands is_true may_leave change old new = (log : Log) → stands old log → is_true new → (left : Log) → may_leave new left → may_leave old left ⊎ (left ≡ change log)
-
--- a stop after the stored change leaves the changed log
-abbrev pub LeavesChanged : {S T E : Type 0} → (S → Log → Type 0) → (S → Type 0) → (S → Log → Type 0) → (Log → Log) → S → S → Result T E → Type 0
-LeavesChanged stands is_true may_leave change old new result = (log : Log) → stands old log → is_true new → MatchResult result (λ _. (left : Log) → may_leave new left → left ≡ change log) (λ _. Unit {0})
 
 -- a stop after a call that changes nothing leaves what a stop before it could leave
 abbrev pub LeavesSame : {S : Type 0} → (S → Log → Type 0) → (S → Type 0) → (S → Log → Type 0) → S → S → Type 0

@@ -1,10 +1,14 @@
 -- How a text is read as a row, step by step.
-use Rattle.std.specs.Prelude.{◌≡◌, ℕ, ◌-◌, List, [], ◌∷◌, ◌++◌, Bool, true, false, ◌&&◌, nat_le, eqb, Option, Some, None, Result, Ok, Err, codes, if◌then◌else◌}
+use Rattle.std.specs.Prelude.{◌≡◌, ℕ, ◌-◌, List, [], ◌∷◌, ◌++◌, Bool, ◌&&◌, nat_le, eqb, Option, Some, None, Result, Ok, Err, codes, if◌then◌else◌}
 use Rattle.std.specs.List.{slice_split}
 use Rattle.std.specs.Str.{bytes_eq}
 use Rattle.tip_line.specs.Words.{is_word, is_address}
 use Rattle.tip_rows.specs.Branches.{are_branches}
 use Rattle.tip_rows.specs.Labels.{is_label}
+use Rattle.tip_line.specs.declared.fault.WordFault.{WordFault}
+use Rattle.tip_line.specs.declared.fault.WordFault.TheVariants as word_fault
+use Rattle.tip_rows.specs.declared.label.LabelFault.{LabelFault}
+use Rattle.tip_rows.specs.declared.label.LabelFault.TheVariants as label_fault
 use Rattle.tip_rows.specs.declared.reading.Version.{Version}
 use Rattle.tip_rows.specs.declared.reading.Version.TheVariants.{First, Second}
 use Rattle.tip_rows.specs.declared.row.Row.{Row}
@@ -26,10 +30,14 @@ abbrev pub Gives : {A : Type 0} → Result A RowFault → Option A → Type 0
 Gives (Ok x) read = read ≡ Some x
 Gives (Err fault) read = Fails fault read
 
--- the parts of a text between marks that are left
-abbrev pub parts_left : ℕ → Bool → List ℕ → List (List ℕ)
-parts_left mark true rest = []
-parts_left mark false rest = slice_split (λ octet. eqb octet mark) rest
+-- what is no word or label is no row
+abbrev pub of_word_fault : WordFault → RowFault
+of_word_fault word_fault.NotWord = BadRow
+of_word_fault word_fault.Memory = Memory
+
+abbrev pub of_label_fault : LabelFault → RowFault
+of_label_fault label_fault.BadLabel = BadRow
+of_label_fault label_fault.Memory = Memory
 
 abbrev pub checked : {A : Type 0} → (A → Bool) → A → Option A
 checked test x = if test x then Some x else None

@@ -6,8 +6,8 @@ mod heap_row;
 mod key;
 mod label;
 mod log;
+mod medium;
 mod memory;
-mod parts;
 mod reading;
 #[cfg(test)]
 mod refusals;
@@ -21,6 +21,7 @@ pub use branches::Branches;
 pub use key::Key;
 pub use label::{Label, LabelFault};
 pub use log::{LoadFault, Loaded, RaiseFault, Refused, RowLog};
+pub use medium::{Medium, OwnMemory};
 pub use memory::MemRows;
 pub use row::Row;
 pub use subordinates::Subordinates;

@@ -1,8 +1,9 @@
 //! What keeps rows: a finite map from realm and key to rows, and from realm to epoch.
 ghost use Rattle.std.specs.Prelude.{◌≡◌, ◌≢◌, ◌↔◌, ℕ, List, Bool, IsTrue, IfOk, OnOk, IsErrOf, IsErr, is_err};
-ghost use Rattle.tip_rows.specs.Logs.{Log, with_row, without_row, with_known, with_all_raised, with_raised, IsAtEnd, IsSpoiled, IsPart, AreNames, HasBadName, counted, is_refused_load, is_refused_raise, Stands, LeavesOne, LeavesChanged, LeavesSame, IsSpent};
+ghost use Rattle.tip_rows.specs.Logs.{Log, with_row, without_row, with_known, with_all_raised, with_raised, IsAtEnd, IsSpoiled, IsPart, AreNames, HasBadName, counted, is_refused_load, is_refused_raise, Stands, LeavesOne, LeavesSame, IsSettled, IsSpent};
 
 use crate::key::Key;
+use crate::medium::Medium;
 use crate::row::Row;
 use std::alloc::{Allocator, Global};
 use thiserror::Error;
@@ -43,14 +44,20 @@ pub struct Loaded<A: Allocator = Global> {
 }
 
 /// A log of rows. A call that is refused, for want of memory in a change too, leaves all rows and epochs.
+/// After one that is not, the log is settled: it stands for one log, and a stop leaves that one.
 pub trait RowLog {
+    type Medium: Medium;
+
+    /// What it keeps its rows in.
+    ghost medium: { Self → Self.Medium };
+
     /// It shows this log, as long as `is_true`. One that can't be asked any more shows every log, and refuses each call.
     ghost stands: { Self → Log → Type 0 };
 
     /// How many calls it refused; after the greatest value comes 0.
     ghost faults: { Self → ℕ };
 
-    /// So far what it keeps its rows in has returned what was written.
+    /// What it shows may be relied on. It is so as long as its medium is faithful, by `true_while_faithful`.
     ghost is_true: { Self → Type 0 };
 
     /// What a stop at this moment may leave.
@@ -65,7 +72,7 @@ pub trait RowLog {
         ensures counts { faults self.new ≡ counted (is_err result) (faults self.old) }
         ensures truth { is_true self.new → is_true self.old }
         ensures stop { LeavesOne stands is_true may_leave (with_known realm.now) self.old self.new }
-        ensures kept { LeavesChanged stands is_true may_leave (with_known realm.now) self.old self.new result }
+        ensures settled { is_true self.new → OnOk result (IsSettled stands may_leave self.new) }
         ensures due { (log : Log) → stands self.old log → (r : List ℕ) → is_due self.new r ≡ is_due self.old r };
 
     /// Raises the epoch of every known realm by one, in one change.
@@ -76,7 +83,7 @@ pub trait RowLog {
         ensures counts { faults self.new ≡ counted (is_refused_raise result) (faults self.old) }
         ensures truth { is_true self.new → is_true self.old }
         ensures stop { LeavesOne stands is_true may_leave with_all_raised self.old self.new }
-        ensures kept { LeavesChanged stands is_true may_leave with_all_raised self.old self.new result }
+        ensures settled { is_true self.new → OnOk result (IsSettled stands may_leave self.new) }
         ensures due { (r : List ℕ) → is_due self.new r ≡ is_due self.old r };
 
     /// Raises the epoch of one realm by one; nothing changes where it is not known.
@@ -87,7 +94,7 @@ pub trait RowLog {
         ensures counts { faults self.new ≡ counted (is_refused_raise result) (faults self.old) }
         ensures truth { is_true self.new → is_true self.old }
         ensures stop { LeavesOne stands is_true may_leave (with_raised realm.now) self.old self.new }
-        ensures kept { LeavesChanged stands is_true may_leave (with_raised realm.now) self.old self.new result }
+        ensures settled { is_true self.new → OnOk result (IsSettled stands may_leave self.new) }
         ensures due { IsTrue (is_due self.old realm.now) → result ≡ Err RaiseFault.Refused }
         ensures spent { IsSpent (is_due self.old) (is_due self.new) realm.now };
 
@@ -97,7 +104,7 @@ pub trait RowLog {
         ensures counts { faults self.new ≡ counted (is_err result) (faults self.old) }
         ensures truth { is_true self.new → is_true self.old }
         ensures stop { LeavesOne stands is_true may_leave (with_row realm.now key row.now) self.old self.new }
-        ensures kept { LeavesChanged stands is_true may_leave (with_row realm.now key row.now) self.old self.new result }
+        ensures settled { is_true self.new → OnOk result (IsSettled stands may_leave self.new) }
         ensures due { IsTrue (is_due self.old realm.now) → IsErr result }
         ensures spent { IsSpent (is_due self.old) (is_due self.new) realm.now };
 
@@ -107,7 +114,7 @@ pub trait RowLog {
         ensures counts { faults self.new ≡ counted (is_err result) (faults self.old) }
         ensures truth { is_true self.new → is_true self.old }
         ensures stop { LeavesOne stands is_true may_leave (without_row realm.now key) self.old self.new }
-        ensures kept { LeavesChanged stands is_true may_leave (without_row realm.now key) self.old self.new result }
+        ensures settled { is_true self.new → OnOk result (IsSettled stands may_leave self.new) }
         ensures due { IsTrue (is_due self.old realm.now) → IsErr result }
         ensures spent { IsSpent (is_due self.old) (is_due self.new) realm.now };
 
@@ -119,6 +126,7 @@ pub trait RowLog {
         ensures counts { faults self.new ≡ counted (is_refused_load result) (faults self.old) }
         ensures truth { is_true self.new → is_true self.old }
         ensures stop { LeavesSame stands is_true may_leave self.old self.new }
+        ensures settled { is_true self.new → OnOk result (IsSettled stands may_leave self.new) }
         ensures due { (r : List ℕ) → is_due self.new r ≡ is_due self.old r };
 
     /// The names of the known realms, rising.
@@ -129,9 +137,15 @@ pub trait RowLog {
         ensures counts { faults self.new ≡ counted (is_refused_load result) (faults self.old) }
         ensures truth { is_true self.new → is_true self.old }
         ensures stop { LeavesSame stands is_true may_leave self.old self.new }
+        ensures settled { is_true self.new → OnOk result (IsSettled stands may_leave self.new) }
         ensures due { (r : List ℕ) → is_due self.new r ≡ is_due self.old r };
 
     /// How many calls it refused.
     fn faults(&self) -> u64
         ensures { result ≡ faults self.now };
+
+    ghost true_while_faithful: { (log : Self) → Self.Medium.is_faithful (medium log) → is_true log };
+
+    /// A stop leaves something.
+    ghost leaves_some: { (log : Self) → is_true log → ∥ ((left : Log) × may_leave log left) ∥₁ };
 }

@@ -1,5 +1,5 @@
 //! Rows in memory.
-ghost use Rattle.std.specs.Prelude.{◌≡◌, ◌+◌, ◌%◌, ◌^◌, ◌∷◌, [], ℕ, List, true, false, map, filter, take, drop, length, option_map, unwrap_or, pos, Some, ◌↔◌, IsTrue, IfOk, IfErr, OnOk, OnErr, MatchResult};
+ghost use Rattle.std.specs.Prelude.{refl, ◌≡◌, ◌+◌, ◌%◌, ◌^◌, ◌∷◌, [], ℕ, List, true, false, map, filter, take, drop, length, option_map, unwrap_or, pos, Some, ◌↔◌, IsTrue, IfOk, IfErr, OnOk, OnErr, MatchResult};
 ghost use Rattle.std.specs.Prelude.{find};
 ghost use Rattle.std.specs.Option.{option_copied};
 ghost use Rattle.std.specs.List.{list_any, position};
@@ -12,6 +12,7 @@ ghost use Rattle.tip_rows.specs.Memory.{IsDemanded, log_of, is_due_in, epoch_in,
 use crate::heap_row::HeapRow;
 use crate::key::Key;
 use crate::log::{LoadFault, Loaded, RaiseFault, Refused, RowLog};
+use crate::medium::OwnMemory;
 use crate::row::Row;
 use std::alloc::{AllocError, Allocator, Global};
 use std::marker::Model;
@@ -156,6 +157,10 @@ impl<A: Allocator> MemRows<A> {
 }
 
 impl<A: Allocator + Copy> RowLog for MemRows<A> {
+    type Medium = OwnMemory;
+
+    ghost medium = { λ _. record {} };
+
     ghost stands = { λ s log. log_of s ≡ log };
 
     ghost faults = { λ s. s.faults };
@@ -221,6 +226,10 @@ impl<A: Allocator + Copy> RowLog for MemRows<A> {
     fn faults(&self) -> u64 {
         self.faults
     }
+
+    ghost true_while_faithful = { λ _ faithful. faithful };
+
+    ghost leaves_some = { λ rows _. ∣ (log_of rows, refl) ∣₁ };
 }
 
 /// Counts a call, if it was refused.
@@ -281,66 +290,38 @@ fn set_epoch(known: &mut Known, realm: &Realm, epoch: u32)
     }
 }
 
-/// Sets the epoch of a realm.
-fn set_epochs(known: &mut [Known], realm: &Realm, epoch: u32)
-    ensures { known.new ≡ map (epoch_named realm.now epoch) known.old }
-{
-    for k in known {
-        set_epoch(k, realm, epoch);
-    }
-}
-
 /// Raises every epoch that is not at its end.
 fn raise_each<A: Allocator>(known: &mut Vec<Known, A>)
     ensures { known.new.items ≡ map raised_known known.old.items }
 {
-    raise_all(known);
+    for k in known.as_mut_slice() {
+        raise_one(k);
+    }
 }
 
 /// Raises the epoch of one known realm, if it is not at its end.
 fn raise_of<A: Allocator>(known: &mut Vec<Known, A>, realm: &Realm)
     ensures { known.new.items ≡ map (raised_named realm.now) known.old.items }
 {
-    raise(known, realm);
+    for k in known.as_mut_slice() {
+        raise_named(k, realm);
+    }
 }
 
 /// Sets the epoch of one known realm.
 fn set_known_epoch<A: Allocator>(known: &mut Vec<Known, A>, realm: &Realm, epoch: u32)
     ensures { known.new.items ≡ map (epoch_named realm.now epoch) known.old.items }
 {
-    set_epochs(known, realm, epoch);
+    for k in known.as_mut_slice() {
+        set_epoch(k, realm, epoch);
+    }
 }
 
 /// Says whether the next change of one known realm is to be refused.
 fn set_due<A: Allocator>(known: &mut Vec<Known, A>, realm: &Realm, is_refusing: bool)
     ensures { known.new.items ≡ map (refusing_named realm.now is_refusing) known.old.items }
 {
-    demand(known, realm, is_refusing);
-}
-
-/// Raises each epoch that is not at its end.
-fn raise_all(known: &mut [Known])
-    ensures { known.new ≡ map raised_known known.old }
-{
-    for k in known {
-        raise_one(k);
-    }
-}
-
-/// Raises the epoch of one realm, if it is not at its end.
-fn raise(known: &mut [Known], realm: &Realm)
-    ensures { known.new ≡ map (raised_named realm.now) known.old }
-{
-    for k in known {
-        raise_named(k, realm);
-    }
-}
-
-/// Says whether the next change of a realm is to be refused.
-fn demand(known: &mut [Known], realm: &Realm, is_refusing: bool)
-    ensures { known.new ≡ map (refusing_named realm.now is_refusing) known.old }
-{
-    for k in known {
+    for k in known.as_mut_slice() {
         set_refusing(k, realm, is_refusing);
     }
 }

@@ -8,13 +8,15 @@ ghost use Rattle.tip_rows.specs.declared.text.RowFault.TheVariants.{BadRow};
 
 use crate::branches::Branches;
 use crate::heap_row::HeapRow;
-use crate::label::{Label, LabelFault};
-use crate::parts::Parts;
+use crate::label::Label;
 use crate::row::Row;
 use crate::subordinates::Subordinates;
 use crate::text::RowFault;
 use std::alloc::{Allocator, Global};
-use tip_line::{Address, Id, WordFault};
+use tip_line::{Address, Fields, Id};
+
+/// The words of a text that were not read yet.
+type Words<'a> = Fields<'a, b' '>;
 
 /// How the branches of a text are spelled.
 #[derive(Clone, Copy)]
@@ -39,7 +41,7 @@ pub fn row_on<A: Allocator + Copy>(
 ) -> Result<HeapRow<A>, RowFault>
     ensures { Gives result (row_in (slice_split (λ octet. eqb octet 32) text.now)) }
 {
-    let mut words = Parts::of(text, b' ');
+    let mut words: Words<'_> = Fields::of(text);
     let first = required(&mut words)?;
     let kind = required(&mut words)?;
     row_of_kind(alloc, heap, version_of(first)?, kind, words)
@@ -51,7 +53,7 @@ fn row_of_kind<A: Allocator + Copy>(
     heap: A,
     version: Version,
     kind: &[u8],
-    words: Parts,
+    words: Words<'_>,
 ) -> Result<HeapRow<A>, RowFault>
     ensures { Gives result (kind_in version kind.now words.entry) }
 {
@@ -69,7 +71,7 @@ fn prepared_of<A: Allocator + Copy>(
     alloc: Global,
     heap: A,
     version: Version,
-    mut words: Parts,
+    mut words: Words<'_>,
 ) -> Result<HeapRow<A>, RowFault>
     ensures { Gives result (prepared_in version words.entry) }
 {
@@ -89,7 +91,7 @@ fn committed_of<A: Allocator + Copy>(
     alloc: Global,
     heap: A,
     version: Version,
-    mut words: Parts,
+    mut words: Words<'_>,
 ) -> Result<HeapRow<A>, RowFault>
     ensures { Gives result (committed_in version words.entry) }
 {
@@ -100,14 +102,11 @@ fn committed_of<A: Allocator + Copy>(
     ))
 }
 
-/// Takes the next part, which must be there.
-fn required<'a>(parts: &mut Parts<'a>) -> Result<&'a [u8], RowFault>
-    ensures { MatchResult result (λ part. parts.old ≡ part.now ∷ parts.new) (λ fault. (fault ≡ BadRow) × (parts.old ≡ [])) }
+/// Takes the next word, which must be there.
+fn required<'a>(words: &mut Words<'a>) -> Result<&'a [u8], RowFault>
+    ensures { MatchResult result (λ word. words.old ≡ word.now ∷ words.new) (λ fault. (fault ≡ BadRow) × (words.old ≡ [])) }
 {
-    match parts.next() {
-        Some(part) => Ok(part),
-        None => Err(RowFault::BadRow),
-    }
+    words.next().ok_or(RowFault::BadRow)
 }
 
 #[tactic(auto, unfolding(crate::specs::Reading::version_in))]
@@ -151,7 +150,7 @@ fn items_of<A: Allocator>(
     if word == b"-".as_slice() {
         return Ok(items);
     }
-    let mut parts = Parts::of(word, b',');
+    let mut parts: Fields<'_, b','> = Fields::of(word);
     while let Some(part) = parts.next() {
         let branch = branch_of(alloc, version, part)?;
         if items.push(branch).is_err() {
@@ -206,7 +205,7 @@ fn is_member(octet: u8) -> bool
 fn subordinates_of<A: Allocator>(
     alloc: Global,
     heap: A,
-    mut words: Parts,
+    mut words: Words<'_>,
 ) -> Result<Subordinates<A>, RowFault>
     ensures { Gives result (subordinates_onto [] words.entry) }
 {
@@ -231,29 +230,17 @@ fn subordinate_of(alloc: Global, word: &[u8], next: &[u8]) -> Result<(Address, I
 fn address_of(alloc: Global, octets: &[u8]) -> Result<Address, RowFault>
     ensures { Gives result (checked is_address octets.now) }
 {
-    match Address::new(alloc, octets) {
-        Ok(address) => Ok(address),
-        Err(WordFault::NotWord) => Err(RowFault::BadRow),
-        Err(WordFault::Memory) => Err(RowFault::Memory),
-    }
+    Ok(Address::new(alloc, octets)?)
 }
 
 fn id_of(alloc: Global, octets: &[u8]) -> Result<Id, RowFault>
     ensures { Gives result (checked is_word octets.now) }
 {
-    match Id::new(alloc, octets) {
-        Ok(id) => Ok(id),
-        Err(WordFault::NotWord) => Err(RowFault::BadRow),
-        Err(WordFault::Memory) => Err(RowFault::Memory),
-    }
+    Ok(Id::new(alloc, octets)?)
 }
 
 fn label_of(alloc: Global, octets: &[u8]) -> Result<Label, RowFault>
     ensures { Gives result (checked is_label octets.now) }
 {
-    match Label::new(alloc, octets) {
-        Ok(label) => Ok(label),
-        Err(LabelFault::BadLabel) => Err(RowFault::BadRow),
-        Err(LabelFault::Memory) => Err(RowFault::Memory),
-    }
+    Ok(Label::new(alloc, octets)?)
 }

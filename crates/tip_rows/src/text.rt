@@ -5,13 +5,14 @@ ghost use Rattle.tip_rows.specs.declared.row.Row.{Row};
 ghost use Rattle.tip_rows.specs.declared.text.RowFault.TheVariants.{BadRow, Memory};
 
 use crate::branches::Branches;
-use crate::label::Label;
+use crate::label::{Label, LabelFault};
 use crate::reading::row_of;
 use crate::row::Row;
 use crate::subordinates::Subordinates;
 use std::alloc::{AllocError, Allocator, Global};
 use std::fmt;
 use thiserror::Error;
+use tip_line::WordFault;
 
 /// Why a text is read as no row.
 #[derive(Clone, Copy, Debug, PartialEq, Eq, Error)]
@@ -20,6 +21,34 @@ pub enum RowFault {
     BadRow,
     #[error("out of memory")]
     Memory,
+}
+
+impl From<WordFault> for RowFault {
+    ghost use Rattle.std.specs.Prelude.{◌≡◌};
+    ghost use Rattle.tip_rows.specs.Reading.{of_word_fault};
+
+    ghost from_gives = { λ fault f. f ≡ of_word_fault fault };
+
+    fn from(fault: WordFault) -> RowFault {
+        match fault {
+            WordFault::NotWord => RowFault::BadRow,
+            WordFault::Memory => RowFault::Memory,
+        }
+    }
+}
+
+impl From<LabelFault> for RowFault {
+    ghost use Rattle.std.specs.Prelude.{◌≡◌};
+    ghost use Rattle.tip_rows.specs.Reading.{of_label_fault};
+
+    ghost from_gives = { λ fault f. f ≡ of_label_fault fault };
+
+    fn from(fault: LabelFault) -> RowFault {
+        match fault {
+            LabelFault::BadLabel => RowFault::BadRow,
+            LabelFault::Memory => RowFault::Memory,
+        }
+    }
 }
 
 impl Row {

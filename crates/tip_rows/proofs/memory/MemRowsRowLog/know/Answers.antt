@@ -13,8 +13,5 @@ returns-in-Ok-clause-stands g c = λ log same. rw c.in-Ok.ensures.ok (Shows-know
 pub returns-in-Ok-clause-stop : goal.returns-in-Ok-clause-stop
 returns-in-Ok-clause-stop g c = λ log same _ left leaves. inr (sym leaves ∙ returns-in-Ok-clause-stands g c log same)
 
-pub returns-in-Ok-clause-kept : goal.returns-in-Ok-clause-kept
-returns-in-Ok-clause-kept g c = λ log same _ left leaves. sym leaves ∙ returns-in-Ok-clause-stands g c log same
-
 pub returns-in-Ok-clause-due : goal.returns-in-Ok-clause-due
 returns-in-Ok-clause-due g c = λ log same r. rw (c.in-Ok.ensures.ok, ← c.self.view_is) (due-known c.args.realm.now c.self.inside.known.items r c.self.invariant.names)

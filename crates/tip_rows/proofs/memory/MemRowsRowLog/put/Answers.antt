@@ -16,6 +16,3 @@ returns-in-Ok-clause-stands g c = λ log same.
 
 pub returns-in-Ok-clause-stop : goal.returns-in-Ok-clause-stop
 returns-in-Ok-clause-stop g c = λ log same _ left leaves. inr (sym leaves ∙ returns-in-Ok-clause-stands g c log same)
-
-pub returns-in-Ok-clause-kept : goal.returns-in-Ok-clause-kept
-returns-in-Ok-clause-kept g c = λ log same _ left leaves. sym leaves ∙ returns-in-Ok-clause-stands g c log same

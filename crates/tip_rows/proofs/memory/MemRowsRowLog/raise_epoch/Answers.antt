@@ -18,9 +18,6 @@ returns-clause-stands g c = λ log same. rw c.raise_of.ensures (Shows-raised_nam
 pub returns-clause-stop : goal.returns-clause-stop
 returns-clause-stop g c = λ log same _ left leaves. inr (sym leaves ∙ returns-clause-stands g c log same)
 
-pub returns-clause-kept : goal.returns-clause-kept
-returns-clause-kept g c = λ log same _ left leaves. sym leaves ∙ returns-clause-stands g c log same
-
 pub returns-clause-no_end : goal.returns-clause-no_end
 returns-clause-no_end g c = λ log same _ at.
     let ended : epoch_in c.deref.result.now c.args.realm.now ≡ Some (pos last_epoch) = rw c.deref.ensures.value (ap (λ (l : Log). l.epochs c.args.realm.now) (ap log_of c.self.view_is ∙ c.take_due.ensures.log ∙ same) ∙ at) in

@@ -21,9 +21,6 @@ returns-clause-stands g c = λ log same. rw c.raise_each.ensures (Shows-raised_a
 pub returns-clause-stop : goal.returns-clause-stop
 returns-clause-stop g c = λ log same _ left leaves. inr (sym leaves ∙ returns-clause-stands g c log same)
 
-pub returns-clause-kept : goal.returns-clause-kept
-returns-clause-kept g c = λ log same _ left leaves. sym leaves ∙ returns-clause-stands g c log same
-
 pub returns-clause-no_end : goal.returns-clause-no_end
 returns-clause-no_end g c = λ log same _ realm at.
     let known = c.self.inside.known.items in

@@ -12,6 +12,3 @@ returns-clause-stands g c = λ log same. rw c.remove_from.ensures (Shows-removed
 
 pub returns-clause-stop : goal.returns-clause-stop
 returns-clause-stop g c = λ log same _ left leaves. inr (sym leaves ∙ returns-clause-stands g c log same)
-
-pub returns-clause-kept : goal.returns-clause-kept
-returns-clause-kept g c = λ log same _ left leaves. sym leaves ∙ returns-clause-stands g c log same

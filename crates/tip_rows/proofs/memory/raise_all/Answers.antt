@@ -1,7 +1,0 @@
-use Rattle.std.proofs.Common.{arith}
-use Rattle.std.proofs.lemmas.List.Edits.{map_over_more}
-use Rattle.tip_rows.specs.Memory.{raised_known}
-use Rattle.tip_rows.proofs.memory.raise_all.Goals as goal
-
-pub loop-k-preserved : goal.loop-k-preserved
-loop-k-preserved c = rw (c.raise_one.ensures, ← c.k-item.is) (map_over_more raised_known c.args.known.now c.loop-k.k-items c.loop-k.k-index c.k-item.result (omega arith) c.loop-k.invariant c.k-item.is)

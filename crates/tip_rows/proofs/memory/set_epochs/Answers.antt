@@ -1,7 +1,0 @@
-use Rattle.std.proofs.Common.{arith}
-use Rattle.std.proofs.lemmas.List.Edits.{map_over_more}
-use Rattle.tip_rows.specs.Memory.{epoch_named}
-use Rattle.tip_rows.proofs.memory.set_epochs.Goals as goal
-
-pub loop-k-preserved : goal.loop-k-preserved
-loop-k-preserved c = rw (c.set_epoch.ensures, ← c.k-item.is) (map_over_more (epoch_named c.args.realm.now c.args.epoch) c.args.known.now c.loop-k.k-items c.loop-k.k-index c.k-item.result (omega arith) c.loop-k.invariant c.k-item.is)
