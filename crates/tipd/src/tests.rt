@@ -1,6 +1,5 @@
 //! Scripts of what the first commands refuse, of realms interleaved, and of input and output that fail.
 use super::*;
-use crate::play::play;
 use std::alloc::Global;
 use std::io::{Read, Write};
 use std::test::Fail;
