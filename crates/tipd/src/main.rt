@@ -58,6 +58,3 @@ fn obey(rt: &HostRuntime) -> ExitCode {
 fn main(rt: HostRuntime) -> io::Result<ExitCode> {
     Ok(obey(&rt))
 }
-
-#[cfg(test)]
-mod tests;

@@ -1,72 +1,92 @@
-//! Scripts of what the first commands refuse, of realms interleaved, and of input and output that fail.
+//! Long scripts, and input and output that are slow or fail.
 use super::*;
-use crate::play::play;
 use std::alloc::Global;
-use std::io::{Read, Write};
+use std::io::{Error, ErrorKind, Read};
 use std::test::Fail;
+use tip_play::{PlayFault, play};
 
-/// What a script prints, and how it ends.
-fn played(alloc: Global, script: &[u8]) -> Result<(Vec<u8>, Result<(), PlayFault>), Fail> {
-    let mut input = script;
-    let mut output = Vec::new(alloc);
-    let end = play(alloc, &mut input, &mut output);
-    Ok((output, end))
+const START: &[u8] =
+    b"realm north n.x 8 8 1 8 10000000\nopen north -\nline north 1 IDENTIFY 3 3 - -\n";
+
+const STARTED: &[u8] = b"north epoch 1\nnorth 1 open\nnorth 1 say IDENTIFIED 3\n";
+
+/// The exit status of an end, and the text on standard error.
+fn said(alloc: Global, end: Result<(), PlayFault>) -> Result<(u8, String), Fail> {
+    match end {
+        Ok(()) => Ok((0, String::new(alloc))),
+        Err(fault) => Ok((fault.status(), format!(in alloc; "{fault}")?)),
+    }
+}
+
+/// A text, and then another so many times.
+fn repeated(alloc: Global, front: &[u8], again: &[u8], times: u32) -> Result<Vec<u8>, Fail> {
+    let mut octets = Vec::new(alloc);
+    octets.extend_from_slice(front)?;
+    for _ in 0..times {
+        octets.extend_from_slice(again)?;
+    }
+    Ok(octets)
 }
 
 #[test]
-fn each_refusal_has_its_number(rt: HostRuntime) -> Result<(), Fail> {
-    let script =
-        b"realm north n.x 1 8 1 8 4\nopen west -\nopen north -\nopen north -\nlost north 1\nlost north 1\nopen north -\n";
-    let (output, end) = played(rt.alloc(), script)?;
-    assert_eq!(rt;
-        output.as_slice(),
-        b"north epoch 1\nwest refused 20 NoRealm\nnorth 1 open\nnorth refused 21 Full\nnorth refused 22 Stale\nnorth refused 24 Frozen\n".as_slice()
-    );
-    assert_eq!(rt; end, Ok(()));
-    Ok(())
-}
-
-#[test]
-fn realms_that_are_interleaved_answer_as_alone(rt: HostRuntime) -> Result<(), Fail> {
-    let script =
-        b"realm north n.x 8 8 1 8 100\nrealm south s.x 8 8 1 8 100\nopen south -\nopen north -\nline north 1 IDENTIFY 4 5 - -\nline south 1 IDENTIFY 1 9 - -\nopen north -\nline south 1 QUERY north-1-1-1\nline north 2 TLS\nraw south 1 07\n";
-    let (output, end) = played(rt.alloc(), script)?;
-    assert_eq!(rt;
-        output.as_slice(),
-        b"north epoch 1\nsouth epoch 1\nsouth 1 open\nnorth 1 open\nnorth 1 say ERROR\nnorth 1 close\nsouth 1 say IDENTIFIED 3\nnorth 2 open\nsouth 1 say QUERIEDNOTFOUND\nnorth 2 say CANTTLS\nsouth 1 say ERROR\nsouth 1 close\n".as_slice()
-    );
-    assert_eq!(rt; end, Ok(()));
-    Ok(())
-}
-
-#[test]
-fn a_line_behind_a_closing_is_not_read(rt: HostRuntime) -> Result<(), Fail> {
-    let script =
-        b"realm north n.x 8 8 1 8 100\nopen north -\nraw north 1 5741540a544c530a\nline north 1 TLS\n";
-    let (output, end) = played(rt.alloc(), script)?;
-    assert_eq!(rt;
-        output.as_slice(),
-        b"north epoch 1\nnorth 1 open\nnorth 1 say ERROR\nnorth 1 close\nnorth refused 22 Stale\n".as_slice()
-    );
-    assert_eq!(rt; end, Ok(()));
-    Ok(())
-}
-
-#[test]
-fn a_line_that_is_not_understood_ends_the_script(rt: HostRuntime) -> Result<(), Fail> {
-    let (output, end) = played(
+fn a_script_of_over_a_million_octets_is_played(rt: HostRuntime) -> Result<(), Fail> {
+    let script = repeated(
         rt.alloc(),
-        b"realm north n.x 8 8 1 8 100\n\nline north 1 x\nopen north -\n",
+        START,
+        b"line north 1 QUERY north-1-1-1\n",
+        40_000,
     )?;
-    assert_eq!(rt; output.as_slice(), b"north epoch 1\n".as_slice());
-    assert_eq!(rt; end, Err(PlayFault::Script { line: 3 }));
-    let (output, end) = played(rt.alloc(), b"realm north n.x 8 8 1 8 100\nwat")?;
-    assert!(rt; output.is_empty());
-    assert_eq!(rt; end, Err(PlayFault::Script { line: 2 }));
+    assert!(rt; script.len() > 1_000_000);
+    let mut output = Vec::new(rt.alloc());
+    let end = play(rt.alloc(), &mut script.as_slice(), &mut output);
+    assert_eq!(rt; end, Ok(()));
+    assert!(rt;
+        output
+            == repeated(
+                rt.alloc(),
+                STARTED,
+                b"north 1 say QUERIEDNOTFOUND\n",
+                40_000
+            )?
+    );
     Ok(())
 }
 
-/// Writes so many times, and then no more, nor does it flush.
+/// Takes one octet at a time.
+#[derive(Drop)]
+struct Slow {
+    octets: Vec<u8>,
+}
+
+impl Write for Slow {
+    fn write(&mut self, octets: &[u8]) -> io::Result<usize> {
+        match octets {
+            [octet, ..] => {
+                self.octets.push(*octet)?;
+                Ok(1)
+            }
+            [] => Ok(0),
+        }
+    }
+
+    fn flush(&mut self) -> io::Result<()> {
+        Ok(())
+    }
+}
+
+#[test]
+fn a_writer_may_take_one_octet_at_a_time(rt: HostRuntime) -> Result<(), Fail> {
+    let mut output = Slow {
+        octets: Vec::new(rt.alloc()),
+    };
+    let mut script = START;
+    let end = play(rt.alloc(), &mut script, &mut output);
+    assert_eq!(rt; end, Ok(()));
+    assert_eq!(rt; output.octets.as_slice(), STARTED);
+    Ok(())
+}
+
+/// Takes so many writes, and then neither writes nor flushes.
 #[derive(Drop)]
 struct Failing {
     writes: u32,
@@ -75,7 +95,7 @@ struct Failing {
 impl Write for Failing {
     fn write(&mut self, octets: &[u8]) -> io::Result<usize> {
         if self.writes == 0 {
-            return Err(io::Error::from(io::ErrorKind::BrokenPipe));
+            return Err(Error::from(ErrorKind::BrokenPipe));
         }
         self.writes -= 1;
         Ok(octets.len())
@@ -83,7 +103,7 @@ impl Write for Failing {
 
     fn flush(&mut self) -> io::Result<()> {
         if self.writes == 0 {
-            return Err(io::Error::from(io::ErrorKind::BrokenPipe));
+            return Err(Error::from(ErrorKind::BrokenPipe));
         }
         Ok(())
     }
@@ -91,31 +111,57 @@ impl Write for Failing {
 
 #[test]
 fn output_that_fails_ends_the_script(rt: HostRuntime) -> Result<(), Fail> {
-    let script = b"realm north n.x 8 8 1 8 100\nopen north -\nopen north -\n";
-    let mut output = Failing { writes: 1 };
-    let end = play(rt.alloc(), &mut script.as_slice(), &mut output);
-    assert_eq!(rt; end, Err(PlayFault::Write));
-    let mut output = Failing { writes: 2 };
-    let end = play(rt.alloc(), &mut script.as_slice(), &mut output);
-    assert_eq!(rt; end, Err(PlayFault::Write));
+    for writes in 0..2 {
+        let mut output = Failing { writes };
+        let mut script = START;
+        let end = play(rt.alloc(), &mut script, &mut output);
+        let (status, text) = said(rt.alloc(), end)?;
+        assert_eq!(rt; status, 1);
+        assert_eq!(rt; text.as_str(), "cannot write");
+    }
     Ok(())
 }
 
-/// Input that fails at once.
+#[test]
+fn output_that_is_not_flushed_is_a_fault(rt: HostRuntime) -> Result<(), Fail> {
+    let mut output = Failing { writes: 2 };
+    let mut script = START;
+    let end = play(rt.alloc(), &mut script, &mut output);
+    let (status, text) = said(rt.alloc(), end)?;
+    assert_eq!(rt; status, 1);
+    assert_eq!(rt; text.as_str(), "cannot write");
+    Ok(())
+}
+
+/// Gives what it has, and then fails.
 #[derive(Drop)]
-struct Broken;
+struct Broken {
+    piece: &'static [u8],
+}
 
 impl Read for Broken {
-    fn read(&mut self, _: &mut [u8]) -> io::Result<usize> {
-        Err(io::Error::from(io::ErrorKind::Other))
+    fn read(&mut self, buffer: &mut [u8]) -> io::Result<usize> {
+        if self.piece.is_empty() {
+            return Err(Error::from(ErrorKind::Other));
+        }
+        let len = self.piece.read(buffer)?;
+        Ok(len)
     }
 }
 
 #[test]
 fn input_that_fails_ends_the_script(rt: HostRuntime) -> Result<(), Fail> {
     let mut output = Vec::new(rt.alloc());
-    let end = play(rt.alloc(), &mut Broken, &mut output);
-    assert_eq!(rt; end, Err(PlayFault::Read));
+    let end = play(rt.alloc(), &mut Broken { piece: b"" }, &mut output);
+    let (status, text) = said(rt.alloc(), end)?;
+    assert_eq!(rt; status, 1);
+    assert_eq!(rt; text.as_str(), "cannot read");
     assert!(rt; output.is_empty());
+    let mut output = Vec::new(rt.alloc());
+    let end = play(rt.alloc(), &mut Broken { piece: START }, &mut output);
+    let (status, text) = said(rt.alloc(), end)?;
+    assert_eq!(rt; status, 1);
+    assert_eq!(rt; text.as_str(), "cannot read");
+    assert_eq!(rt; output.as_slice(), STARTED);
     Ok(())
 }
