@@ -1,6 +1,6 @@
 -- The realms of a scene, and the code's values that stand for them.
 use Rattle.std.proofs.Common.{◌≡◌, ◌≢◌, ◌+◌, ◌<◌, ◌≤◌, ◌++◌, ◌∷◌, [], ℕ, suc, zero, List, Bool, true, false, not, ◌==◌, Option, Some, None, length, get_or, arith, refl, sym, ap, ◌∙◌, subst}
-use Rattle.std.specs.Prelude.{Result, Ok, Err, OnOk, slice_get, slice_set, is_some, is_none, if◌then◌else◌}
+use Rattle.std.specs.Prelude.{slice_get, slice_set, is_some, is_none, if◌then◌else◌}
 use Rattle.std.specs.List.{position_or_len}
 use Rattle.std.specs.Str.{bytes_eq}
 use Rattle.std.proofs.lemmas.Bool.{false≢true}
@@ -17,10 +17,10 @@ use Rattle.tip_machine.specs.Types.{Answer}
 use Rattle.tip_machine.specs.declared.event.Event.TheVariants as event
 use Rattle.tip_machine.specs.declared.event.Outcome.TheVariants.{NoChange}
 use Rattle.tip_play.specs.Printing.{answer_text, refusal_text}
-use Rattle.tip_play.specs.declared.playing.Place.{Place}
-use Rattle.tip_line.specs.Reading.{items_of}
-use Rattle.tip_play.specs.Scenes.{Acting, Scene, Reading, Done, takes, feeds, loses, opens, opens_at, on_acting, on_reading, with_done, with_opened, place_of, is_named, lines_of}
-use Rattle.tip_play.specs.Standing.{gives, AreReadings, IsReading, IsActing, IsScene, IsMoved, IsGiven, IsFound, StandsAt, Owes, TakesAll, has_name}
+use Rattle.tip_line.specs.Reading.{Item, items_of}
+use Rattle.tip_machine.specs.States.{State}
+use Rattle.tip_play.specs.Scenes.{Acting, Scene, Reading, Done, Moved, fault, takes, feeds, loses, opens, opens_at, on_acting, on_connection, on_reading, with_done, with_opened, place_of, is_named, lines_of}
+use Rattle.tip_play.specs.Standing.{gives, AreReadings, IsReading, IsActing, IsScene, IsMoved, IsGiven, Owes, TakesAll, has_name}
 use Rattle.tip_play.specs.declared.playing.Actor.{Actor}
 use Rattle.tip_play.specs.declared.reader.Reader.{Reader}
 
@@ -42,14 +42,6 @@ pub length_set : {X : Type 0} (xs : List X) (i : ℕ) (x : X) → length (slice_
 length_set [] i x = refl
 length_set (z ∷ xs) zero x = refl
 length_set (z ∷ xs) (suc i) x = ap suc (length_set xs i x)
-
--- of two lists of one length the same places are there
-pub there : {X Y : Type 0} (xs : List X) (ys : List Y) (i : ℕ) (y : Y) → length xs ≡ length ys → slice_get ys i ≡ Some y → slice_get xs i ≢ None
-there [] [] i y count is none = none-some y is
-there [] (z ∷ ys) i y count is none = absurd (omega arith)
-there (x ∷ xs) [] i y count is none = absurd (omega arith)
-there (x ∷ xs) (z ∷ ys) zero y count is none = none-some x (sym none)
-there (x ∷ xs) (z ∷ ys) (suc i) y count is none = there xs ys i y (omega arith) is none
 
 -- Readings
 
@@ -261,34 +253,69 @@ opened_nowhere core core' actors scene place answer printed printed' name is at 
 
 -- Where a connection stands
 
-pub no_realm_there : (core : Hosted) (actors : List Actor) (scene : Scene) (name : List ℕ) (connection place : ℕ) → IsScene core actors scene → place ≡ place_of name scene → length actors ≤ place → IsFound name connection scene None
-no_realm_there core actors scene name connection place is at behind = λ f.
-    let nobody : slice_get scene (place_of name scene) ≡ None = none_at scene (place_of name scene) (let count = is.count in omega arith) in
-    ap (λ a. on_acting f (place_of name scene) connection a scene) nobody
+-- the connection of this number is known by the place of its realm and the index of its reader
+record StandsAt (name : List ℕ) (connection : ℕ) (scene : Scene) (place index : ℕ) : Type 0 where
+  acting : Acting
+  reading : Reading
+  acts : slice_get scene place ≡ Some acting
+  reads : slice_get acting.readings index ≡ Some reading
+  named : (f : ℕ → Reading → Acting → Done) → on_connection f name connection scene ≡ with_done place (f index reading acting) scene
 
-pub not_given : (core : Hosted) (actors : List Actor) (scene : Scene) (name : List ℕ) (connection place index : ℕ) (actor : Actor) → IsScene core actors scene → place ≡ place_of name scene → slice_get actors place ≡ Some actor → length actor.readers.items ≤ index → connection ≡ suc index → IsFound name connection scene None
-not_given core actors scene name connection place index actor is at a behind number = λ f.
+stands_at : (core : Hosted) (actors : List Actor) (scene : Scene) (name : List ℕ) (connection place index : ℕ) (actor : Actor) (reader : Reader) → IsScene core actors scene → place ≡ place_of name scene → slice_get actors place ≡ Some actor → slice_get actor.readers.items index ≡ Some reader → connection ≡ suc index → StandsAt name connection scene place index
+stands_at core actors scene name connection place index actor reader is at a r number =
     let mate = partner actors scene place actor is.count a in
     let own = is.each place actor mate.0 a mate.1 in
-    let none : slice_get mate.0.readings index ≡ None = none_at mate.0.readings index (let count = readings_length actor.readers.items mate.0.readings own.readings in omega arith) in
-    ap (λ p. on_acting f p connection (slice_get scene p) scene) (sym at) ∙ ap (λ n. on_acting f place n (slice_get scene place) scene) number ∙ ap (λ x. on_acting f place (suc index) x scene) mate.1 ∙ ap (λ r. on_reading f place index r mate.0 scene) none
-
-pub stands_at : (core : Hosted) (actors : List Actor) (scene : Scene) (name : List ℕ) (connection : ℕ) (place : Place) (actor : Actor) (reader : Reader) → IsScene core actors scene → place.realm ≡ place_of name scene → slice_get actors place.realm ≡ Some actor → slice_get actor.readers.items place.reader ≡ Some reader → connection ≡ suc place.reader → StandsAt name connection scene place
-stands_at core actors scene name connection place actor reader is at a r number =
-    let mate = partner actors scene place.realm actor is.count a in
-    let own = is.each place.realm actor mate.0 a mate.1 in
-    let reading = partner actor.readers.items mate.0.readings place.reader reader (readings_length actor.readers.items mate.0.readings own.readings) r in
+    let reading = partner actor.readers.items mate.0.readings index reader (readings_length actor.readers.items mate.0.readings own.readings) r in
     record {
       acting = mate.0;
       reading = reading.0;
       acts = mate.1;
       reads = reading.1;
-      named = λ f. ap (λ p. on_acting f p connection (slice_get scene p) scene) (sym at) ∙ ap (λ n. on_acting f place.realm n (slice_get scene place.realm) scene) number ∙ ap (λ x. on_acting f place.realm (suc place.reader) x scene) mate.1 ∙ ap (λ x. on_reading f place.realm place.reader x mate.0 scene) reading.1;
+      named = λ f. ap (λ p. on_acting f p connection (slice_get scene p) scene) (sym at) ∙ ap (λ n. on_acting f place n (slice_get scene place) scene) number ∙ ap (λ x. on_acting f place (suc index) x scene) mate.1 ∙ ap (λ x. on_reading f place index x mate.0 scene) reading.1;
     }
 
-pub on_ok_each : {T E X : Type 0} (P Q : X → Type 0) (r : Result T E) → ((x : X) → P x → OnOk r (Q x)) → OnOk r ((x : X) → P x → Q x)
-on_ok_each P Q (Ok v) each = each
-on_ok_each P Q (Err e) each = tt
+-- it may not be named where the realm is not there, or has not given it
+pub no_realm_there : (core : Hosted) (actors : List Actor) (scene : Scene) (name : List ℕ) (connection place : ℕ) (f : ℕ → Reading → Acting → Done) → IsScene core actors scene → place ≡ place_of name scene → length actors ≤ place → on_connection f name connection scene ≡ fault
+no_realm_there core actors scene name connection place f is at behind =
+    let nobody : slice_get scene (place_of name scene) ≡ None = none_at scene (place_of name scene) (let count = is.count in omega arith) in
+    ap (λ a. on_acting f (place_of name scene) connection a scene) nobody
+
+pub not_given : (core : Hosted) (actors : List Actor) (scene : Scene) (name : List ℕ) (connection place index : ℕ) (actor : Actor) (f : ℕ → Reading → Acting → Done) → IsScene core actors scene → place ≡ place_of name scene → slice_get actors place ≡ Some actor → length actor.readers.items ≤ index → connection ≡ suc index → on_connection f name connection scene ≡ fault
+not_given core actors scene name connection place index actor f is at a behind number =
+    let mate = partner actors scene place actor is.count a in
+    let own = is.each place actor mate.0 a mate.1 in
+    let none : slice_get mate.0.readings index ≡ None = none_at mate.0.readings index (let count = readings_length actor.readers.items mate.0.readings own.readings in omega arith) in
+    ap (λ p. on_acting f p connection (slice_get scene p) scene) (sym at) ∙ ap (λ n. on_acting f place n (slice_get scene place) scene) number ∙ ap (λ x. on_acting f place (suc index) x scene) mate.1 ∙ ap (λ r. on_reading f place index r mate.0 scene) none
+
+-- a line may not stand here
+pub may_not : (moved : Moved) (printed : List ℕ) → moved ≡ fault → (moved.scene ≡ None) × (printed ≡ printed ++ moved.printed)
+may_not moved printed is = rw is (refl, sym (append-nil printed))
+
+-- octets come on a connection that was given
+pub fed_there : (core core' : Hosted) (actors : List Actor) (scene : Scene) (place index connection : ℕ) (actor actor' : Actor) (reader fed last : Reader) (octets printed printed' name : List ℕ) →
+    IsScene core actors scene → place ≡ place_of name scene → slice_get actors place ≡ Some actor → slice_get actor.readers.items index ≡ Some reader → connection ≡ suc index →
+    actor'.name ≡ actor.name → actor'.readers.items ≡ slice_set actor.readers.items index last → fed.seat ≡ reader.seat → ((more : List ℕ) → gives fed more ≡ gives reader (octets ++ more)) →
+    ((state : State) (items : List Item) (heard : List ℕ) → realm core place ≡ Some state → Owes fed items heard → TakesAll core core' place fed last printed printed' (takes actor.name fed.seat items state) heard) →
+    IsMoved core' (slice_set actors place actor') printed printed' (on_connection (feeds octets) name connection scene)
+fed_there core core' actors scene place index connection actor actor' reader later last octets printed printed' name is at a r number same_name same_readers seat feeds_so takes_all =
+    let st = stands_at core actors scene name connection place index actor reader is at a r number in
+    let own = is.each place actor st.acting a st.acts in
+    let was = reading_at actor.readers.items st.acting.readings index reader st.reading own.readings r st.reads in
+    let owes = fed reader later st.reading.heard octets was.1 feeds_so in
+    subst (IsMoved core' (slice_set actors place actor') printed printed') (sym (st.named (feeds octets)))
+    (fed_lines core core' actors scene place index actor actor' st.acting reader later last st.reading octets printed printed' actor.name is a st.acts r st.reads same_name same_readers refl seat
+    (takes_all st.acting.state (lines_of st.reading.heard octets) (st.reading.heard ++ octets) own.state_is owes))
+
+-- a connection that was given is lost
+pub lost_there : (core core' : Hosted) (actors : List Actor) (scene : Scene) (place index connection : ℕ) (actor actor' : Actor) (reader last : Reader) (answer : Answer) (printed printed' name : List ℕ) →
+    IsScene core actors scene → place ≡ place_of name scene → slice_get actors place ≡ Some actor → slice_get actor.readers.items index ≡ Some reader → connection ≡ suc index →
+    actor'.name ≡ actor.name → actor'.readers.items ≡ slice_set actor.readers.items index last → Steps core core' place (event.Lost reader.seat) NoChange answer → last.seat ≡ reader.seat →
+    ((more : List ℕ) → gives last more ≡ (if is_none answer.refusal then items_of more else gives reader more)) → printed' ≡ printed ++ answer_text actor.name answer →
+    IsMoved core' (slice_set actors place actor') printed printed' (on_connection loses name connection scene)
+lost_there core core' actors scene place index connection actor actor' reader last answer printed printed' name is at a r number same_name same_readers steps seat anew text =
+    let st = stands_at core actors scene name connection place index actor reader is at a r number in
+    subst (IsMoved core' (slice_set actors place actor') printed printed') (sym (st.named loses))
+    (lost_lines core core' actors scene place index actor actor' st.acting reader last st.reading answer printed printed' actor.name is a st.acts r st.reads same_name same_readers refl steps seat anew text)
 
 pub not_not : (b : Bool) → not (not b) ≡ b
 not_not true = refl

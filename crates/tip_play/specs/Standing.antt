@@ -6,14 +6,24 @@ use Rattle.tip_machine.specs.States.{State}
 use Rattle.tip_machine.specs.declared.event.Heard.{Heard}
 use Rattle.tip_machine.specs.declared.event.Seat.{Seat}
 use Rattle.tip_core.specs.Hosted.{Hosted, realm}
-use Rattle.tip_play.specs.Scenes.{Reading, Acting, Scene, Moved, Done, Taken, fault, on_connection, with_done, with_opened, said_by, lines_of}
+use Rattle.tip_play.specs.Scenes.{Reading, Acting, Scene, Moved, Done, Taken, feeds, loses, with_opened, said_by, lines_of}
+use Rattle.tip_script.specs.Fields.{octets_of}
 use Rattle.tip_play.specs.declared.playing.Actor.{Actor}
-use Rattle.tip_play.specs.declared.playing.Place.{Place}
+use Rattle.tip_play.specs.declared.playing.Happening.{Happening}
+use Rattle.tip_play.specs.declared.playing.Happening.TheVariants.{Octets, Loss}
 use Rattle.tip_play.specs.declared.reader.Reader.{Reader}
+use Rattle.tip_play.specs.declared.reader.Stream.{Stream}
+use Rattle.tip_play.specs.declared.reader.Stream.TheVariants.{Empty, Lines, Over}
+
+-- what a stream gives, where these octets are still to come
+abbrev pub given_of : Stream → List ℕ → List Item
+given_of Empty more = items_of more
+given_of (Lines lines) more = items_of (lines ++ more)
+given_of Over more = []
 
 -- what a reader gives, where these octets are still to come
 abbrev pub gives : Reader → List ℕ → List Item
-gives reader more = if reader.is_over then [] else items_of (reader.lines ++ more)
+gives reader more = given_of reader.stream more
 
 -- what a reader says next, and what it gives then
 abbrev pub Says : Reader → Option Heard → Reader → Type 0
@@ -68,18 +78,10 @@ pub record IsMoved (core : Hosted) (actors : List Actor) (printed printed' : Lis
   pub is : moved.scene ≡ Some scene
   pub stands : IsScene core actors scene
 
--- the connection of this number stands at that place
-pub record StandsAt (name : List ℕ) (connection : ℕ) (scene : Scene) (place : Place) : Type 0 where
-  pub acting : Acting
-  pub reading : Reading
-  pub acts : slice_get scene place.realm ≡ Some acting
-  pub reads : slice_get acting.readings place.reader ≡ Some reading
-  pub named : (f : ℕ → Reading → Acting → Done) → on_connection f name connection scene ≡ with_done place.realm (f place.reader reading acting) scene
-
--- where the connection of this number stands, or that the realm has not given it
-abbrev pub IsFound : List ℕ → ℕ → Scene → Option Place → Type 0
-IsFound name connection scene None = (f : ℕ → Reading → Acting → Done) → on_connection f name connection scene ≡ fault
-IsFound name connection scene (Some place) = StandsAt name connection scene place
+-- what happens to a connection
+abbrev pub happens : Happening → ℕ → Reading → Acting → Done
+happens (Octets octets) = feeds (octets_of octets)
+happens Loss = loses
 
 -- a realm has the reader of a connection more, if one was given
 pub record IsGiven (actors actors' : List Actor) (place : ℕ) (actor : Actor) (opened : Option Seat) : Type 0 where

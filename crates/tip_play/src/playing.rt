@@ -5,12 +5,13 @@ ghost use Rattle.tip_machine.specs.States.{State};
 ghost use Rattle.tip_machine.specs.declared.event.Outcome.TheVariants.{NoChange};
 ghost use Rattle.tip_line.specs.Reading.{Item};
 ghost use Rattle.std.specs.List.{position_or_len};
-ghost use Rattle.tip_script.specs.Fields.{octets_of};
 ghost use Rattle.tip_play.specs.declared.playing.Actor.{Actor};
 ghost use Rattle.tip_play.specs.Printing.{answer_text};
-ghost use Rattle.tip_play.specs.Scenes.{Acting, Reading, Scene, takes, opens_at, place_of, feeds, loses, with_done, with_opened};
-ghost use Rattle.tip_play.specs.Standing.{has_name, IsFound, IsGiven, IsMoved, IsScene, AreReadings, Owes, TakesAll};
+ghost use Rattle.tip_play.specs.Scenes.{Acting, Reading, Scene, takes, opens_at, on_connection, place_of, with_opened};
+ghost use Rattle.tip_play.specs.Stages.{Moves};
+ghost use Rattle.tip_play.specs.Standing.{has_name, happens, IsGiven, IsMoved, IsScene, AreReadings, Owes, TakesAll};
 
+use crate::fault::LineFault;
 use crate::printing::{print, print_refusal};
 use crate::reader::Reader;
 use std::alloc::{AllocError, Global};
@@ -24,7 +25,7 @@ use tip_script::Octets;
 #[derive(Drop)]
 pub struct Actor {
     pub name: Realm,
-    /// The reader of connection n stands at place n - 1.
+    /// The reader of connection n is the one at index n - 1.
     readers: Vec<Reader>,
 }
 
@@ -49,17 +50,17 @@ impl Actor {
         ensures { (actors : List Actor) (realm : ℕ) → slice_get actors realm ≡ Some self.old →
             OnOk result (IsGiven actors (slice_set actors realm self.new) realm self.old answer.now.opened × (string_bytes printed.new ≡ string_bytes printed.old ++ answer_text self.old.name answer.now)) }
     {
-        self.give(alloc, answer.opened)?;
+        self.give(answer.opened)?;
         print(printed, alloc, &self.name, answer)
     }
 
     /// A reader for the connection of this seat, if one was given.
-    fn give(&mut self, alloc: Global, opened: Option<Seat>) -> Result<(), AllocError>
+    fn give(&mut self, opened: Option<Seat>) -> Result<(), AllocError>
         ensures name { self.new.name ≡ self.old.name }
         ensures readings { (readings : List Reading) → AreReadings self.old.readers.items readings → OnOk result (AreReadings self.new.readers.items (with_opened opened readings)) }
     {
         if let Some(seat) = opened {
-            self.readers.push(Reader::new(alloc, seat)?)?;
+            self.readers.push(Reader::new(seat))?;
         }
         Ok(())
     }
@@ -74,11 +75,13 @@ pub struct Playing<C = Core, B = HeldFresh> {
     actors: Vec<Actor>,
 }
 
-/// One connection that a realm has given.
+/// What happens to a connection.
 #[derive(Clone, Copy, Debug)]
-pub struct Place {
-    realm: usize,
-    reader: usize,
+pub enum Happening<'a> {
+    /// Octets come.
+    Octets(Octets<'a>),
+    /// It is lost.
+    Loss,
 }
 
 impl Playing<Core, HeldFresh> {
@@ -112,66 +115,46 @@ impl Playing<Core, HeldFresh> {
         }
     }
 
-    /// Where a connection's reader is; None where the realm has not given it.
-    pub fn find(&self, name: &str, connection: u32) -> Option<Place>
-        ensures { (scene : Scene) → IsScene self.now.core self.now.actors.items scene → IsFound name.now connection scene result }
+    /// Something happens to the connection of this number: the lines that octets end are taken, or what was read is gone.
+    /// `NotUnderstood` where the realm has not given it.
+    pub fn on_connection(
+        &mut self,
+        alloc: Global,
+        name: &str,
+        connection: u32,
+        happening: Happening<'_>,
+        printed: &mut String,
+    ) -> Result<(), LineFault>
+        ensures { (scene : Scene) → IsScene self.old.core self.old.actors.items scene →
+            Moves self.new.core self.new.actors.items (string_bytes printed.old) (string_bytes printed.new) (on_connection (happens happening.entry) name.now connection scene) result }
     {
         let realm = self.realm_named(name);
-        let reader = (connection as usize).checked_sub(1)?;
-        self.actors.get(realm)?.readers.get(reader)?;
-        Some(Place { realm, reader })
-    }
-
-    /// Octets come on a connection, and the lines that they end are taken.
-    pub fn feed(
-        &mut self,
-        alloc: Global,
-        place: Place,
-        octets: Octets<'_>,
-        printed: &mut String,
-    ) -> Result<(), AllocError>
-        ensures { (scene : Scene) (acting : Acting) (reading : Reading) → IsScene self.old.core self.old.actors.items scene → slice_get scene place.realm ≡ Some acting → slice_get acting.readings place.reader ≡ Some reading →
-            OnOk result (IsMoved self.new.core self.new.actors.items (string_bytes printed.old) (string_bytes printed.new) (with_done place.realm (feeds (octets_of octets.entry) place.reader reading acting) scene)) }
-    {
         let Playing {
             core,
             no_boxes: _,
             actors,
         } = self;
-        let Some(actor) = actors.get_mut(place.realm) else {
-            return Ok(());
+        let Some(actor) = actors.get_mut(realm) else {
+            return Err(LineFault::NotUnderstood);
         };
-        let Some(reader) = actor.readers.get_mut(place.reader) else {
-            return Ok(());
+        let Some(index) = (connection as usize).checked_sub(1) else {
+            return Err(LineFault::NotUnderstood);
         };
-        reader.feed(octets)?;
-        take_lines(core, alloc, place.realm, &actor.name, reader, printed)
-    }
-
-    /// A connection is lost.
-    pub fn lose(
-        &mut self,
-        alloc: Global,
-        place: Place,
-        printed: &mut String,
-    ) -> Result<(), AllocError>
-        ensures { (scene : Scene) (acting : Acting) (reading : Reading) → IsScene self.old.core self.old.actors.items scene → slice_get scene place.realm ≡ Some acting → slice_get acting.readings place.reader ≡ Some reading →
-            OnOk result (IsMoved self.new.core self.new.actors.items (string_bytes printed.old) (string_bytes printed.new) (with_done place.realm (loses place.reader reading acting) scene)) }
-    {
-        let Playing {
-            core,
-            no_boxes: _,
-            actors,
-        } = self;
-        let Some(actor) = actors.get_mut(place.realm) else {
-            return Ok(());
+        let Some(reader) = actor.readers.get_mut(index) else {
+            return Err(LineFault::NotUnderstood);
         };
-        let Some(reader) = actor.readers.get_mut(place.reader) else {
-            return Ok(());
-        };
-        let answer = step(core, alloc, place.realm, Event::Lost { seat: reader.seat })?;
-        reader.restart_if(alloc, answer.refusal.is_none())?;
-        print(printed, alloc, &actor.name, &answer)
+        match happening {
+            Happening::Octets(octets) => {
+                reader.feed(alloc, octets)?;
+                take_lines(core, alloc, realm, &actor.name, reader, printed)?;
+            }
+            Happening::Loss => {
+                let answer = step(core, alloc, realm, Event::Lost { seat: reader.seat })?;
+                reader.restart_if(answer.refusal.is_none());
+                print(printed, alloc, &actor.name, &answer)?;
+            }
+        }
+        Ok(())
     }
 
     /// The place of a realm; one behind all realms where it is not declared.
@@ -210,7 +193,7 @@ fn take_lines(
         let answer = step(core, alloc, realm, Event::Line { seat, heard })?;
         print(printed, alloc, name, &answer)?;
         if answer.closes(seat.number) {
-            reader.restart(alloc)?;
+            reader.restart();
             return Ok(());
         }
     }

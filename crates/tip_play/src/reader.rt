@@ -1,48 +1,60 @@
-//! What reads the text that comes on one connection of a script.
+//! What comes on the connections of a script.
 ghost use Rattle.std.specs.Prelude.{◌≡◌, ℕ, List, ◌++◌, IfOk, OnOk, if◌then◌else◌};
 ghost use Rattle.tip_script.specs.Fields.{octets_of};
 ghost use Rattle.tip_script.specs.Scripts.{octets_in};
 ghost use Rattle.tip_play.specs.Standing.{gives, Says};
 ghost use Rattle.tip_line.specs.Reading.{items_of};
 
+use hex::FromHexError;
 use std::alloc::{AllocError, Global};
 use tip_line::{Line, Lines};
 use tip_machine::{Heard, Seat};
-use tip_script::{Octets, value_of};
+use tip_script::Octets;
 
-/// The reader of a connection. Where its connection has failed, what was read is gone, and a fresh reader
-/// takes what still comes.
+/// The reader of a connection. Where its connection has failed, what was read is gone, and the reader takes afresh what
+/// still comes.
 #[derive(Drop)]
 pub struct Reader {
     pub seat: Seat,
-    lines: Lines,
-    /// A fault was read, behind which no line is.
-    is_over: bool,
+    stream: Stream,
+}
+
+/// What has come on a connection.
+#[derive(Drop)]
+enum Stream {
+    /// Nothing since the connection was given or failed. No memory is held.
+    Empty,
+    /// What was not yet taken.
+    Lines(Lines),
+    /// A fault, behind which no line is.
+    Over,
 }
 
 impl Reader {
-    pub fn new(alloc: Global, seat: Seat) -> Result<Reader, AllocError>
-        ensures seat { IfOk result (λ reader. reader.seat ≡ seat) }
-        ensures gives { IfOk result (λ reader. (more : List ℕ) → gives reader more ≡ items_of more) }
+    pub fn new(seat: Seat) -> Reader
+        ensures seat { result.seat ≡ seat }
+        ensures gives { (more : List ℕ) → gives result more ≡ items_of more }
     {
-        Ok(Reader {
+        Reader {
             seat,
-            lines: Lines::new(alloc)?,
-            is_over: false,
-        })
+            stream: Stream::Empty,
+        }
     }
 
     /// Octets come.
-    pub fn feed(&mut self, octets: Octets<'_>) -> Result<(), AllocError>
+    pub fn feed(&mut self, alloc: Global, octets: Octets<'_>) -> Result<(), AllocError>
         ensures seat { self.new.seat ≡ self.old.seat }
         ensures gives { OnOk result ((more : List ℕ) → gives self.new more ≡ gives self.old (octets_of octets.entry ++ more)) }
     {
-        match octets {
-            Octets::Text(text) => {
-                self.lines.feed(text)?;
-                self.lines.feed(b"\n")
+        match &mut self.stream {
+            Stream::Empty => {
+                let mut lines = Lines::new(alloc)?;
+                feed_octets(&mut lines, alloc, octets)?;
+                self.stream = Stream::Lines(lines);
+                Ok(())
             }
-            Octets::Hex(digits) => feed_pairs(&mut self.lines, digits),
+            Stream::Lines(lines) => feed_octets(lines, alloc, octets),
+            Stream::Over => Ok(()),
         }
     }
 
@@ -51,46 +63,58 @@ impl Reader {
         ensures seat { self.new.seat ≡ self.old.seat }
         ensures says { IfOk result (λ heard. Says self.old heard self.new) }
     {
-        if self.is_over {
+        let Stream::Lines(lines) = &mut self.stream else {
             return Ok(None);
-        }
-        match self.lines.next() {
+        };
+        match lines.next() {
             Some(Line::Text(text)) => Ok(Some(Heard::of(alloc, text)?)),
             Some(Line::Bad(_)) => {
-                self.is_over = true;
+                self.stream = Stream::Over;
                 Ok(Some(Heard::Malformed))
             }
             None => Ok(None),
         }
     }
 
-    /// The connection failed: what was read is gone.
-    pub fn restart(&mut self, alloc: Global) -> Result<(), AllocError>
+    /// The connection failed: what was read is gone, and its memory.
+    pub fn restart(&mut self)
         ensures seat { self.new.seat ≡ self.old.seat }
-        ensures gives { OnOk result ((more : List ℕ) → gives self.new more ≡ items_of more) }
+        ensures gives { (more : List ℕ) → gives self.new more ≡ items_of more }
     {
-        self.lines = Lines::new(alloc)?;
-        self.is_over = false;
-        Ok(())
+        self.stream = Stream::Empty;
     }
 
     /// The same, where the connection failed.
-    pub fn restart_if(&mut self, alloc: Global, failed: bool) -> Result<(), AllocError>
+    pub fn restart_if(&mut self, failed: bool)
         ensures seat { self.new.seat ≡ self.old.seat }
-        ensures gives { OnOk result ((more : List ℕ) → gives self.new more ≡ (if failed then items_of more else gives self.old more)) }
+        ensures gives { (more : List ℕ) → gives self.new more ≡ (if failed then items_of more else gives self.old more) }
     {
-        if failed { self.restart(alloc) } else { Ok(()) }
+        if failed {
+            self.restart();
+        }
     }
 }
 
-/// Feeds the octet of each pair of hexadecimal digits.
-fn feed_pairs(lines: &mut Lines, digits: &[u8]) -> Result<(), AllocError>
+/// Feeds octets that come.
+fn feed_octets(lines: &mut Lines, alloc: Global, octets: Octets<'_>) -> Result<(), AllocError>
+    ensures { OnOk result (lines.new ≡ lines.old ++ octets_of octets.entry) }
+{
+    match octets {
+        Octets::Text(text) => {
+            lines.feed(text)?;
+            lines.feed(b"\n")
+        }
+        Octets::Hex(digits) => feed_hex(lines, alloc, digits),
+    }
+}
+
+/// Feeds the octets that pairs of hexadecimal digits say; none where these are no pairs of digits.
+fn feed_hex(lines: &mut Lines, alloc: Global, digits: &[u8]) -> Result<(), AllocError>
     ensures { OnOk result (lines.new ≡ lines.old ++ octets_in digits.now) }
 {
-    let mut rest = digits;
-    while let [high, low, more @ ..] = rest {
-        lines.feed(&[value_of(*high) * 16 + value_of(*low)])?;
-        rest = more;
+    match hex::decode(alloc, digits) {
+        Ok(octets) => lines.feed(&octets),
+        Err(FromHexError::OutOfMemory) => Err(AllocError),
+        Err(_) => Ok(()),
     }
-    Ok(())
 }

@@ -9,7 +9,7 @@ ghost use Rattle.tip_play.specs.Transcripts.{Stage as AStage, Declaring as Begin
 
 use crate::declared::Declared;
 use crate::fault::LineFault;
-use crate::playing::Playing;
+use crate::playing::{Happening, Playing};
 use std::alloc::{AllocError, Global};
 use tip_branch::HeldFresh;
 use tip_core::Core;
@@ -110,13 +110,12 @@ fn play(
             realm,
             connection,
             octets,
-        } => match playing.find(realm, connection) {
-            Some(place) => Ok(playing.feed(alloc, place, octets, printed)?),
-            None => Err(LineFault::NotUnderstood),
-        },
-        Instruction::Lost { realm, connection } => match playing.find(realm, connection) {
-            Some(place) => Ok(playing.lose(alloc, place, printed)?),
-            None => Err(LineFault::NotUnderstood),
-        },
+        } => {
+            let octets = Happening::Octets(octets);
+            playing.on_connection(alloc, realm, connection, octets, printed)
+        }
+        Instruction::Lost { realm, connection } => {
+            playing.on_connection(alloc, realm, connection, Happening::Loss, printed)
+        }
     }
 }

@@ -1,7 +1,9 @@
 -- The lines of a script. Their fields stand between single spaces, and a line that is empty says nothing.
-use Rattle.std.specs.Prelude.{ℕ, ◌+◌, ◌-◌, ◌*◌, ◌%◌, ◌==◌, List, [], ◌∷◌, ◌++◌, length, Bool, ◌&&◌, ◌||◌, nat_le, Option, Some, None, codes, if◌then◌else◌}
+use Rattle.std.specs.Prelude.{ℕ, ◌%◌, ◌==◌, List, [], ◌∷◌, ◌++◌, length, Bool, ◌&&◌, ◌||◌, nat_le, Option, Some, None, Result, Ok, Err, codes, if◌then◌else◌}
 use Rattle.std.specs.List.{list_all, slice_split, join_with_byte}
 use Rattle.std.specs.Str.{bytes_eq}
+use Rattle.hex.specs.Hex.{decode_of}
+use Rattle.hex.specs.declared.error.FromHexError.{FromHexError}
 use Rattle.tip_line.specs.Ids.{number_in}
 use Rattle.tip_line.specs.Octets.{is_space}
 use Rattle.tip_line.specs.Words.{is_realm, has_octets}
@@ -48,13 +50,13 @@ is_digit octet = is_decimal octet || is_letter octet
 abbrev pub is_hex : List ℕ → Bool
 is_hex digits = has_octets digits && (length digits % 2 == 0) && list_all is_digit digits
 
-abbrev pub value_of : ℕ → ℕ
-value_of digit = if is_decimal digit then digit - 48 else if is_letter digit then digit - 87 else 0
+abbrev pub decoded : Result (List ℕ) FromHexError → List ℕ
+decoded (Ok octets) = octets
+decoded (Err why) = []
 
 -- the octets that the pairs say
 abbrev pub octets_in : List ℕ → List ℕ
-octets_in (high ∷ low ∷ digits) = (value_of high * 16 + value_of low) ∷ octets_in digits
-octets_in digits = []
+octets_in digits = decoded (decode_of digits)
 
 -- The forms of a line, by the fields behind its first word
 

@@ -1,8 +1,8 @@
 //! The lines of a script.
-ghost use Rattle.std.specs.Prelude.{◌≡◌, ◌<◌, option_map};
+ghost use Rattle.std.specs.Prelude.{◌≡◌, option_map};
 ghost use Rattle.std.specs.List.{list_all};
 ghost use Rattle.tip_script.specs.Fields.{left_in, move_by};
-ghost use Rattle.tip_script.specs.Scripts.{is_digit, is_hex, value_of, limits_in, declaration, opening, text_line, hex_octets, loss, move_of};
+ghost use Rattle.tip_script.specs.Scripts.{is_digit, is_hex, limits_in, declaration, opening, text_line, hex_octets, loss, move_of};
 
 use crate::fields::{Fields, number_in, realm_in};
 use tip_machine::Limits;
@@ -160,16 +160,4 @@ fn are_digits(octets: &[u8]) -> bool
     octets
         .iter()
         .all(|octet| matches!(*octet, b'0'..=b'9' | b'a'..=b'f'))
-}
-
-/// The value of a hexadecimal digit; 0 of any other octet.
-pub fn value_of(digit: u8) -> u8
-    ensures is { result ≡ value_of digit }
-    ensures small { result < 16 }
-{
-    match digit {
-        b'0'..=b'9' => digit - b'0',
-        b'a'..=b'f' => digit - b'a' + 10,
-        _ => 0,
-    }
 }

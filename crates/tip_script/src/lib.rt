@@ -4,5 +4,4 @@
 mod fields;
 mod instruction;
 
-pub use fields::{Fields, number_in, realm_in};
-pub use instruction::{Instruction, Octets, value_of};
+pub use instruction::{Instruction, Octets};

@@ -25,7 +25,7 @@ pub returns-then-closes : goal.returns-then-closes
 returns-then-closes g c = λ state items heard is owes.
     subst (λ p. TakesAll c.args.core.now c.step.new.core c.args.realm c.args.reader.now c.restart.new.self (string_bytes c.args.printed.now) p (takes c.args.name.now c.args.reader.now.seat items state) heard) (sym c.in_ok-print.ensures)
     (goes_closed c.args.core.now c.loop-heard.core c.step.new.core c.args.realm c.args.reader.now c.loop-heard.reader c.next.new.self c.restart.new.self (string_bytes c.args.printed.now) (string_bytes c.loop-heard.printed) c.args.name.now items heard state c.in-Some.heard c.in_ok-answer.answer
-    (c.loop-heard.invariant state items heard is owes) (subst (λ h. Says c.loop-heard.reader h c.next.new.self) c.in-Some.is c.in_ok-heard.ensures.says) c.in_ok-heard.ensures.seat c.in_ok-restart.ensures.seat c.in_ok-answer.ensures (sym c.closes.ensures ∙ c.if-closes.true) c.in_ok-restart.ensures.gives)
+    (c.loop-heard.invariant state items heard is owes) (subst (λ h. Says c.loop-heard.reader h c.next.new.self) c.in-Some.is c.in_ok-heard.ensures.says) c.in_ok-heard.ensures.seat c.restart.ensures.seat c.in_ok-answer.ensures (sym c.closes.ensures ∙ c.if-closes.true) c.restart.ensures.gives)
 
 pub returns : goal.returns
 returns g c = λ state items heard is owes.

@@ -7,4 +7,4 @@ use Rattle.tip_play.proofs.playing.Actor.give.Goals as goal
 pub returns-in_ok-push-clause-readings : goal.returns-in_ok-push-clause-readings
 returns-in_ok-push-clause-readings c = λ readings are.
     rw c.in-Some.is (subst (λ items. AreReadings items (readings ++ record { seat = c.in-Some.seat; heard = [] } ∷ [])) (sym c.in_ok-push.ensures.items)
-    (readings_push c.args.self.now.readers.items readings c.in_ok-new.field-0 (record { seat = c.in-Some.seat; heard = [] }) are (c.in_ok-new.ensures.seat, c.in_ok-new.ensures.gives)))
+    (readings_push c.args.self.now.readers.items readings c.new.result (record { seat = c.in-Some.seat; heard = [] }) are (c.new.ensures.seat, c.new.ensures.gives)))
