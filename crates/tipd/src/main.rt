@@ -1,26 +1,15 @@
 //! `tipd`: the command line, and the input and output of the process.
 #![tactic(auto)]
 
-mod branches;
-mod declared;
-mod fault;
-mod fields;
-mod instruction;
-mod play;
-mod playing;
-mod printing;
-mod reader;
-mod script;
-mod stage;
 mod words;
 
-use crate::fault::PlayFault;
 use crate::words::{Order, read_words};
 use clap::Error;
 use clap::error::ErrorKind;
 use std::env;
 use std::io::{self, BufWriter};
 use std::process::ExitCode;
+use tip_play::{PlayFault, play};
 
 /// Says what is wrong, and how the process ends: where the text can't be written, the status still tells.
 fn fail(rt: &HostRuntime, fault: PlayFault) -> ExitCode {
@@ -41,7 +30,7 @@ fn show(rt: &HostRuntime, error: Error) -> ExitCode {
 fn play_all(rt: &HostRuntime) -> Result<(), PlayFault> {
     let alloc = rt.alloc();
     let mut output = BufWriter::new(alloc, io::writer(rt)).map_err(|_| PlayFault::Memory)?;
-    play::play(alloc, &mut rt.stdin(), &mut output)
+    play(alloc, &mut rt.stdin(), &mut output)
 }
 
 /// The words of the command line.
@@ -69,6 +58,3 @@ fn obey(rt: &HostRuntime) -> ExitCode {
 fn main(rt: HostRuntime) -> io::Result<ExitCode> {
     Ok(obey(&rt))
 }
-
-#[cfg(test)]
-mod tests;

@@ -1,0 +1,11 @@
+pub mod FirstBranches
+pub mod Places
+pub mod Hearing
+pub mod Taking
+pub mod Acting
+pub mod Staging
+pub mod Appending
+pub mod Cutting
+pub mod Transcribing
+pub mod Players
+pub mod Reading

@@ -1,0 +1,111 @@
+-- Declared realms, their start, and what a line makes of a stage.
+use Rattle.std.proofs.Common.{◌≡◌, ◌≢◌, ◌<◌, ◌≤◌, ◌++◌, ◌∷◌, [], ℕ, suc, zero, List, true, false, ◌==◌, nat_lt, Some, None, option_map, length, arith, refl, sym, ap, ◌∙◌, subst}
+use Rattle.std.specs.Prelude.{slice_get}
+use Rattle.std.specs.List.{list_all, flat_map}
+use Rattle.std.proofs.lemmas.Bool.{false≢true}
+use Rattle.std.proofs.lemmas.Bool.Decides.{nat_tests}
+use Rattle.std.proofs.lemmas.List.{append_assoc}
+use Rattle.std.proofs.lemmas.Option.{same_Some, none-some}
+use Rattle.tip_core.specs.Hosted.{Hosted, realm}
+use Rattle.tip_line.specs.Words.{is_address, is_realm}
+use Rattle.tip_machine.specs.Heads.{are_allowed, starting}
+use Rattle.tip_machine.specs.States.{started}
+use Rattle.tip_machine.specs.declared.head.Limits.{Limits}
+use Rattle.tip_machine.specs.declared.head.Start.{Start}
+use Rattle.tip_script.specs.Fields.{move_by}
+use Rattle.tip_play.specs.Printing.{start_text}
+use Rattle.tip_play.specs.Scenes.{Acting, Scene, moved}
+use Rattle.tip_script.specs.Scripts.{Move, move_of}
+use Rattle.tip_play.specs.Stages.{APlaying, AreActors, Declared, IsDeclared, IsStage}
+use Rattle.tip_play.specs.Standing.{AreReadings, IsActing, IsScene, IsMoved}
+use Rattle.tip_play.specs.Transcripts.{Stage, Declaring, Playing, Acted, acted, acted_by, acts, acts_if, acting_of, scene_of, starts_text, declared, is_other, start_of}
+use Rattle.tip_script.specs.declared.instruction.Instruction.{Instruction}
+use Rattle.tip_script.specs.declared.instruction.Instruction.TheVariants as instruction
+use Rattle.tip_play.specs.declared.playing.Actor.{Actor}
+use Rattle.tip_play.specs.declared.stage.Stage.TheVariants as stage
+
+-- Declarations
+
+actors_push : (actors : List Actor) (starts : List Start) (actor : Actor) (start : Start) → AreActors actors starts → actor.name ≡ start.name → actor.readers.items ≡ [] → AreActors (actors ++ actor ∷ []) (starts ++ start ∷ [])
+actors_push [] [] actor start are name none = (name, none, tt)
+actors_push [] (s ∷ starts) actor start are name none = absurd are
+actors_push (a ∷ actors) [] actor start are name none = absurd are
+actors_push (a ∷ actors) (s ∷ starts) actor start are name none = (are.0, are.1, actors_push actors starts actor start are.2 name none)
+
+-- a realm more was declared
+pub declares : (realms realms' : Declared) (starts : List Start) (name address : List ℕ) (limits : Limits) (actor : Actor) → IsDeclared realms starts → list_all (is_other name) realms.starts.items ≡ true → length realms.starts.items < 64 → are_allowed limits ≡ true → is_realm name ≡ true → is_address address ≡ true → actor.name ≡ name → actor.readers.items ≡ [] →
+    realms'.actors.items ≡ realms.actors.items ++ actor ∷ [] → realms'.starts.items ≡ realms.starts.items ++ start_of name address limits ∷ [] →
+    (all : List Start) × (declared name address limits starts ≡ Some all) × IsDeclared realms' all
+declares realms realms' starts name address limits actor is new few allowed named reached actor_is no_readers actors_are starts_are =
+    let start = start_of name address limits in
+    let other : list_all (is_other name) starts ≡ true = ap (list_all (is_other name)) (sym is.starts_are) ∙ new in
+    let short : nat_lt (length starts) 64 ≡ true = let e = ap length is.starts_are in grind (arith, nat_tests) in (
+      starts ++ start ∷ [],
+      rw (other, short, allowed, named, reached) refl,
+      record {
+        starts_are = starts_are ∙ ap (λ l. l ++ start ∷ []) is.starts_are;
+        actors = rw actors_are (actors_push realms.actors.items starts actor start is.actors actor_is no_readers);
+      },
+    )
+
+-- The start
+
+pub actors_text : (actors : List Actor) (starts : List Start) → AreActors actors starts → flat_map (λ (a : Actor). start_text a.name) actors ≡ starts_text starts
+actors_text [] [] are = refl
+actors_text [] (s ∷ starts) are = absurd are
+actors_text (a ∷ actors) [] are = absurd are
+actors_text (a ∷ actors) (s ∷ starts) are = cc (ap start_text are.0, actors_text actors starts are.2)
+
+actors_count : (actors : List Actor) (starts : List Start) → AreActors actors starts → length actors ≡ length (scene_of starts)
+actors_count [] [] are = refl
+actors_count [] (s ∷ starts) are = absurd are
+actors_count (a ∷ actors) [] are = absurd are
+actors_count (a ∷ actors) (s ∷ starts) are = ap suc (actors_count actors starts are.2)
+
+no_readings : (actor : Actor) → actor.readers.items ≡ [] → AreReadings actor.readers.items []
+no_readings actor none = rw none tt
+
+actor_at : (actors : List Actor) (starts : List Start) (place : ℕ) (actor : Actor) (acting : Acting) → AreActors actors starts → slice_get actors place ≡ Some actor → slice_get (scene_of starts) place ≡ Some acting → IsActing actor (option_map (λ s. started (starting s)) (slice_get starts place)) acting
+actor_at [] starts place actor acting are a s = absurd (none-some actor a)
+actor_at (x ∷ actors) [] place actor acting are a s = absurd are
+actor_at (x ∷ actors) (y ∷ starts) zero actor acting are a s =
+    subst (λ z. IsActing actor (Some (started (starting y))) z) (same_Some (acting_of y) acting s) (subst (λ z. IsActing z (Some (started (starting y))) (acting_of y)) (same_Some x actor a) (record { name = are.0; state_is = refl; readings = no_readings x are.1 }))
+actor_at (x ∷ actors) (y ∷ starts) (suc place) actor acting are a s = actor_at actors starts place actor acting are.2 a s
+
+behind_all : (starts : List Start) (place : ℕ) → length (scene_of starts) ≤ place → option_map (λ s. started (starting s)) (slice_get starts place) ≡ None
+behind_all [] place past = refl
+behind_all (s ∷ starts) zero past = absurd (omega arith)
+behind_all (s ∷ starts) (suc place) past = behind_all starts place (omega arith)
+
+pub starts_scene : (core : Hosted) (actors : List Actor) (starts : List Start) → AreActors actors starts → ((place : ℕ) → realm core place ≡ option_map (λ s. started (starting s)) (slice_get starts place)) → IsScene core actors (scene_of starts)
+starts_scene core actors starts are began = record {
+  count = actors_count actors starts are;
+  each = λ place actor acting a s. subst (λ state. IsActing actor state acting) (sym (began place)) (actor_at actors starts place actor acting are a s);
+  none = λ place past. began place ∙ behind_all starts place past;
+}
+
+-- One line
+
+pub plays_on : (playing playing' : APlaying) (printed printed' : List ℕ) (move : Move) (now : Stage) → IsStage (stage.Playing playing) now → ((scene : Scene) → IsScene playing.core playing.actors.items scene → IsMoved playing'.core playing'.actors.items printed printed' (moved move scene)) →
+    (then_ : Stage) × ((acts now move).stage ≡ Some then_) × IsStage (stage.Playing playing') then_ × (printed' ≡ printed ++ (acts now move).printed)
+plays_on playing playing' printed printed' move (Declaring starts) is moves = absurd is
+plays_on playing playing' printed printed' move (Playing scene) is moves =
+    let m = moves scene is in
+    (Playing m.scene, ap (option_map Playing) m.is, m.stands, m.text)
+
+starts_first : (starts : List Start) (i : Instruction) → ((name : _) (address : _) (limits : Limits) → i ≢ instruction.Realm name address limits) → acts (Declaring starts) (move_by i) ≡ acted_by (starts_text starts) (moved (move_by i) (scene_of starts))
+starts_first starts (instruction.Realm name address limits) other = absurd (other name address limits refl)
+starts_first starts (instruction.Open realm) other = refl
+starts_first starts (instruction.Feed realm connection octets) other = refl
+starts_first starts (instruction.Lost realm connection) other = refl
+
+pub plays_first : (playing' : APlaying) (starts : List Start) (printed between printed' : List ℕ) (i : Instruction) → ((name : _) (address : _) (limits : Limits) → i ≢ instruction.Realm name address limits) → between ≡ printed ++ starts_text starts → IsMoved playing'.core playing'.actors.items between printed' (moved (move_by i) (scene_of starts)) →
+    (then_ : Stage) × ((acts (Declaring starts) (move_by i)).stage ≡ Some then_) × IsStage (stage.Playing playing') then_ × (printed' ≡ printed ++ (acts (Declaring starts) (move_by i)).printed)
+plays_first playing' starts printed between printed' i other text m =
+    let first = starts_first starts i other in
+    (Playing m.scene, ap (λ (a : Acted). a.stage) first ∙ ap (option_map Playing) m.is, m.stands, m.text ∙ ap (λ t. t ++ (moved (move_by i) (scene_of starts)).printed) text ∙ append_assoc printed (starts_text starts) (moved (move_by i) (scene_of starts)).printed ∙ ap (λ (a : Acted). printed ++ a.printed) (sym first))
+
+-- a line that is not empty does what it says
+pub acts_as_said : (now : Stage) (line : List ℕ) (move : Move) → false ≡ (length line == 0) → move_of line ≡ Some move → acted now line ≡ acts now move
+acts_as_said now [] move some is = absurd (false≢true some)
+acts_as_said now (x ∷ line) move some is = ap (acts_if now) is

@@ -1,0 +1,19 @@
+-- How the process ends where a script is not played to its end.
+use Rattle.std.specs.Prelude.{ℕ}
+use Rattle.tip_line.specs.declared.fault.WordFault.{WordFault}
+use Rattle.tip_line.specs.declared.fault.WordFault.TheVariants as words
+use Rattle.tip_play.specs.declared.fault.LineFault.{LineFault}
+use Rattle.tip_play.specs.declared.fault.LineFault.TheVariants as lines
+use Rattle.tip_play.specs.declared.fault.PlayFault.{PlayFault}
+use Rattle.tip_play.specs.declared.fault.PlayFault.TheVariants.{Script, Read, Write, Memory}
+
+abbrev pub status_of : PlayFault → ℕ
+status_of (Script line) = 2
+status_of Read = 1
+status_of Write = 1
+status_of Memory = 1
+
+-- a word that is none makes a bad line; want of memory stays what it is
+abbrev pub line_fault_of : WordFault → LineFault
+line_fault_of words.NotWord = lines.NotUnderstood
+line_fault_of words.Memory = lines.Memory

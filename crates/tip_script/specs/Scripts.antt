@@ -1,0 +1,125 @@
+-- The lines of a script. Their fields stand between single spaces, and a line that is empty says nothing.
+use Rattle.std.specs.Prelude.{ℕ, ◌%◌, ◌==◌, List, [], ◌∷◌, ◌++◌, length, Bool, ◌&&◌, ◌||◌, nat_le, Option, Some, None, Result, Ok, Err, codes, if◌then◌else◌}
+use Rattle.std.specs.List.{list_all, slice_split, join_with_byte}
+use Rattle.std.specs.Str.{bytes_eq}
+use Rattle.hex.specs.Hex.{decode_of}
+use Rattle.hex.specs.declared.error.FromHexError.{FromHexError}
+use Rattle.tip_line.specs.Ids.{number_in}
+use Rattle.tip_line.specs.Octets.{is_space}
+use Rattle.tip_line.specs.Words.{is_realm, has_octets}
+use Rattle.tip_machine.specs.declared.head.Limits.{Limits}
+
+-- what a line says
+pub data Move : Type 0 where
+  -- a realm is declared
+  Declare : (name : List ℕ) → (address : List ℕ) → (limits : Limits) → Move
+  -- another manager opens a connection of a realm, and no boxes come with it
+  Open : (realm : List ℕ) → Move
+  -- octets come on a connection
+  Feed : (realm : List ℕ) → (connection : ℕ) → (octets : List ℕ) → Move
+  -- a connection is lost
+  Lose : (realm : List ℕ) → (connection : ℕ) → Move
+
+abbrev pub fields_of : List ℕ → List (List ℕ)
+fields_of line = slice_split is_space line
+
+-- what is left of a line, spaces included
+abbrev pub rest_of : List (List ℕ) → List ℕ
+rest_of fields = join_with_byte 32 fields
+
+infixl 10 ◌>>=◌
+abbrev pub ◌>>=◌ : {A B : Type 0} → Option A → (A → Option B) → Option B
+None >>= f = None
+(Some x) >>= f = f x
+
+abbrev pub realm_in : List ℕ → Option (List ℕ)
+realm_in field = if is_realm field then Some field else None
+
+-- Hexadecimal digits
+
+abbrev pub is_decimal : ℕ → Bool
+is_decimal octet = nat_le 48 octet && nat_le octet 57
+
+abbrev pub is_letter : ℕ → Bool
+is_letter octet = nat_le 97 octet && nat_le octet 102
+
+abbrev pub is_digit : ℕ → Bool
+is_digit octet = is_decimal octet || is_letter octet
+
+-- one or more pairs of 0 to 9 and a to f
+abbrev pub is_hex : List ℕ → Bool
+is_hex digits = has_octets digits && (length digits % 2 == 0) && list_all is_digit digits
+
+abbrev pub decoded : Result (List ℕ) FromHexError → List ℕ
+decoded (Ok octets) = octets
+decoded (Err why) = []
+
+-- the octets that the pairs say
+abbrev pub octets_in : List ℕ → List ℕ
+octets_in digits = decoded (decode_of digits)
+
+-- The forms of a line, by the fields behind its first word
+
+-- CONNECTIONS TRANSACTIONS BRANCHES BOXES ENTRIES
+unfoldable pub limits_in : List (List ℕ) → Option Limits
+limits_in (connections ∷ transactions ∷ branches ∷ boxes ∷ entries ∷ []) = do
+  c ← number_in connections
+  t ← number_in transactions
+  b ← number_in branches
+  x ← number_in boxes
+  e ← number_in entries
+  Some (record { connections = c; transactions = t; branches = b; boxes = x; entries = e })
+limits_in fields = None
+
+-- realm NAME ADDRESS and the limits
+unfoldable pub declaration : List (List ℕ) → Option Move
+declaration (name ∷ address ∷ limits) = do
+  realm ← realm_in name
+  numbers ← limits_in limits
+  Some (Declare realm address numbers)
+declaration fields = None
+
+-- open REALM -
+unfoldable pub opening : List (List ℕ) → Option Move
+opening (realm ∷ boxes) = do
+  name ← realm_in realm
+  if bytes_eq (rest_of boxes) (codes "-") then Some (Open name) else None
+opening fields = None
+
+-- line REALM CONNECTION TEXT: the text and the end of a line
+unfoldable pub text_line : List (List ℕ) → Option Move
+text_line (realm ∷ connection ∷ text) = do
+  name ← realm_in realm
+  number ← number_in connection
+  if has_octets (rest_of text) then Some (Feed name number (rest_of text ++ 10 ∷ [])) else None
+text_line fields = None
+
+-- raw REALM CONNECTION HEX
+unfoldable pub hex_octets : List (List ℕ) → Option Move
+hex_octets (realm ∷ connection ∷ digits) = do
+  name ← realm_in realm
+  number ← number_in connection
+  if is_hex (rest_of digits) then Some (Feed name number (octets_in (rest_of digits))) else None
+hex_octets fields = None
+
+-- lost REALM CONNECTION
+unfoldable pub loss : List (List ℕ) → Option Move
+loss (realm ∷ connection ∷ []) = do
+  name ← realm_in realm
+  number ← number_in connection
+  Some (Lose name number)
+loss fields = None
+
+-- what a line says; None where it is not understood
+unfoldable pub move_in : List (List ℕ) → Option Move
+move_in (word ∷ fields) =
+    if bytes_eq word (codes "realm") then declaration fields
+    else if bytes_eq word (codes "open") then opening fields
+    else if bytes_eq word (codes "line") then text_line fields
+    else if bytes_eq word (codes "raw") then hex_octets fields
+    else if bytes_eq word (codes "lost") then loss fields
+    else None
+move_in [] = None
+
+abbrev pub move_of : List ℕ → Option Move
+move_of line = move_in (fields_of line)

@@ -1,0 +1,163 @@
+//! The lines of a script.
+ghost use Rattle.std.specs.Prelude.{◌≡◌, option_map};
+ghost use Rattle.std.specs.List.{list_all};
+ghost use Rattle.tip_script.specs.Fields.{left_in, move_by};
+ghost use Rattle.tip_script.specs.Scripts.{is_digit, is_hex, limits_in, declaration, opening, text_line, hex_octets, loss, move_of};
+
+use crate::fields::{Fields, number_in, realm_in};
+use tip_machine::Limits;
+
+/// Octets that come on a connection.
+#[derive(Clone, Copy, Debug, PartialEq, Eq)]
+pub enum Octets<'a> {
+    /// A text, and the end of a line.
+    Text(&'a [u8]),
+    /// Pairs of hexadecimal digits, one for each octet.
+    Hex(&'a [u8]),
+}
+
+/// What one line of a script says.
+#[derive(Clone, Copy, Debug, PartialEq, Eq)]
+pub enum Instruction<'a> {
+    /// `realm NAME ADDRESS CONNECTIONS TRANSACTIONS BRANCHES BOXES ENTRIES` declares a realm.
+    Realm {
+        name: &'a str,
+        address: &'a [u8],
+        limits: Limits,
+    },
+    /// `open REALM -`: another manager opens a connection, and no boxes come with it.
+    Open {
+        realm: &'a str,
+    },
+    /// `line REALM CONN TEXT` or `raw REALM CONN HEX`: octets come on a connection.
+    Feed {
+        realm: &'a str,
+        connection: u32,
+        octets: Octets<'a>,
+    },
+    /// `lost REALM CONN`: a connection is lost.
+    Lost {
+        realm: &'a str,
+        connection: u32,
+    },
+}
+
+impl<'a> Instruction<'a> {
+    /// What a line says; None where it is not understood.
+    #[tactic(auto, unfolding(crate::specs::Scripts::move_in))]
+    pub fn parse(line: &'a [u8]) -> Option<Instruction<'a>>
+        ensures { option_map move_by result ≡ move_of line.now }
+    {
+        let mut fields = Fields::of(line);
+        match fields.next()? {
+            b"realm" => declaration(fields),
+            b"open" => opening(fields),
+            b"line" => text_line(fields),
+            b"raw" => hex_octets(fields),
+            b"lost" => loss(fields),
+            _ => None,
+        }
+    }
+}
+
+#[tactic(auto, unfolding(crate::specs::Scripts::limits_in))]
+fn limits_in(mut fields: Fields<'_>) -> Option<Limits>
+    ensures { result ≡ limits_in (left_in fields.entry.rest) }
+{
+    let limits = Limits {
+        connections: number_in(fields.next()?)?,
+        transactions: number_in(fields.next()?)?,
+        branches: number_in(fields.next()?)?,
+        boxes: number_in(fields.next()?)?,
+        entries: number_in(fields.next()?)?,
+    };
+    match fields.next() {
+        Some(_) => None,
+        None => Some(limits),
+    }
+}
+
+#[tactic(auto, unfolding(crate::specs::Scripts::declaration))]
+fn declaration(mut fields: Fields<'_>) -> Option<Instruction<'_>>
+    ensures { option_map move_by result ≡ declaration (left_in fields.entry.rest) }
+{
+    let name = fields.next()?;
+    let address = fields.next()?;
+    Some(Instruction::Realm {
+        name: realm_in(name)?,
+        address,
+        limits: limits_in(fields)?,
+    })
+}
+
+#[tactic(auto, unfolding(crate::specs::Scripts::opening))]
+fn opening(mut fields: Fields<'_>) -> Option<Instruction<'_>>
+    ensures { option_map move_by result ≡ opening (left_in fields.entry.rest) }
+{
+    let realm = realm_in(fields.next()?)?;
+    (fields.rest()? == b"-".as_slice()).then_some(Instruction::Open { realm })
+}
+
+#[tactic(auto, unfolding(crate::specs::Scripts::text_line))]
+fn text_line(mut fields: Fields<'_>) -> Option<Instruction<'_>>
+    ensures { option_map move_by result ≡ text_line (left_in fields.entry.rest) }
+{
+    let realm = fields.next()?;
+    let connection = fields.next()?;
+    let text = fields.rest()?;
+    if text.is_empty() {
+        return None;
+    }
+    Some(Instruction::Feed {
+        realm: realm_in(realm)?,
+        connection: number_in(connection)?,
+        octets: Octets::Text(text),
+    })
+}
+
+#[tactic(auto, unfolding(crate::specs::Scripts::hex_octets))]
+fn hex_octets(mut fields: Fields<'_>) -> Option<Instruction<'_>>
+    ensures { option_map move_by result ≡ hex_octets (left_in fields.entry.rest) }
+{
+    let realm = fields.next()?;
+    let connection = fields.next()?;
+    let digits = fields.rest()?;
+    if !is_hex(digits) {
+        return None;
+    }
+    Some(Instruction::Feed {
+        realm: realm_in(realm)?,
+        connection: number_in(connection)?,
+        octets: Octets::Hex(digits),
+    })
+}
+
+#[tactic(auto, unfolding(crate::specs::Scripts::loss))]
+fn loss(mut fields: Fields<'_>) -> Option<Instruction<'_>>
+    ensures { option_map move_by result ≡ loss (left_in fields.entry.rest) }
+{
+    let realm = fields.next()?;
+    let connection = fields.next()?;
+    if fields.next().is_some() {
+        return None;
+    }
+    Some(Instruction::Lost {
+        realm: realm_in(realm)?,
+        connection: number_in(connection)?,
+    })
+}
+
+/// Whether these are one or more pairs of digits from `0` to `9` and `a` to `f`.
+fn is_hex(digits: &[u8]) -> bool
+    ensures { result ≡ is_hex digits.now }
+{
+    !digits.is_empty() && digits.len().is_multiple_of(2) && are_digits(digits)
+}
+
+fn are_digits(octets: &[u8]) -> bool
+    ensures { result ≡ list_all is_digit octets.now }
+{
+    octets
+        .iter()
+        .all(|octet| matches!(*octet, b'0'..=b'9' | b'a'..=b'f'))
+}

@@ -1,0 +1,7 @@
+//! What the lines of a script say: the instruction of a line, over the fields between its spaces.
+#![tactic(auto)]
+
+mod fields;
+mod instruction;
+
+pub use instruction::{Instruction, Octets};

@@ -1,7 +1,0 @@
-use Rattle.std.proofs.Common.{◌≡◌}
-use Rattle.tipd.specs.Transcripts.{first_branches}
-use Rattle.tipd.proofs.branches.first_branches.Given as goal
-
--- the first branches, so far
-abbrev pub invariant-loop-before : goal.invariant-loop-before
-invariant-loop-before l = l.items.items ≡ first_branches l.before

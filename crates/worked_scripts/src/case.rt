@@ -1,0 +1,55 @@
+//! One worked script, with what it is to print and how it is to end.
+use crate::ending::Ending;
+use std::alloc::Global;
+use std::fs;
+use std::io::{self, Write};
+
+/// A worked script.
+#[derive(Drop)]
+pub struct Case {
+    name: String,
+    script: Vec<u8>,
+    wanted: Ending,
+}
+
+impl Case {
+    /// By its line of the list, `NAME STATUS` or `NAME STATUS FAULT`, and the files `NAME.script` and `NAME.output`.
+    pub fn load(rt: &HostRuntime, folder: &str, line: &str) -> io::Result<Case> {
+        let alloc = rt.alloc();
+        let Some((name, ending)) = line.split_once(' ') else {
+            return Err(io::Error::from(io::ErrorKind::InvalidData));
+        };
+        let (status, fault) = ending.split_once(' ').unwrap_or((ending, ""));
+        let script = format!(in alloc; "{folder}/{name}.script")?;
+        let output = format!(in alloc; "{folder}/{name}.output")?;
+        Ok(Case {
+            name: String::from_str(alloc, name)?,
+            script: fs::read(rt, script.as_str())?,
+            wanted: Ending {
+                output: fs::read(rt, output.as_str())?,
+                status: status_in(status)?,
+                fault: String::from_str(alloc, fault)?,
+            },
+        })
+    }
+
+    /// Plays the script, and says whether it holds; where it does not, what was wanted and what came.
+    pub fn check<W: Write>(&self, alloc: Global, output: &mut W) -> io::Result<bool> {
+        let came = Ending::of(alloc, &self.script)?;
+        let holds = came.is_as(&self.wanted);
+        if holds {
+            writeln!(output, "{} holds", self.name)?;
+        } else {
+            writeln!(output, "{} differs", self.name)?;
+            self.wanted.print("wanted", output)?;
+            came.print("came", output)?;
+        }
+        Ok(holds)
+    }
+}
+
+/// A status of the list.
+fn status_in(word: &str) -> io::Result<u8> {
+    word.parse::<u8>()
+        .map_err(|_| io::Error::from(io::ErrorKind::InvalidData))
+}
