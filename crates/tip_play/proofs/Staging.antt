@@ -12,7 +12,7 @@ use Rattle.tip_machine.specs.Heads.{are_allowed, starting}
 use Rattle.tip_machine.specs.States.{started}
 use Rattle.tip_machine.specs.declared.head.Limits.{Limits}
 use Rattle.tip_machine.specs.declared.head.Start.{Start}
-use Rattle.tip_script.specs.Fields.{move_by}
+use Rattle.tip_script.specs.Moves.{move_by}
 use Rattle.tip_play.specs.Printing.{start_text}
 use Rattle.tip_play.specs.Scenes.{Acting, Scene, moved}
 use Rattle.tip_script.specs.Scripts.{Move, move_of}

@@ -7,7 +7,7 @@ use Rattle.tip_machine.specs.declared.event.Heard.{Heard}
 use Rattle.tip_machine.specs.declared.event.Seat.{Seat}
 use Rattle.tip_core.specs.Hosted.{Hosted, realm}
 use Rattle.tip_play.specs.Scenes.{Reading, Acting, Scene, Moved, Done, Taken, feeds, loses, with_opened, said_by, lines_of}
-use Rattle.tip_script.specs.Fields.{octets_of}
+use Rattle.tip_script.specs.Moves.{octets_of}
 use Rattle.tip_play.specs.declared.playing.Actor.{Actor}
 use Rattle.tip_play.specs.declared.playing.Happening.{Happening}
 use Rattle.tip_play.specs.declared.playing.Happening.TheVariants.{Octets, Loss}

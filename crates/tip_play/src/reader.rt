@@ -1,6 +1,6 @@
 //! What comes on the connections of a script.
 ghost use Rattle.std.specs.Prelude.{◌≡◌, ℕ, List, ◌++◌, IfOk, OnOk, if◌then◌else◌};
-ghost use Rattle.tip_script.specs.Fields.{octets_of};
+ghost use Rattle.tip_script.specs.Moves.{octets_of};
 ghost use Rattle.tip_script.specs.Scripts.{octets_in};
 ghost use Rattle.tip_play.specs.Standing.{gives, Says};
 ghost use Rattle.tip_line.specs.Reading.{items_of};

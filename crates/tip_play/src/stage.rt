@@ -1,6 +1,6 @@
 //! A script as far as it was played.
 ghost use Rattle.std.specs.Prelude.{◌≡◌, ◌++◌, List, [], OnOk, string_bytes};
-ghost use Rattle.tip_script.specs.Fields.{move_by};
+ghost use Rattle.tip_script.specs.Moves.{move_by};
 ghost use Rattle.tip_play.specs.Scenes.{Scene, moved};
 ghost use Rattle.tip_play.specs.Stages.{ActsSo, IsDeclared, IsStage, Moves};
 ghost use Rattle.tip_machine.specs.declared.head.Start.{Start};

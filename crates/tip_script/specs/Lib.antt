@@ -1,2 +1,2 @@
 pub mod Scripts
-pub mod Fields
+pub mod Moves

@@ -1,11 +1,11 @@
 -- The lines of a script. Their fields stand between single spaces, and a line that is empty says nothing.
 use Rattle.std.specs.Prelude.{ℕ, ◌%◌, ◌==◌, List, [], ◌∷◌, ◌++◌, length, Bool, ◌&&◌, ◌||◌, nat_le, Option, Some, None, Result, Ok, Err, codes, if◌then◌else◌}
-use Rattle.std.specs.List.{list_all, slice_split, join_with_byte}
+use Rattle.std.specs.List.{list_all, join_with_byte}
 use Rattle.std.specs.Str.{bytes_eq}
 use Rattle.hex.specs.Hex.{decode_of}
 use Rattle.hex.specs.declared.error.FromHexError.{FromHexError}
+use Rattle.tip_line.specs.Fields.{fields_of}
 use Rattle.tip_line.specs.Ids.{number_in}
-use Rattle.tip_line.specs.Octets.{is_space}
 use Rattle.tip_line.specs.Words.{is_realm, has_octets}
 use Rattle.tip_machine.specs.declared.head.Limits.{Limits}
 
@@ -19,9 +19,6 @@ pub data Move : Type 0 where
   Feed : (realm : List ℕ) → (connection : ℕ) → (octets : List ℕ) → Move
   -- a connection is lost
   Lose : (realm : List ℕ) → (connection : ℕ) → Move
-
-abbrev pub fields_of : List ℕ → List (List ℕ)
-fields_of line = slice_split is_space line
 
 -- what is left of a line, spaces included
 abbrev pub rest_of : List (List ℕ) → List ℕ
@@ -122,4 +119,4 @@ move_in (word ∷ fields) =
 move_in [] = None
 
 abbrev pub move_of : List ℕ → Option Move
-move_of line = move_in (fields_of line)
+move_of line = move_in (fields_of 32 line)

@@ -1,10 +1,11 @@
 //! The lines of a script.
 ghost use Rattle.std.specs.Prelude.{◌≡◌, option_map};
 ghost use Rattle.std.specs.List.{list_all};
-ghost use Rattle.tip_script.specs.Fields.{left_in, move_by};
+ghost use Rattle.tip_script.specs.Moves.{move_by};
 ghost use Rattle.tip_script.specs.Scripts.{is_digit, is_hex, limits_in, declaration, opening, text_line, hex_octets, loss, move_of};
 
-use crate::fields::{Fields, number_in, realm_in};
+use crate::fields::{number_in, realm_in};
+use tip_line::Fields;
 use tip_machine::Limits;
 
 /// Octets that come on a connection.
@@ -61,8 +62,8 @@ impl<'a> Instruction<'a> {
 }
 
 #[tactic(auto, unfolding(crate::specs::Scripts::limits_in))]
-fn limits_in(mut fields: Fields<'_>) -> Option<Limits>
-    ensures { result ≡ limits_in (left_in fields.entry.rest) }
+fn limits_in(mut fields: Fields<'_, b' '>) -> Option<Limits>
+    ensures { result ≡ limits_in fields.entry }
 {
     let limits = Limits {
         connections: number_in(fields.next()?)?,
@@ -78,8 +79,8 @@ fn limits_in(mut fields: Fields<'_>) -> Option<Limits>
 }
 
 #[tactic(auto, unfolding(crate::specs::Scripts::declaration))]
-fn declaration(mut fields: Fields<'_>) -> Option<Instruction<'_>>
-    ensures { option_map move_by result ≡ declaration (left_in fields.entry.rest) }
+fn declaration(mut fields: Fields<'_, b' '>) -> Option<Instruction<'_>>
+    ensures { option_map move_by result ≡ declaration fields.entry }
 {
     let name = fields.next()?;
     let address = fields.next()?;
@@ -91,16 +92,16 @@ fn declaration(mut fields: Fields<'_>) -> Option<Instruction<'_>>
 }
 
 #[tactic(auto, unfolding(crate::specs::Scripts::opening))]
-fn opening(mut fields: Fields<'_>) -> Option<Instruction<'_>>
-    ensures { option_map move_by result ≡ opening (left_in fields.entry.rest) }
+fn opening(mut fields: Fields<'_, b' '>) -> Option<Instruction<'_>>
+    ensures { option_map move_by result ≡ opening fields.entry }
 {
     let realm = realm_in(fields.next()?)?;
     (fields.rest()? == b"-".as_slice()).then_some(Instruction::Open { realm })
 }
 
 #[tactic(auto, unfolding(crate::specs::Scripts::text_line))]
-fn text_line(mut fields: Fields<'_>) -> Option<Instruction<'_>>
-    ensures { option_map move_by result ≡ text_line (left_in fields.entry.rest) }
+fn text_line(mut fields: Fields<'_, b' '>) -> Option<Instruction<'_>>
+    ensures { option_map move_by result ≡ text_line fields.entry }
 {
     let realm = fields.next()?;
     let connection = fields.next()?;
@@ -116,8 +117,8 @@ fn text_line(mut fields: Fields<'_>) -> Option<Instruction<'_>>
 }
 
 #[tactic(auto, unfolding(crate::specs::Scripts::hex_octets))]
-fn hex_octets(mut fields: Fields<'_>) -> Option<Instruction<'_>>
-    ensures { option_map move_by result ≡ hex_octets (left_in fields.entry.rest) }
+fn hex_octets(mut fields: Fields<'_, b' '>) -> Option<Instruction<'_>>
+    ensures { option_map move_by result ≡ hex_octets fields.entry }
 {
     let realm = fields.next()?;
     let connection = fields.next()?;
@@ -133,8 +134,8 @@ fn hex_octets(mut fields: Fields<'_>) -> Option<Instruction<'_>>
 }
 
 #[tactic(auto, unfolding(crate::specs::Scripts::loss))]
-fn loss(mut fields: Fields<'_>) -> Option<Instruction<'_>>
-    ensures { option_map move_by result ≡ loss (left_in fields.entry.rest) }
+fn loss(mut fields: Fields<'_, b' '>) -> Option<Instruction<'_>>
+    ensures { option_map move_by result ≡ loss fields.entry }
 {
     let realm = fields.next()?;
     let connection = fields.next()?;

@@ -2,7 +2,7 @@
 use Rattle.std.proofs.Common.{◌∙◌, not, arith, ap, refl, sym, string_bytes}
 use Rattle.std.specs.Prelude.{if◌then◌else◌}
 use Rattle.tip_line.specs.Reading.{items_of}
-use Rattle.tip_script.specs.Fields.{octets_of}
+use Rattle.tip_script.specs.Moves.{octets_of}
 use Rattle.tip_play.specs.Scenes.{on_connection}
 use Rattle.tip_play.specs.Standing.{gives, happens}
 use Rattle.tip_play.proofs.Acting.{named, no_realm_there, not_given, may_not, fed_there, lost_there, not_not, some_at}

@@ -1,6 +1,6 @@
 -- A line that says something.
 use Rattle.std.proofs.Common.{◌∙◌, sym, ap, subst, string_bytes, option_map}
-use Rattle.tip_script.specs.Fields.{move_by}
+use Rattle.tip_script.specs.Moves.{move_by}
 use Rattle.tip_play.specs.Stages.{ActsSo}
 use Rattle.tip_play.proofs.Staging.{acts_as_said}
 use Rattle.tip_play.proofs.stage.Stage+Declared+Playing.act.Goals as goal

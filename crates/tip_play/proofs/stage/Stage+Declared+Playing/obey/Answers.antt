@@ -1,6 +1,6 @@
 -- A line once the realms have started.
 use Rattle.std.proofs.Common.{subst, string_bytes}
-use Rattle.tip_script.specs.Fields.{move_by}
+use Rattle.tip_script.specs.Moves.{move_by}
 use Rattle.tip_play.specs.Stages.{IsStage}
 use Rattle.tip_play.proofs.Staging.{plays_on}
 use Rattle.tip_play.proofs.stage.Stage+Declared+Playing.obey.Goals as goal

@@ -1,21 +1,10 @@
--- The fields of a line as they are taken, and what an instruction says.
-use Rattle.std.specs.Prelude.{◌≡◌, ℕ, List, [], ◌∷◌, ◌++◌, Option, Some, None}
-use Rattle.std.specs.Borrow.{Bor}
-use Rattle.tip_script.specs.Scripts.{Move, Declare, Open, Feed, Lose, fields_of, octets_in}
+-- What an instruction says.
+use Rattle.std.specs.Prelude.{ℕ, List, [], ◌∷◌, ◌++◌}
+use Rattle.tip_script.specs.Scripts.{Move, Declare, Open, Feed, Lose, octets_in}
 use Rattle.tip_script.specs.declared.instruction.Octets.{Octets}
 use Rattle.tip_script.specs.declared.instruction.Octets.TheVariants as octets
 use Rattle.tip_script.specs.declared.instruction.Instruction.{Instruction}
 use Rattle.tip_script.specs.declared.instruction.Instruction.TheVariants as instruction
-
--- what is left of a line: None behind the last field
-abbrev pub left_in : Option (Bor (List ℕ)) → List (List ℕ)
-left_in None = []
-left_in (Some rest) = fields_of rest.now
-
--- a field was taken from the front of these, if there was one
-abbrev pub Takes : List (List ℕ) → Option (Bor (List ℕ)) → List (List ℕ) → Type 0
-Takes old None new = (old ≡ []) × (new ≡ [])
-Takes old (Some field) new = old ≡ field.now ∷ new
 
 -- the octets that come
 abbrev pub octets_of : Octets → List ℕ
