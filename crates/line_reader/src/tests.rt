@@ -24,3 +24,17 @@ fn a_refused_growth_leaves_the_reader_as_it_was(rt: HostRuntime) -> Result<(), F
     assert_eq!(rt; lines.next(), None);
     Ok(())
 }
+
+#[test]
+fn an_offer_takes_no_memory(rt: HostRuntime) -> Result<(), Fail> {
+    let heap = LocalHeap::new(rt.alloc(), 8192)?;
+    let mut lines = Lines::new(&heap)?;
+    let used = heap.used();
+    lines.offer(b"BEGIN\nQUERY x\nPREP");
+    for _ in 0..100 {
+        lines.offer(b"                                ");
+    }
+    assert_eq!(rt; heap.used(), used);
+    assert_eq!(rt; lines.next(), Some(Line::Text(b"BEGIN")));
+    Ok(())
+}
