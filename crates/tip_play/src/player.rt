@@ -28,9 +28,10 @@ pub fn play<R: Read, W: Write>(
     ensures { IfSome (R.remaining input.old) (λ script. Transcribes script (R.remaining input.new) (W.contents output.old) (W.contents output.new) result) }
 {
     let end = play_lines(alloc, input, output);
-    let flushed = output.flush();
-    end?;
-    flushed.map_err(|_| PlayFault::Write)
+    match (end, output.flush()) {
+        (Ok(()) | Err(PlayFault::Script { .. }), Err(_)) => Err(PlayFault::Write),
+        (end, _) => end,
+    }
 }
 
 /// Reads to the end, line by line.

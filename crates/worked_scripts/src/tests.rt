@@ -122,14 +122,17 @@ fn output_that_fails_ends_the_script(rt: HostRuntime) -> Result<(), Fail> {
     Ok(())
 }
 
+/// What was printed is not known to be there, be the script well or not.
 #[test]
 fn output_that_is_not_flushed_is_a_fault(rt: HostRuntime) -> Result<(), Fail> {
-    let mut output = Failing { writes: 2 };
-    let mut script = START;
-    let end = play(rt.alloc(), &mut script, &mut output);
-    let (status, text) = said(rt.alloc(), end)?;
-    assert_eq!(rt; status, 1);
-    assert_eq!(rt; text.as_str(), "cannot write");
+    for last_line in [b"".as_slice(), b"wat"] {
+        let script = repeated(rt.alloc(), START, last_line, 1)?;
+        let mut output = Failing { writes: 2 };
+        let end = play(rt.alloc(), &mut script.as_slice(), &mut output);
+        let (status, text) = said(rt.alloc(), end)?;
+        assert_eq!(rt; status, 1);
+        assert_eq!(rt; text.as_str(), "cannot write");
+    }
     Ok(())
 }
 
