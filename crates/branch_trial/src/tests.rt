@@ -10,8 +10,8 @@ use std::sync::{Arc, Mutex};
 use std::test::Fail;
 use std::thread;
 use tip_branch::{
-    Badge, Branch, Call, Errand, Fresh, HeldFresh, HeldParty, HeldPrepared, Party, PartyRoom, Phase,
-    Plan, Prepared, Settled, Standing, Told, Vote, are_numbers,
+    Badge, Branch, Call, Errand, Fresh, HeldFresh, HeldParty, HeldPrepared, Party, PartyRoom,
+    Phase, Plan, Prepared, Settled, Standing, Told, Vote, are_numbers,
 };
 use tip_line::{Id, Realm};
 
@@ -74,7 +74,12 @@ impl Branch for Probe {
     fn commit(&mut self) -> Settled {
         self.counters.commits.fetch_add(1, Ordering::SeqCst);
         let commits = self.standing.told.commits;
-        let settled = self.standing.badge.plan.answer(commits).unwrap_or(Settled::Done);
+        let settled = self
+            .standing
+            .badge
+            .plan
+            .answer(commits)
+            .unwrap_or(Settled::Done);
         self.standing = Standing {
             badge: self.standing.badge,
             phase: match settled {
