@@ -16,6 +16,7 @@ use Rattle.tip_machine.specs.Types.{Connection, Event}
 use Rattle.tip_machine.specs.Alone.{AreAlone, IsAlone, is_early}
 use Rattle.tip_machine.specs.Given.{are_numbered}
 use Rattle.tip_machine.specs.Invariants.{IsSound, has_its_role, is_connected, is_in_turn, is_on_side}
+use Rattle.tip_machine.specs.Returns.{Back}
 use Rattle.tip_machine.specs.Moves.{Move, World, fresh, gone_for, led_to, lost_from, moved, renewed, restarted_from, rows_after, stepped}
 use Rattle.tip_machine.specs.Served.{today}
 use Rattle.tip_machine.specs.declared.connection.Awaited.{Awaited}
@@ -62,7 +63,7 @@ stepped_quiet event outcome world quiet =
       errands = nobody_more world.errands _ quiet.errands plain.work;
     }
 
-gone_quiet : (errands : List PartyNotes) (back : PartyNotes) (outcome : Outcome) (world : World) → errands ≡ [] → IsQuiet world → IsQuiet (gone_for errands today back outcome world).world
+gone_quiet : (errands : List PartyNotes) (back : Back) (outcome : Outcome) (world : World) → errands ≡ [] → IsQuiet world → IsQuiet (gone_for errands today back outcome world).world
 gone_quiet [] back outcome world none quiet = quiet
 gone_quiet (party ∷ errands) back outcome world none quiet = absurd (cc)
 

@@ -19,7 +19,9 @@ pub mod Order
 pub mod Steps
 pub mod Recovery
 pub mod Outputs
+pub mod Returns
 pub mod Moves
+pub mod Honest
 pub mod Verdicts
 pub mod Invariants
 pub mod Scripts

@@ -3,8 +3,6 @@ use Rattle.std.specs.Prelude.{◌+◌, List, [], ◌∷◌, ◌++◌, map, flat_
 use Rattle.std.specs.Option.{option_to_list}
 use Rattle.tip_branch.specs.Notes.{PartyNotes}
 use Rattle.tip_branch.specs.declared.branch.Badge.{Badge}
-use Rattle.tip_branch.specs.declared.member.Errand.{Errand}
-use Rattle.tip_branch.specs.declared.member.Errand.TheVariants as errand
 use Rattle.tip_line.specs.declared.refusal.Refusal.TheVariants as refusal
 use Rattle.tip_rows.specs.Keys.{Place as Key, comes_before, is_same}
 use Rattle.tip_rows.specs.declared.row.Row.{Row}
@@ -12,12 +10,12 @@ use Rattle.tip_table.specs.Lists.{without}
 use Rattle.tip_machine.specs.Types.{Event, PartyPlace}
 use Rattle.tip_machine.specs.Outputs.{Output, drops_of, outputs}
 use Rattle.tip_machine.specs.Recovery.{restarted}
+use Rattle.tip_machine.specs.Returns.{Back, event_of}
 use Rattle.tip_machine.specs.Served.{Serving}
 use Rattle.tip_machine.specs.States.{State, started}
 use Rattle.tip_machine.specs.Steps.{step_serving, wants_serving}
 use Rattle.tip_machine.specs.declared.event.Change.{Change}
 use Rattle.tip_machine.specs.declared.event.Change.TheVariants.{Put, Remove}
-use Rattle.tip_machine.specs.declared.event.Event.TheVariants.{Voted, Settled}
 use Rattle.tip_machine.specs.declared.event.Outcome.{Outcome}
 use Rattle.tip_machine.specs.declared.event.Outcome.TheVariants.{Stored}
 use Rattle.tip_machine.specs.declared.head.Head.{Head}
@@ -32,8 +30,8 @@ pub record World : Type 0 where
 pub data Move : Type 0 where
   -- an event, and what becomes of the change that it wants
   Step : Event → Outcome → Move
-  -- the oldest errand is done: this is its party as it comes back
-  Go : PartyNotes → Outcome → Move
+  -- the oldest errand is over: what its branches answered, or that nobody was called
+  Go : Back → Outcome → Move
   -- the oldest errand is lost: its party does not come back
   Lose : Move
   -- the process starts again; these boxes are adopted for the branches of each row
@@ -77,14 +75,10 @@ stepped serving event outcome world =
 
 -- Errands
 
--- a party comes back from its errand
-abbrev pub back_from : Errand → PartyNotes → Event
-back_from errand.Vote party = Voted party
-back_from other party = Settled party
-
-abbrev pub gone_for : List PartyNotes → Serving → PartyNotes → Outcome → World → Moved
+-- the oldest errand's party comes back
+abbrev pub gone_for : List PartyNotes → Serving → Back → Outcome → World → Moved
 gone_for [] serving back outcome world = record { shown = []; world = world }
-gone_for (party ∷ errands) serving back outcome world = stepped serving (back_from party.errand back) outcome (record world { errands = errands })
+gone_for (party ∷ errands) serving back outcome world = stepped serving (event_of party back) outcome (record world { errands = errands })
 
 abbrev pub lost_from : List PartyNotes → World → Moved
 lost_from [] world = record { shown = []; world = world }

@@ -1,11 +1,12 @@
 -- Scripts of one realm in short, by which the definitions are tried out (`Commits`, `Failures`). Branches do as their plans
 -- promise.
-use Rattle.std.specs.Prelude.{◌≡◌, ℕ, List, [], ◌∷◌, ◌++◌, map, codes, Option, unwrap_or, if◌then◌else◌}
-use Rattle.tip_branch.specs.Members.{aborting, committing, is_no, is_ready, voting}
+use Rattle.std.specs.Prelude.{◌≡◌, ℕ, ◌&&◌, Bool, true, List, [], ◌∷◌, ◌++◌, length, map, filter, take, codes, Option, Some, None, unwrap_or, if◌then◌else◌}
+use Rattle.tip_branch.specs.Members.{is_active, is_no, is_ready, promised_answer}
 use Rattle.tip_branch.specs.Notes.{PartyNotes}
-use Rattle.tip_branch.specs.Plans.{planned_answer, planned_vote}
+use Rattle.tip_branch.specs.Plans.{planned_vote}
 use Rattle.tip_branch.specs.declared.branch.Badge.{Badge}
 use Rattle.tip_branch.specs.declared.branch.Plan.TheVariants as plan
+use Rattle.tip_branch.specs.declared.branch.Settled.{Settled}
 use Rattle.tip_branch.specs.declared.branch.Settled.TheVariants.{Done}
 use Rattle.tip_branch.specs.declared.branch.Vote.{Vote}
 use Rattle.tip_branch.specs.declared.branch.Vote.TheVariants as vote
@@ -15,51 +16,52 @@ use Rattle.tip_branch.specs.declared.member.Member.{Member}
 use Rattle.tip_line.specs.declared.command.Command.{Command}
 use Rattle.tip_line.specs.declared.command.Command.TheVariants as command
 use Rattle.tip_line.specs.declared.response.Response.{Response}
-use Rattle.tip_rows.specs.Keys.{Place as Key}
+use Rattle.tip_rows.specs.Keys.{Place as Key, is_same}
 use Rattle.tip_rows.specs.declared.row.Row.{Row}
 use Rattle.tip_machine.specs.Types.{Event}
 use Rattle.tip_machine.specs.Answers.{identifier}
+use Rattle.tip_machine.specs.Honest.{branches_in, is_honest}
 use Rattle.tip_machine.specs.Invariants.{IsSound}
 use Rattle.tip_machine.specs.Moves.{Move, World, moved}
 use Rattle.tip_machine.specs.Outputs.{Output}
+use Rattle.tip_machine.specs.Returns.{Back, event_of}
 use Rattle.tip_machine.specs.Served.{everything}
 use Rattle.tip_machine.specs.States.{started}
+use Rattle.tip_machine.specs.Steps.{wants_serving}
 use Rattle.tip_machine.specs.Verdicts.{Agrees, told}
 use Rattle.tip_machine.specs.declared.answer.Asked.{Asked}
 use Rattle.tip_machine.specs.declared.answer.Item.TheVariants.{Say, Ask, Close}
 use Rattle.tip_machine.specs.declared.answer.Said.{Said}
 use Rattle.tip_machine.specs.declared.answer.Said.TheVariants as said
 use Rattle.tip_machine.specs.declared.connection.Purpose.{Purpose}
+use Rattle.tip_machine.specs.declared.event.Change.{Change}
 use Rattle.tip_machine.specs.declared.event.Change.TheVariants.{Put, Remove}
 use Rattle.tip_machine.specs.declared.event.Event.TheVariants as event
 use Rattle.tip_machine.specs.declared.event.Heard.TheVariants as heard
-use Rattle.tip_machine.specs.declared.event.Outcome.TheVariants.{Stored, Refused}
+use Rattle.tip_machine.specs.declared.event.Outcome.{Outcome}
+use Rattle.tip_machine.specs.declared.event.Outcome.TheVariants.{NoChange, Stored, Refused}
 use Rattle.tip_machine.specs.declared.event.Seat.{Seat}
 use Rattle.tip_machine.specs.declared.head.Limits.{Limits}
 
--- the members that are asked, up to the first that votes no
+-- what the branches of a party answer that do as their plans promise
+
 abbrev pub vote_of : Member → Vote
 vote_of member = unwrap_or (planned_vote member.standing.badge.plan) vote.Yes
 
-abbrev pub all_asked : List Member → List Member
-all_asked [] = []
-all_asked (member ∷ members) = voting member (vote_of member) ∷ (if is_no (vote_of member) then members else all_asked members)
+abbrev pub votes_of : List Member → List Vote
+votes_of [] = []
+votes_of (member ∷ members) =
+    if is_active member then vote_of member ∷ (if is_no (vote_of member) then [] else votes_of members)
+    else votes_of members
 
-abbrev pub told_commit : Member → Member
-told_commit member = if is_ready member then committing member (unwrap_or (planned_answer member.standing.badge.plan member.standing.told.commits) Done) else member
+abbrev pub settlements_of : List Member → List Settled
+settlements_of members = map (λ member. unwrap_or (promised_answer member) Done) (filter is_ready members)
 
-abbrev pub told_abort : Member → Member
-told_abort member = if is_ready member then aborting member else member
-
-abbrev pub carried_out : Errand → List Member → List Member
-carried_out errand.Idle members = members
-carried_out errand.Vote members = all_asked members
-carried_out errand.Commit members = map told_commit members
-carried_out errand.Abort members = map told_abort members
-
--- a party whose branches do as their plans promise
-abbrev pub comes_back : PartyNotes → PartyNotes
-comes_back party = record party { errand = errand.Idle; members = carried_out party.errand party.members }
+abbrev pub answered_by : Errand → List Member → Back
+answered_by errand.Idle members = Back.Undone
+answered_by errand.Vote members = Back.Votes (votes_of members)
+answered_by errand.Commit members = Back.Settlements (settlements_of members)
+answered_by errand.Abort members = Back.Aborted
 
 pub data Line : Type 0 where
   Happens : Event → Line
@@ -70,10 +72,6 @@ pub data Line : Type 0 where
   Loses : Line
   Restarts : Line
   Renews : Line
-
-abbrev pub oldest : List PartyNotes → (PartyNotes → Move) → Move
-oldest [] go = Move.Lose
-oldest (party ∷ errands) go = go (comes_back party)
 
 -- boxes, by what they promise and their marks
 abbrev pub yes : ℕ → Badge
@@ -88,18 +86,33 @@ read_only mark = record { plan = plan.ReadOnly; mark = mark }
 abbrev pub late_box : ℕ → Badge
 late_box mark = record { plan = plan.Late; mark = mark }
 
--- one box of kind yes is adopted for each branch
-abbrev pub all_yes : Key → List Badge
-all_yes key = yes 91 ∷ yes 92 ∷ yes 93 ∷ []
+-- one box of kind yes is adopted for each branch of a row
+abbrev pub adopted : List (Key × Row) → Key → List Badge
+adopted [] key = []
+adopted (row ∷ rows) key = if is_same key row.0 then take (length (branches_in row.1)) (yes 91 ∷ yes 92 ∷ yes 93 ∷ []) else adopted rows key
+
+-- the outcome of a change, where one is wanted
+abbrev pub of_change : Outcome → Option Change → Outcome
+of_change outcome None = NoChange
+of_change outcome (Some change) = outcome
+
+abbrev pub happens : Outcome → Event → World → Move
+happens outcome event world = Move.Step event (of_change outcome (wants_serving everything world.state event))
+
+abbrev pub goes : Outcome → List PartyNotes → World → Move
+goes outcome [] world = Move.Lose
+goes outcome (party ∷ errands) world =
+    let back = answered_by party.errand party.members in
+    Move.Go back (of_change outcome (wants_serving everything world.state (event_of party back)))
 
 abbrev pub move_of : Line → World → Move
-move_of (Happens event) world = Move.Step event Stored
-move_of (HappensRefused event) world = Move.Step event Refused
-move_of Goes world = oldest world.errands (λ party. Move.Go party Stored)
-move_of GoesRefused world = oldest world.errands (λ party. Move.Go party Refused)
+move_of (Happens event) world = happens Stored event world
+move_of (HappensRefused event) world = happens Refused event world
+move_of Goes world = goes Stored world.errands world
+move_of GoesRefused world = goes Refused world.errands world
 move_of Loses world = Move.Lose
-move_of Restarts world = Move.Restart all_yes
-move_of Renews world = Move.Renew all_yes Stored
+move_of Restarts world = Move.Restart (adopted world.rows)
+move_of Renews world = Move.Renew (adopted world.rows) Stored
 
 -- ALL THAT A SCRIPT SHOWS, by the whole machine
 abbrev pub played : World → List Line → List Output
@@ -120,6 +133,14 @@ Shows example = played example.world example.lines ≡ example.shown
 -- what its branches are told of the first transaction agrees
 abbrev pub TellsOneThing : Example → Type 0
 TellsOneThing example = Agrees (told (codes "north") (identifier (codes "north") (record { epoch = 1; connection = 1; number = 1 })) example.shown)
+
+-- the moves of a script are an honest run
+abbrev pub is_run_of : World → List Line → Bool
+is_run_of world [] = true
+is_run_of world (line ∷ lines) = is_honest everything (move_of line world) world && is_run_of (moved everything (move_of line world) world).world lines
+
+abbrev pub IsHonestRun : Example → Type 0
+IsHonestRun example = is_run_of example.world example.lines ≡ true
 
 -- the invariants hold at first, and in each state that is reached
 abbrev pub Reaches : World → List Line → Type 0

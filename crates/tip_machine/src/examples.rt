@@ -1,7 +1,7 @@
 //! Worked examples of the machine: what short scripts show is what its definitions compute.
 ghost use Rattle.tip_machine.specs.Commits.{late, a_no, labelled, push_and_prepare, one_part_says_no, two_parts, pulled, pushed, known_or_not_pulled, in_doubt_and_committed, out_of_turn};
 ghost use Rattle.tip_machine.specs.Failures.{part_lost, part_not_valid, not_valid, lost_vote, restarted_in_doubt, refused_removal, presumed_abort, part_reached_again, taken_over, resumed, frozen_and_renewed, stranger};
-ghost use Rattle.tip_machine.specs.Scripts.{Shows, StaysSound, TellsOneThing};
+ghost use Rattle.tip_machine.specs.Scripts.{IsHonestRun, Shows, StaysSound, TellsOneThing};
 
 /// Transactions that come to their outcome.
 #[tactic(auto, using(crate::proofs::Commits::shows_late, crate::proofs::Commits::shows_a_no, crate::proofs::Commits::shows_labelled, crate::proofs::Commits::shows_push_and_prepare, crate::proofs::Commits::shows_one_part_says_no, crate::proofs::Commits::shows_two_parts, crate::proofs::Commits::shows_pulled, crate::proofs::Commits::shows_pushed, crate::proofs::Commits::shows_known_or_not_pulled, crate::proofs::Commits::shows_in_doubt_and_committed, crate::proofs::Commits::shows_out_of_turn))]
@@ -88,4 +88,32 @@ pub fn one_thing_is_told()
     ensures resumed { TellsOneThing resumed }
     ensures frozen_and_renewed { TellsOneThing frozen_and_renewed }
     ensures stranger { TellsOneThing stranger }
+{}
+
+/// Each example is an honest run.
+#[tactic(auto, using(crate::proofs::HonestRuns::honest_late, crate::proofs::HonestRuns::honest_a_no, crate::proofs::HonestRuns::honest_labelled, crate::proofs::HonestRuns::honest_push_and_prepare, crate::proofs::HonestRuns::honest_one_part_says_no, crate::proofs::HonestRuns::honest_two_parts, crate::proofs::HonestRuns::honest_pulled, crate::proofs::HonestRuns::honest_pushed, crate::proofs::HonestRuns::honest_known_or_not_pulled, crate::proofs::HonestRuns::honest_in_doubt_and_committed, crate::proofs::HonestRuns::honest_out_of_turn, crate::proofs::HonestRuns::honest_part_lost, crate::proofs::HonestRuns::honest_part_not_valid, crate::proofs::HonestRuns::honest_not_valid, crate::proofs::HonestRuns::honest_lost_vote, crate::proofs::HonestRuns::honest_restarted_in_doubt, crate::proofs::HonestRuns::honest_refused_removal, crate::proofs::HonestRuns::honest_presumed_abort, crate::proofs::HonestRuns::honest_part_reached_again, crate::proofs::HonestRuns::honest_taken_over, crate::proofs::HonestRuns::honest_resumed, crate::proofs::HonestRuns::honest_frozen_and_renewed, crate::proofs::HonestRuns::honest_stranger))]
+pub fn runs_are_honest()
+    ensures late { IsHonestRun late }
+    ensures a_no { IsHonestRun a_no }
+    ensures labelled { IsHonestRun labelled }
+    ensures push_and_prepare { IsHonestRun push_and_prepare }
+    ensures one_part_says_no { IsHonestRun one_part_says_no }
+    ensures two_parts { IsHonestRun two_parts }
+    ensures pulled { IsHonestRun pulled }
+    ensures pushed { IsHonestRun pushed }
+    ensures known_or_not_pulled { IsHonestRun known_or_not_pulled }
+    ensures in_doubt_and_committed { IsHonestRun in_doubt_and_committed }
+    ensures out_of_turn { IsHonestRun out_of_turn }
+    ensures part_lost { IsHonestRun part_lost }
+    ensures part_not_valid { IsHonestRun part_not_valid }
+    ensures not_valid { IsHonestRun not_valid }
+    ensures lost_vote { IsHonestRun lost_vote }
+    ensures restarted_in_doubt { IsHonestRun restarted_in_doubt }
+    ensures refused_removal { IsHonestRun refused_removal }
+    ensures presumed_abort { IsHonestRun presumed_abort }
+    ensures part_reached_again { IsHonestRun part_reached_again }
+    ensures taken_over { IsHonestRun taken_over }
+    ensures resumed { IsHonestRun resumed }
+    ensures frozen_and_renewed { IsHonestRun frozen_and_renewed }
+    ensures stranger { IsHonestRun stranger }
 {}

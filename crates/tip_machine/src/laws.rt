@@ -1,5 +1,7 @@
 //! Laws of the machine, each carried by a function that does nothing. All but the last hold whatever is served.
 ghost use Rattle.std.specs.Prelude.{◌≡◌, ◌≤◌, ◌<◌, [], ℕ, List, IsSome, Some, None, map, true, false};
+ghost use Rattle.std.specs.List.{All};
+ghost use Rattle.tip_branch.specs.Notes.{ComesBack, PartyNotes};
 ghost use Rattle.tip_txn.specs.Decisions.{Decides};
 ghost use Rattle.tip_txn.specs.Parts.{answers_of};
 ghost use Rattle.tip_txn.specs.declared.part.Participant.{Participant};
@@ -10,6 +12,7 @@ ghost use Rattle.tip_machine.specs.Commands.{pull, query, reconnect};
 ghost use Rattle.tip_machine.specs.Given.{are_numbered, was_given};
 ghost use Rattle.tip_machine.specs.Invariants.{IsSound};
 ghost use Rattle.tip_machine.specs.Moves.{Move, fresh, led_to};
+ghost use Rattle.tip_machine.specs.Returns.{Back, back_of, can_answer, is_done};
 ghost use Rattle.tip_machine.specs.Served.{Serving, today};
 ghost use Rattle.tip_machine.specs.States.{State, Work, transaction_of};
 ghost use Rattle.tip_machine.specs.Steps.{step_serving, ChangesTheEntriesAlone, IsForgotten, IsNext, TouchesOne};
@@ -59,6 +62,12 @@ pub fn an_identifier_is_never_made_twice()
 #[tactic(auto, using(crate::proofs::Deciding::decides))]
 pub fn the_decision_is_that_of_two_phase_commit()
     ensures { (parts : List Participant) → Decides (answers_of parts) (decision (map (λ part. part.answer) parts)) }
+{}
+
+/// A party that is computed from what its branches answer comes back as its errand leaves it.
+#[tactic(auto, using(crate::proofs::Returning::comes_back))]
+pub fn a_party_comes_back_as_its_errand_leaves_it()
+    ensures { (party : PartyNotes) (back : Back) → All (λ m. m.call ≡ None) party.members → can_answer party.errand back party.members ≡ true → is_done back ≡ true → ComesBack party (back_of party back) }
 {}
 
 /// A transaction that is aborted is answered as one that never was: presumed abort.

@@ -1,0 +1,71 @@
+-- HONEST RUNS (ours): what is chosen from outside, and what the machine computes. Chosen are the other managers' lines, boxes
+-- and what their branches answer, what becomes of a change, and which errand is lost. All else follows.
+use Rattle.std.specs.Prelude.{ℕ, ◌==◌, ◌&&◌, nat_lt, Bool, true, false, List, [], ◌∷◌, length, Option, Some, None}
+use Rattle.std.specs.List.{list_all}
+use Rattle.tip_branch.specs.Notes.{PartyNotes}
+use Rattle.tip_branch.specs.declared.branch.Badge.{Badge}
+use Rattle.tip_rows.specs.Keys.{Place as Key, comes_before}
+use Rattle.tip_rows.specs.Logs.{last_epoch}
+use Rattle.tip_rows.specs.declared.row.Row.{Row}
+use Rattle.tip_rows.specs.declared.row.Row.TheVariants as row
+use Rattle.tip_machine.specs.Types.{Event}
+use Rattle.tip_machine.specs.Moves.{Move, World, moved}
+use Rattle.tip_machine.specs.Returns.{Back, can_answer, event_of}
+use Rattle.tip_machine.specs.Served.{Serving}
+use Rattle.tip_machine.specs.Steps.{wants_serving}
+use Rattle.tip_machine.specs.declared.event.Change.{Change}
+use Rattle.tip_machine.specs.declared.event.Event.TheVariants.{Voted, Settled}
+use Rattle.tip_machine.specs.declared.event.Outcome.{Outcome}
+use Rattle.tip_machine.specs.declared.event.Outcome.TheVariants.{NoChange, Stored, Refused}
+
+abbrev pub is_no_change : Outcome → Bool
+is_no_change NoChange = true
+is_no_change Stored = false
+is_no_change Refused = false
+
+-- the outcome is one of the change that was wanted: no change where none was, and stored or refused where one was
+abbrev pub fits : Option Change → Outcome → Bool
+fits None outcome = is_no_change outcome
+fits (Some change) NoChange = false
+fits (Some change) Stored = true
+fits (Some change) Refused = true
+
+-- a party comes back from an errand of its realm alone, and not with an event of its own
+abbrev pub brings_no_party : Event → Bool
+brings_no_party (Voted party) = false
+brings_no_party (Settled party) = false
+brings_no_party other = true
+
+-- the local branches that a row names
+abbrev pub branches_in : Row → List (ℕ × List ℕ)
+branches_in (row.Prepared address superior branches subordinates) = branches
+branches_in (row.Committed branches subordinates) = branches
+
+-- each row's branches get exactly their boxes
+abbrev pub are_adopted : (Key → List Badge) → List (Key × Row) → Bool
+are_adopted boxes rows = list_all (λ row. length (boxes row.0) == length (branches_in row.1)) rows
+
+-- the realm can start again
+abbrev pub can_start : (Key → List Badge) → World → Bool
+can_start boxes world = nat_lt world.state.head.epoch last_epoch && are_adopted boxes world.rows
+
+-- the oldest errand comes back as its branches can answer
+abbrev pub can_go : List PartyNotes → Serving → Back → Outcome → World → Bool
+can_go [] serving back outcome world = true
+can_go (party ∷ errands) serving back outcome world =
+    can_answer party.errand back party.members && fits (wants_serving serving world.state (event_of party back)) outcome
+
+-- A MOVE IS HONEST in the world that it meets. A renewal that is refused for another reason than by the store is no move
+abbrev pub is_honest : Serving → Move → World → Bool
+is_honest serving (Move.Step event outcome) world = brings_no_party event && fits (wants_serving serving world.state event) outcome
+is_honest serving (Move.Go back outcome) world = can_go world.errands serving back outcome world
+is_honest serving Move.Lose world = true
+is_honest serving (Move.Restart boxes) world = can_start boxes world
+is_honest serving (Move.Renew boxes NoChange) world = false
+is_honest serving (Move.Renew boxes Stored) world = can_start boxes world
+is_honest serving (Move.Renew boxes Refused) world = can_start boxes world
+
+-- A RUN IS HONEST: each of its moves is
+abbrev pub is_run : Serving → World → List Move → Bool
+is_run serving world [] = true
+is_run serving world (move ∷ moves) = is_honest serving move world && is_run serving (moved serving move world).world moves
