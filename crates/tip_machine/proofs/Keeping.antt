@@ -48,11 +48,17 @@ closed_by_keeps key = record {
   displaces = λ other c w v on found keeps. keeps_same w _ keeps.head keeps.refusal keeps.opened;
 }
 
--- the counts stay, nothing is opened, and where the event is refused, the state stays
+-- nothing was done: the state stays, nothing is told, and no party goes out
+pub record IsQuiet (before after : Work) : Type 0 where
+  pub state : after.state ≡ before.state
+  pub told : after.answer.told ≡ before.answer.told
+  pub work : after.answer.work ≡ before.answer.work
+
+-- the counts stay, nothing is opened, and where the event is refused, nothing was done
 pub record Goes (before after : Work) : Type 0 where
   pub head : after.state.head ≡ before.state.head
   pub opened : after.answer.opened ≡ before.answer.opened
-  pub quiet : IsSome after.answer.refusal → after.state ≡ before.state
+  pub quiet : IsSome after.answer.refusal → IsQuiet before after
 
 pub some_none : {T : Type 0} (o : Option T) → o ≡ None → IsSome o → ⊥
 some_none None e some = absurd (cc)
@@ -62,11 +68,11 @@ kept : (w v : Work) → w.answer.refusal ≡ None → Keeps w v → Goes w v
 kept w v none keeps = record { head = keeps.head; opened = keeps.opened; quiet = λ some. absurd (some_none v.answer.refusal (keeps.refusal ∙ none) some) }
 
 refused : (w : Work) (why : Refusal) → Goes w (refuse why w)
-refused w why = record { head = refl; opened = refl; quiet = λ some. refl }
+refused w why = record { head = refl; opened = refl; quiet = λ some. record { state = refl; told = refl; work = refl } }
 
 pub each : (found : Option Connection) → IfSome found (λ c. any c.number)
 each None = tt
 each (Some c) = may c.number
 
 pub event-goes : (serving : Serving) (event : Event) (w : Work) → is_opening event ≡ false → w.answer.refusal ≡ None → Ends (Goes w) (attempt serving event w)
-event-goes serving event w not none = attempt-goes (λ key. Keeps) any closed_by_keeps w (Goes w) (λ key v keeps. kept w v none keeps) (refused w) (λ party. record { head = refl; opened = refl; quiet = λ some. refl }) serving event not (λ seat names. each (seated seat w.state))
+event-goes serving event w not none = attempt-goes (λ key. Keeps) any closed_by_keeps w (Goes w) (λ key v keeps. kept w v none keeps) (refused w) (λ party. record { head = refl; opened = refl; quiet = λ some. record { state = refl; told = refl; work = refl } }) serving event not (λ seat names. each (seated seat w.state))

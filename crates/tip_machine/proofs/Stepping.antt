@@ -1,5 +1,5 @@
 -- What a step leaves of a realm's counts, and what a refusal leaves.
-use Rattle.std.proofs.Common.{◌≡◌, ◌≤◌, Bool, ℕ, ◌+◌, List, Some, None, refl, ap, arith, sym, ◌∙◌, ◌⊎◌, inl, inr}
+use Rattle.std.proofs.Common.{◌≡◌, ◌≤◌, Bool, ℕ, ◌+◌, List, [], Some, None, refl, ap, arith, sym, ◌∙◌, ◌⊎◌, inl, inr}
 use Rattle.std.specs.Prelude.{◌&&◌, IsSome, length}
 use Rattle.std.proofs.lemmas.Option.{same_Some, none-some}
 use Rattle.tip_branch.specs.declared.branch.Badge.{Badge}
@@ -10,10 +10,11 @@ use Rattle.tip_machine.specs.Heads.{IsCounted}
 use Rattle.tip_machine.specs.Connections.{accepted}
 use Rattle.tip_machine.specs.States.{Attempt, State, Work, has_place}
 use Rattle.tip_machine.specs.Changes.{refuse}
-use Rattle.tip_machine.specs.Order.{ordered}
+use Rattle.tip_machine.specs.Order.{in_turn, ordered, turn}
 use Rattle.tip_machine.specs.Requests.{added, dial, hand_back, opened}
 use Rattle.tip_machine.specs.Served.{Serving}
 use Rattle.tip_machine.specs.Steps.{attempt, chosen, entered, frozen, is_open, returned, step_serving, ChangesTheEntriesAlone, IsNext}
+use Rattle.tip_machine.specs.declared.answer.Told.{Told}
 use Rattle.tip_machine.specs.declared.connection.Purpose.{Purpose}
 use Rattle.tip_machine.specs.declared.event.Event.TheVariants.{Open, Dial, Voted, Settled}
 use Rattle.tip_machine.specs.declared.event.Outcome.{Outcome}
@@ -32,7 +33,7 @@ abbrev pub Went : Work → Work → Type 0
 Went before after = Goes before after ⊎ Opens before after
 
 handed_back : (w : Work) (boxes : List Badge) → Went w (hand_back boxes (refuse Full w))
-handed_back w boxes = inl (record { head = refl; opened = refl; quiet = λ some. refl })
+handed_back w boxes = inl (record { head = refl; opened = refl; quiet = λ some. record { state = refl; told = refl; work = refl } })
 
 opened-went : (boxes : List Badge) (w : Work) → Went w (opened boxes w)
 unfolding opened added
@@ -53,14 +54,26 @@ attempt-went serving event w none =
     (λ event not. went_each w (attempt serving event w) (event-goes serving event w not none))
     event
 
-ordered-went : (w : Work) (state : State) (v : Work) → Went w v → Went w (ordered state v)
+-- no line has no order
+ordered-none : (state : State) (told none : List Told) → none ≡ [] → told ≡ none → in_turn (turn state) told ≡ none
+ordered-none state told none is same = ap (in_turn (turn state)) (same ∙ is) ∙ sym is
+
+ordered-went : (w : Work) (state : State) (v : Work) → w.answer.told ≡ [] → Went w v → Went w (ordered state v)
 unfolding ordered
-ordered-went w state v (inl goes) = inl (record { head = goes.head; opened = goes.opened; quiet = goes.quiet })
-ordered-went w state v (inr opens) = inr (record { head = opens.head; opened = opens.opened; refusal = opens.refusal })
+ordered-went w state v none (inl goes) = inl (record {
+  head = goes.head;
+  opened = goes.opened;
+  quiet = λ some. record {
+    state = (goes.quiet some).state;
+    told = ordered-none state v.answer.told w.answer.told none (goes.quiet some).told;
+    work = (goes.quiet some).work;
+  };
+})
+ordered-went w state v none (inr opens) = inr (record { head = opens.head; opened = opens.opened; refusal = opens.refusal })
 
 -- an event that takes an entry goes from `entered`
 step-went : (serving : Serving) (state : State) (event : Event) (outcome : Outcome) → Went (entered state) (ordered state (chosen (attempt serving event (entered state)) outcome))
-step-went serving state event outcome = ordered-went (entered state) state _ (chosen_ends (Went (entered state)) (attempt serving event (entered state)) outcome (attempt-went serving event (entered state) refl))
+step-went serving state event outcome = ordered-went (entered state) state _ refl (chosen_ends (Went (entered state)) (attempt serving event (entered state)) outcome (attempt-went serving event (entered state) refl))
 
 returned-opened : (why : Refusal) (event : Event) → (returned why event).opened ≡ None
 returned-opened why (Open boxes) = refl
@@ -76,7 +89,7 @@ IsAlone state work = IsSome work.answer.refusal → ChangesTheEntriesAlone state
 
 went-alone : (state : State) (v : Work) → Went (entered state) v → IsAlone state v
 unfolding IsAlone
-went-alone state v (inl goes) = λ some. rw (goes.quiet some) refl
+went-alone state v (inl goes) = λ some. rw (goes.quiet some).state refl
 went-alone state v (inr opens) = λ some. absurd (some_none v.answer.refusal opens.refusal some)
 
 frozen-alone : (event : Event) (state : State) → IsAlone state (frozen event state)
@@ -89,6 +102,34 @@ quiet_step serving state event outcome = either (IsAlone state) (is_open state) 
 pub quiet : (serving : Serving) (state : State) (event : Event) (outcome : Outcome) → IsSome (step_serving serving state event outcome).answer.refusal → ChangesTheEntriesAlone state (step_serving serving state event outcome).state
 unfolding IsAlone
 quiet serving state event outcome = quiet_step serving state event outcome
+
+-- and it tells nothing, and sends no party out
+
+returned-silent : (why : Refusal) (event : Event) → ((returned why event).told ≡ []) × ((returned why event).work ≡ None)
+returned-silent why (Open boxes) = (refl, refl)
+returned-silent why (Dial address purpose boxes) = (refl, refl)
+returned-silent why (Voted party) = (refl, refl)
+returned-silent why (Settled party) = (refl, refl)
+returned-silent why other = (refl, refl)
+
+IsSilent : Work → Type 0
+IsSilent work = IsSome work.answer.refusal → (work.answer.told ≡ []) × (work.answer.work ≡ None)
+
+went-silent : (state : State) (v : Work) → Went (entered state) v → IsSilent v
+unfolding IsSilent
+went-silent state v (inl goes) = λ some. ((goes.quiet some).told, (goes.quiet some).work)
+went-silent state v (inr opens) = λ some. absurd (some_none v.answer.refusal opens.refusal some)
+
+frozen-silent : (event : Event) (state : State) → IsSilent (frozen event state)
+unfolding IsSilent
+frozen-silent event state = λ some. returned-silent Frozen event
+
+silent_step : (serving : Serving) (state : State) (event : Event) (outcome : Outcome) → IsSilent (step_serving serving state event outcome)
+silent_step serving state event outcome = either IsSilent (is_open state) _ (frozen event state) (went-silent state _ (step-went serving state event outcome)) (frozen-silent event state)
+
+pub silent : (serving : Serving) (state : State) (event : Event) (outcome : Outcome) → IsSome (step_serving serving state event outcome).answer.refusal → ((step_serving serving state event outcome).answer.told ≡ []) × ((step_serving serving state event outcome).answer.work ≡ None)
+unfolding IsSilent
+silent serving state event outcome = silent_step serving state event outcome
 
 -- Numbers of connections
 

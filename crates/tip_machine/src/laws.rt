@@ -1,5 +1,5 @@
 //! Laws of the machine, each carried by a function that does nothing. All but the last hold whatever is served.
-ghost use Rattle.std.specs.Prelude.{◌≡◌, ◌≤◌, ◌<◌, [], ℕ, List, IsSome, Some, None, map, true, false};
+ghost use Rattle.std.specs.Prelude.{◌≡◌, ◌≤◌, ◌<◌, [], ℕ, List, Option, IsSome, Some, None, map, true, false};
 ghost use Rattle.std.specs.List.{All};
 ghost use Rattle.tip_branch.specs.Notes.{ComesBack, PartyNotes};
 ghost use Rattle.tip_txn.specs.Decisions.{Decides};
@@ -7,27 +7,34 @@ ghost use Rattle.tip_txn.specs.Parts.{answers_of};
 ghost use Rattle.tip_txn.specs.declared.part.Participant.{Participant};
 ghost use Rattle.tip_line.specs.declared.command.CommandName.TheVariants as command;
 ghost use Rattle.tip_rows.specs.Keys.{Place as Key};
-ghost use Rattle.tip_machine.specs.Changes.{reply};
+ghost use Rattle.tip_machine.specs.Changes.{refuse, reply};
 ghost use Rattle.tip_machine.specs.Commands.{pull, query, reconnect};
+ghost use Rattle.tip_machine.specs.Failing.{closed};
 ghost use Rattle.tip_machine.specs.Given.{are_numbered, was_given};
 ghost use Rattle.tip_machine.specs.Invariants.{IsSound};
 ghost use Rattle.tip_machine.specs.Moves.{Move, fresh, led_to};
+ghost use Rattle.tip_machine.specs.Requests.{push_part, resume};
+ghost use Rattle.tip_machine.specs.Responses.{pursue};
 ghost use Rattle.tip_machine.specs.Returns.{Back, back_of, can_answer, is_done};
 ghost use Rattle.tip_machine.specs.Served.{Serving, today};
-ghost use Rattle.tip_machine.specs.States.{State, Work, transaction_of};
+ghost use Rattle.tip_machine.specs.States.{State, Work, identified_by, transaction_of};
 ghost use Rattle.tip_machine.specs.Steps.{step_serving, ChangesTheEntriesAlone, IsForgotten, IsNext, TouchesOne};
 ghost use Rattle.tip_machine.specs.Transactions.{decision};
 ghost use Rattle.tip_machine.specs.Types.{Connection, Event};
 ghost use Rattle.tip_machine.specs.declared.answer.Said.TheVariants as said;
+ghost use Rattle.tip_line.specs.declared.refusal.Refusal.TheVariants.{NotActive};
+ghost use Rattle.tip_machine.specs.declared.connection.Purpose.TheVariants as purpose;
 ghost use Rattle.tip_machine.specs.declared.event.Outcome.{Outcome};
 ghost use Rattle.tip_machine.specs.declared.event.Seat.{Seat};
 ghost use Rattle.tip_machine.specs.declared.head.Head.{Head};
 
-/// What is refused has not happened: at most the journal has an entry more.
-#[tactic(auto, using(crate::proofs::Stepping::quiet))]
+/// What is refused has not happened: at most the journal has an entry more, nothing is told, and no party goes out.
+#[tactic(auto, using(crate::proofs::Stepping::quiet, crate::proofs::Stepping::silent))]
 pub fn a_refusal_changes_the_entries_alone()
-    ensures { (serving : Serving) (state : State) (event : Event) (outcome : Outcome) → IsSome (step_serving serving state event outcome).answer.refusal →
+    ensures state { (serving : Serving) (state : State) (event : Event) (outcome : Outcome) → IsSome (step_serving serving state event outcome).answer.refusal →
         ChangesTheEntriesAlone state (step_serving serving state event outcome).state }
+    ensures silent { (serving : Serving) (state : State) (event : Event) (outcome : Outcome) → IsSome (step_serving serving state event outcome).answer.refusal →
+        ((step_serving serving state event outcome).answer.told ≡ []) × ((step_serving serving state event outcome).answer.work ≡ None) }
 {}
 
 /// A new connection has the next number of its start, the count of numbers never falls, and numbers rise in the order made.
@@ -71,11 +78,15 @@ pub fn a_party_comes_back_as_its_errand_leaves_it()
 {}
 
 /// A transaction that is aborted is answered as one that never was: presumed abort.
-#[tactic(auto, using(crate::proofs::Forgotten::queried, crate::proofs::Forgotten::pulled, crate::proofs::Forgotten::reconnected))]
+#[tactic(auto, using(crate::proofs::Forgotten::queried, crate::proofs::Forgotten::pulled, crate::proofs::Forgotten::reconnected, crate::proofs::Forgotten::pushed, crate::proofs::Forgotten::resumed, crate::proofs::Forgotten::dialled_to_ask, crate::proofs::Forgotten::dialled_to_reconnect))]
 pub fn an_aborted_transaction_is_as_one_that_never_was()
     ensures query { (id : List ℕ) (connection : Connection) (work : Work) → IsForgotten id work.state → query id connection work ≡ reply connection.number command.Query said.QueriedNotFound work }
     ensures pull { (id subordinate : List ℕ) (connection : Connection) (work : Work) → IsForgotten id work.state → pull id subordinate connection work ≡ reply connection.number command.Pull said.NotPulled work }
     ensures reconnect { (id : List ℕ) (connection : Connection) (work : Work) → IsForgotten id work.state → reconnect id connection work ≡ reply connection.number command.Reconnect said.NotReconnected work }
+    ensures push { (id : List ℕ) (peer : Option (List ℕ)) (number : ℕ) (work : Work) → IsForgotten id work.state → push_part (identified_by id work.state) peer number work ≡ refuse NotActive work }
+    ensures resume { (id : List ℕ) (work : Work) → IsForgotten id work.state → resume (identified_by id work.state) work ≡ resume None work }
+    ensures dial_to_query { (id : List ℕ) (connection : Connection) (work : Work) → IsForgotten id work.state → pursue (purpose.Query id) connection work ≡ closed connection work }
+    ensures dial_to_reconnect { (id : List ℕ) (place : ℕ) (connection : Connection) (work : Work) → IsForgotten id work.state → pursue (purpose.Reconnect id place) connection work ≡ closed connection work }
 {}
 
 /// The steps that are served today keep the invariants: they hold wherever a realm comes that had stored nothing.
