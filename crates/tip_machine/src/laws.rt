@@ -5,6 +5,7 @@ ghost use Rattle.tip_branch.specs.Notes.{ComesBack, PartyNotes};
 ghost use Rattle.tip_txn.specs.Decisions.{Decides};
 ghost use Rattle.tip_txn.specs.Parts.{answers_of};
 ghost use Rattle.tip_txn.specs.declared.part.Participant.{Participant};
+ghost use Rattle.tip_line.specs.Ids.{IsGiven};
 ghost use Rattle.tip_line.specs.declared.command.CommandName.TheVariants as command;
 ghost use Rattle.tip_rows.specs.Keys.{Place as Key};
 ghost use Rattle.tip_machine.specs.Changes.{refuse, reply};
@@ -69,6 +70,12 @@ pub fn an_identifier_is_never_made_twice()
 #[tactic(auto, using(crate::proofs::Deciding::decides))]
 pub fn the_decision_is_that_of_two_phase_commit()
     ensures { (parts : List Participant) → Decides (answers_of parts) (decision (map (λ part. part.answer) parts)) }
+{}
+
+/// An identifier that a realm gives is of one realm and of one transaction there: no two spell the same.
+pub fn an_identifier_is_of_one_realm_and_transaction()
+    ensures { (text this that : List ℕ) (epoch connection number epoch' connection' number' : ℕ) → IsGiven text this epoch connection number → IsGiven text that epoch' connection' number' →
+        (this ≡ that) × (epoch ≡ epoch') × (connection ≡ connection') × (number ≡ number') }
 {}
 
 /// A party that is computed from what its branches answer comes back as its errand leaves it.
