@@ -76,15 +76,15 @@ voted_carried [] (m ∷ ms) untold can =
     (not_asked m.standing.phase m (not_true (is_active m) both.0), left errand.Vote m ms ms (first m ms untold) others)
 voted_carried (v ∷ votes) (m ∷ ms) untold can =
     step (is_active m) refl can (voted_carried votes ms (rest m ms untold)) (voted_carried (v ∷ votes) ms (rest m ms untold)) where
-    after : (c : Bool) → cond c (is_nil votes) (are_votes votes ms) ≡ true → (are_votes votes ms ≡ true → IsCarriedOut errand.Vote ms (voted_by votes ms)) → MatchBool c (cond c ms (voted_by votes ms) ≡ ms) (IsCarriedOut errand.Vote ms (cond c ms (voted_by votes ms)))
-    after true can next = refl
-    after false can next = next can
+      after : (c : Bool) → cond c (is_nil votes) (are_votes votes ms) ≡ true → (are_votes votes ms ≡ true → IsCarriedOut errand.Vote ms (voted_by votes ms)) → MatchBool c (cond c ms (voted_by votes ms) ≡ ms) (IsCarriedOut errand.Vote ms (cond c ms (voted_by votes ms)))
+      after true can next = refl
+      after false can next = next can
 
-    step : (b : Bool) → is_active m ≡ b → cond b (keeps is_vote (planned_vote m.standing.badge.plan) v && cond (is_no v) (is_nil votes) (are_votes votes ms)) (are_votes (v ∷ votes) ms) ≡ true → (are_votes votes ms ≡ true → IsCarriedOut errand.Vote ms (voted_by votes ms)) → (are_votes (v ∷ votes) ms ≡ true → IsCarriedOut errand.Vote ms (voted_by (v ∷ votes) ms)) → IsCarriedOut errand.Vote (m ∷ ms) (cond b (voting m v ∷ cond (is_no v) ms (voted_by votes ms)) (m ∷ voted_by (v ∷ votes) ms))
-    step true is can next same =
-        let both = and_parts (keeps is_vote (planned_vote m.standing.badge.plan) v) (cond (is_no v) (is_nil votes) (are_votes votes ms)) can in
-        (asked m.standing.phase m v is both.0, after (is_no v) both.1 next)
-    step false is can next same = (not_asked m.standing.phase m is, left errand.Vote m ms (voted_by (v ∷ votes) ms) (first m ms untold) (same can))
+      step : (b : Bool) → is_active m ≡ b → cond b (keeps is_vote (planned_vote m.standing.badge.plan) v && cond (is_no v) (is_nil votes) (are_votes votes ms)) (are_votes (v ∷ votes) ms) ≡ true → (are_votes votes ms ≡ true → IsCarriedOut errand.Vote ms (voted_by votes ms)) → (are_votes (v ∷ votes) ms ≡ true → IsCarriedOut errand.Vote ms (voted_by (v ∷ votes) ms)) → IsCarriedOut errand.Vote (m ∷ ms) (cond b (voting m v ∷ cond (is_no v) ms (voted_by votes ms)) (m ∷ voted_by (v ∷ votes) ms))
+      step true is can next same =
+          let both = and_parts (keeps is_vote (planned_vote m.standing.badge.plan) v) (cond (is_no v) (is_nil votes) (are_votes votes ms)) can in
+          (asked m.standing.phase m v is both.0, after (is_no v) both.1 next)
+      step false is can next same = (not_asked m.standing.phase m is, left errand.Vote m ms (voted_by (v ∷ votes) ms) (first m ms untold) (same can))
 
 not_told : (f : Phase) (m : Member) → is_ready_phase f ≡ false → IsToldCommit f m m
 not_told Active m is = refl
@@ -111,11 +111,11 @@ settled_carried [] (m ∷ ms) untold can =
     (not_told m.standing.phase m (not_true (is_ready m) both.0), left errand.Commit m ms ms (first m ms untold) others)
 settled_carried (s ∷ answers) (m ∷ ms) untold can =
     step (is_ready m) refl can (settled_carried answers ms (rest m ms untold)) (settled_carried (s ∷ answers) ms (rest m ms untold)) where
-    step : (b : Bool) → is_ready m ≡ b → cond b (keeps is_settled (promised_answer m) s && are_settlements answers ms) (are_settlements (s ∷ answers) ms) ≡ true → (are_settlements answers ms ≡ true → IsCarriedOut errand.Commit ms (settled_by answers ms)) → (are_settlements (s ∷ answers) ms ≡ true → IsCarriedOut errand.Commit ms (settled_by (s ∷ answers) ms)) → IsCarriedOut errand.Commit (m ∷ ms) (cond b (committing m s ∷ settled_by answers ms) (m ∷ settled_by (s ∷ answers) ms))
-    step true is can next same =
-        let both = and_parts (keeps is_settled (promised_answer m) s) (are_settlements answers ms) can in
-        (told m.standing.phase m s is both.0, next both.1)
-    step false is can next same = (not_told m.standing.phase m is, left errand.Commit m ms (settled_by (s ∷ answers) ms) (first m ms untold) (same can))
+      step : (b : Bool) → is_ready m ≡ b → cond b (keeps is_settled (promised_answer m) s && are_settlements answers ms) (are_settlements (s ∷ answers) ms) ≡ true → (are_settlements answers ms ≡ true → IsCarriedOut errand.Commit ms (settled_by answers ms)) → (are_settlements (s ∷ answers) ms ≡ true → IsCarriedOut errand.Commit ms (settled_by (s ∷ answers) ms)) → IsCarriedOut errand.Commit (m ∷ ms) (cond b (committing m s ∷ settled_by answers ms) (m ∷ settled_by (s ∷ answers) ms))
+      step true is can next same =
+          let both = and_parts (keeps is_settled (promised_answer m) s) (are_settlements answers ms) can in
+          (told m.standing.phase m s is both.0, next both.1)
+      step false is can next same = (not_told m.standing.phase m is, left errand.Commit m ms (settled_by (s ∷ answers) ms) (first m ms untold) (same can))
 
 told_abort : (f : Phase) (m : Member) → IsToldAbort f m (cond (is_ready_phase f) (aborting m) m)
 told_abort Active m = refl
