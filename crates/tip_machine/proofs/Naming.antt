@@ -1,12 +1,11 @@
 -- An identifier is of one transaction of one realm.
-use Rattle.std.proofs.Common.{◌≡◌, ◌<◌, ◌^◌, ℕ, Bool, true, false, List, [], ◌∷◌, ◌++◌, refl, ap, sym, ◌∙◌, subst, arith}
-use Rattle.std.specs.Prelude.{◌==◌, ◌&&◌, not}
-use Rattle.std.specs.List.{list_all}
+use Rattle.std.proofs.Common.{◌≡◌, ℕ, true, List, [], ◌∷◌, ◌++◌, refl, ap, sym, ◌∙◌, subst, arith}
+use Rattle.std.specs.Prelude.{◌==◌, not}
 use Rattle.std.specs.Fmt.{decimal}
 use Rattle.std.proofs.lemmas.Bool.{and_parts}
 use Rattle.std.proofs.lemmas.Fmt.{decimal_injective}
 use Rattle.tip_line.specs.Ids.{dash, has_no_dash, IsGiven}
-use Rattle.tip_line.proofs.IdLemmas.{Taken, taken_apart}
+use Rattle.tip_line.proofs.IdLemmas.{taken_apart}
 
 a_dash : (octet : ℕ) → octet ≡ dash → not (octet == dash) ≡ true → ⊥
 a_dash octet same is = let e : not (dash == dash) ≡ true = subst (λ o. not (o == dash) ≡ true) same is in cc

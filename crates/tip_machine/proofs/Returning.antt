@@ -1,5 +1,5 @@
 -- A party that is computed from what its branches answer comes back as its errand leaves it.
-use Rattle.std.proofs.Common.{◌≡◌, Bool, true, false, cond, List, [], ◌∷◌, zero, suc, None, Some, Option, map, refl, ap, sym, subst, arith}
+use Rattle.std.proofs.Common.{◌≡◌, Bool, true, false, cond, List, [], ◌∷◌, suc, None, Some, Option, map, refl, ap, sym, subst, arith}
 use Rattle.std.specs.Prelude.{◌&&◌, not, IfSome}
 use Rattle.std.specs.Bool.{MatchBool}
 use Rattle.std.specs.List.{All}
@@ -14,7 +14,6 @@ use Rattle.tip_branch.specs.declared.branch.Settled.{Settled}
 use Rattle.tip_branch.specs.declared.branch.Settled.TheVariants as settled
 use Rattle.tip_branch.specs.declared.branch.Vote.{Vote}
 use Rattle.tip_branch.specs.declared.branch.Vote.TheVariants as vote
-use Rattle.tip_branch.specs.declared.member.Call.{Call}
 use Rattle.tip_branch.specs.declared.member.Errand.{Errand}
 use Rattle.tip_branch.specs.declared.member.Errand.TheVariants as errand
 use Rattle.tip_branch.specs.declared.member.Member.{Member}

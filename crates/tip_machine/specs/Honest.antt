@@ -4,7 +4,7 @@ use Rattle.std.specs.Prelude.{ℕ, ◌==◌, ◌&&◌, nat_lt, Bool, true, false
 use Rattle.std.specs.List.{list_all}
 use Rattle.tip_branch.specs.Notes.{PartyNotes}
 use Rattle.tip_branch.specs.declared.branch.Badge.{Badge}
-use Rattle.tip_rows.specs.Keys.{Place as Key, comes_before}
+use Rattle.tip_rows.specs.Keys.{Place as Key}
 use Rattle.tip_rows.specs.Logs.{last_epoch}
 use Rattle.tip_rows.specs.declared.row.Row.{Row}
 use Rattle.tip_rows.specs.declared.row.Row.TheVariants as row

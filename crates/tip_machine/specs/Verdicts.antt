@@ -1,6 +1,6 @@
 -- What the branches of a transaction are told (ours): what agreement is about. It is read off what is shown alone, so a realm
 -- that says COMMIT and forgets the transaction in the same event has still said it.
-use Rattle.std.specs.Prelude.{◌≡◌, ℕ, ◌&&◌, not, Bool, true, false, List, filter_map, Option, Some, None, if◌then◌else◌}
+use Rattle.std.specs.Prelude.{◌≡◌, ℕ, ◌&&◌, Bool, true, false, List, filter_map, Option, Some, None, if◌then◌else◌}
 use Rattle.std.specs.List.{list_any}
 use Rattle.std.specs.Str.{bytes_eq}
 use Rattle.tip_branch.specs.declared.member.Call.{Call}
