@@ -100,7 +100,7 @@ fn tables_grow(rt: HostRuntime) -> Result<(), Fail> {
 #[test]
 fn transactions_grow(rt: HostRuntime) -> Result<(), Fail> {
     let alloc = rt.alloc();
-    let mut txn = Txn::new(alloc, Id::new(alloc, b"north-1-1-1")?);
+    let mut txn = Txn::new(alloc);
     let address = Address::new(alloc, b"p.x")?;
     for _ in 0..MANY {
         txn.reserve()?;

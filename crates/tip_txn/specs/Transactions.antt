@@ -7,7 +7,6 @@ use Rattle.tip_txn.specs.declared.part.Participant.{Participant}
 
 -- the parts are in the order enlisted, the local party first; `spare` is how many more there is room for
 pub record Transaction : Type 0 where
-  pub id : List ℕ
   pub phase : Phase
   pub parts : List Participant
   pub spare : ℕ
@@ -16,16 +15,16 @@ pub record Transaction : Type 0 where
 abbrev pub local_party : Participant
 local_party = record { address = None; id = None; answer = None; acknowledged = false }
 
-abbrev pub fresh : List ℕ → Transaction
-fresh id = record { id = id; phase = Active; parts = local_party ∷ []; spare = 0 }
+abbrev pub fresh : Transaction
+fresh = record { phase = Active; parts = local_party ∷ []; spare = 0 }
 
 -- a subordinate of a stored row, which had said yes
 abbrev pub willing : List ℕ × List ℕ → Participant
 willing subordinate = record { address = Some subordinate.0; id = Some subordinate.1; answer = Some Yes; acknowledged = false }
 
 -- the transaction of a stored row
-abbrev pub recovered : List ℕ → Phase → List (List ℕ × List ℕ) → Transaction
-recovered id phase subordinates = record { id = id; phase = phase; parts = record local_party { answer = Some Yes } ∷ map willing subordinates; spare = 0 }
+abbrev pub recovered : Phase → List (List ℕ × List ℕ) → Transaction
+recovered phase subordinates = record { phase = phase; parts = record local_party { answer = Some Yes } ∷ map willing subordinates; spare = 0 }
 
 -- an aborted transaction is none, as one that never was
 abbrev pub exists_in : Phase → Bool

@@ -14,7 +14,7 @@ use tip_line::{Address, Id};
 fn begun(alloc: Global) -> Result<Txn, Fail>
     ensures { IfOk result (λ txn. txn.parts ≡ local_party ∷ enlisted (codes "p.x") (Some (codes "p7")) ∷ []) }
 {
-    let mut txn = Txn::new(alloc, Id::new(alloc, b"north-1-1-1")?);
+    let mut txn = Txn::new(alloc);
     txn.reserve()?;
     let address = Address::new(alloc, b"p.x")?;
     let id = Id::new(alloc, b"p7")?;
@@ -68,9 +68,8 @@ fn enlists_a_named_pair_once(rt: HostRuntime) -> Result<(), Fail> {
 fn a_row_makes_a_transaction_of_yeses(rt: HostRuntime) -> Result<(), Fail> {
     let alloc = rt.alloc();
     let subordinate = (Address::new(alloc, b"p.x")?, Id::new(alloc, b"p7")?);
-    let id = Id::new(alloc, b"north-1-1-1")?;
-    let txn = Txn::of(alloc, id, Phase::Committed, &[subordinate])?;
-    assert_eq!(rt; txn.id().as_str(), "north-1-1-1");
+    let txn = Txn::of(alloc, Phase::Committed, &[subordinate])?;
+    assert_eq!(rt; txn.phase(), Phase::Committed);
     assert_eq!(rt; txn.decide(), Decision::Commit);
     Ok(())
 }
@@ -83,8 +82,7 @@ fn no_memory_for_the_parts_of_a_row(rt: HostRuntime) -> Result<(), Fail> {
         (Address::new(alloc, b"p.x")?, Id::new(alloc, b"p7")?),
         (Address::new(alloc, b"q.x")?, Id::new(alloc, b"q7")?),
     ];
-    let id = Id::new(alloc, b"north-1-1-1")?;
-    assert!(rt; Txn::of(&heap, id, Phase::Committed, &row).is_err());
+    assert!(rt; Txn::of(&heap, Phase::Committed, &row).is_err());
     Ok(())
 }
 
@@ -92,7 +90,7 @@ fn no_memory_for_the_parts_of_a_row(rt: HostRuntime) -> Result<(), Fail> {
 fn refused_room_leaves_the_transaction(rt: HostRuntime) -> Result<(), Fail> {
     let alloc = rt.alloc();
     let heap = LocalHeap::new(alloc, 2048)?;
-    let mut txn = Txn::new(&heap, Id::new(alloc, b"north-1-1-1")?);
+    let mut txn = Txn::new(&heap);
     for parts in 1..100 {
         if txn.reserve().is_err() {
             assert!(rt; parts > 1);

@@ -27,7 +27,6 @@ pub enum EnlistFault {
 /// One transaction. It knows no connection: whoever holds it says what its parts answered.
 #[derive(Debug, Drop)]
 pub struct Txn<A: Allocator = Global> {
-    id: Id,
     phase: Phase,
     local: Participant,
     others: Vec<Participant, A>,
@@ -39,16 +38,15 @@ impl<A: Allocator> Model for Txn<A> {
 
     ghost Value = { Transaction };
 
-    ghost view = { λ t. record { id = t.id; phase = t.phase; parts = t.local ∷ t.others.items; spare = vec_capacity t.others - vec_len t.others } };
+    ghost view = { λ t. record { phase = t.phase; parts = t.local ∷ t.others.items; spare = vec_capacity t.others - vec_len t.others } };
 }
 
 impl<A: Allocator> Txn<A> {
     /// A transaction that has just begun, with the local party as its only part.
-    pub fn new(alloc: A, id: Id) -> Txn<A>
-        ensures { result ≡ fresh id }
+    pub fn new(alloc: A) -> Txn<A>
+        ensures { result ≡ fresh }
     {
         Txn {
-            id,
             phase: Phase::Active,
             local: unanswered(None, None),
             others: Vec::new(alloc),
@@ -58,29 +56,20 @@ impl<A: Allocator> Txn<A> {
     /// The transaction of a stored row: each party said yes, and no subordinate has acknowledged.
     pub fn of(
         alloc: A,
-        id: Id,
         phase: Phase,
         subordinates: &[(Address, Id)],
     ) -> Result<Txn<A>, AllocError>
-        ensures { IfOk result (λ txn. txn ≡ recovered id phase subordinates.now) }
+        ensures { IfOk result (λ txn. txn ≡ recovered phase subordinates.now) }
     {
         let mut others = Vec::with_capacity(alloc, subordinates.len())?;
         for (address, id) in subordinates {
             others.push_reserved(willing(Some(address.copy()?), Some(id.copy()?)));
         }
         Ok(Txn {
-            id,
             phase,
             local: willing(None, None),
             others,
         })
-    }
-
-    /// Its identifier.
-    pub fn id(&self) -> &Id
-        ensures { result.now ≡ self.now.id }
-    {
-        &self.id
     }
 
     /// Makes room for one part more.

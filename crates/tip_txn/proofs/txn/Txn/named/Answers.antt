@@ -10,4 +10,4 @@ returns-in_default g c =
     let t = c.self.inside in
     let there : c.args.part < length (t.local ∷ t.others.items) = rw (← c.self.view_is) at c.requires in
     let parts = changed_at-behind t.local t.others.items c.place.result (named c.args.id) c.index_mut.result.now (omega arith) (omega arith) c.index_mut.ensures.value in
-    rw (← c.self.view_is, ← c.place.ensures, c.name-in_default.ensures) (ap (λ (ps : List Participant). let seen : Transaction = record { id = t.id; phase = t.phase; parts = ps; spare = vec_capacity t.others - vec_len t.others } in seen) parts)
+    rw (← c.self.view_is, ← c.place.ensures, c.name-in_default.ensures) (ap (λ (ps : List Participant). let seen : Transaction = record { phase = t.phase; parts = ps; spare = vec_capacity t.others - vec_len t.others } in seen) parts)
