@@ -4,7 +4,7 @@ use crate::first_said;
 use std::alloc::Global;
 use std::test::Fail;
 use tip_branch::HeldFresh;
-use tip_core::{Core, Run};
+use tip_core::{Core, Run, Starts};
 use tip_line::{Address, Realm, Refusal};
 use tip_machine::{Answer, Event, Heard, InRealm, Limits, Said, Seat, Start};
 use tip_rows::{Branches, Label};
@@ -19,7 +19,6 @@ fn start(alloc: Global, name: &[u8]) -> Result<Start, Fail> {
         limits: Limits {
             connections: 8,
             transactions: 8,
-            branches: 1,
             boxes: 8,
             entries: 100,
         },
@@ -56,10 +55,10 @@ const FIRST: Seat = Seat {
 };
 
 /// 64 realms, each named by two letters.
-fn starts(alloc: Global) -> Result<Vec<Start>, Fail> {
-    let mut starts = Vec::with_capacity(alloc, 64)?;
+fn starts(alloc: Global) -> Result<Starts, Fail> {
+    let mut starts = Starts::new(alloc);
     for place in 0u8..64 {
-        starts.push(start(alloc, &[b'a' + place / 8, b'a' + place % 8])?)?;
+        starts.add(start(alloc, &[b'a' + place / 8, b'a' + place % 8])?)?;
     }
     Ok(starts)
 }

@@ -2,3 +2,4 @@ pub mod Tables
 pub mod Doing
 pub mod Stepping
 pub mod Isolated
+pub mod Naming

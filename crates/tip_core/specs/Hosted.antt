@@ -20,6 +20,10 @@ pub record Hosted : Type 0 where
 abbrev pub realm : Hosted → ℕ → Option State
 realm hosted place = option_map (λ head. record { head = head; connections = of hosted.connections place; transactions = [] }) (slice_get hosted.heads place)
 
+-- each realm has a name of its own, so that a place and a name are one
+abbrev pub HaveNames : Hosted → Type 0
+HaveNames hosted = (place other : ℕ) (this that : State) → realm hosted place ≡ Some this → realm hosted other ≡ Some that → this.head.name ≡ that.head.name → place ≡ other
+
 -- how many connections can be made without memory
 abbrev pub free : Hosted → ℕ
 free hosted = hosted.connections.free

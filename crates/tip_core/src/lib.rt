@@ -7,6 +7,8 @@ mod query;
 mod realms;
 mod room;
 mod rules;
+mod starts;
 
 pub use machine::{Core, Run};
 pub use room::Room;
+pub use starts::{StartFault, Starts};

@@ -2,12 +2,14 @@
 ghost use Rattle.std.specs.Prelude.{◌≡◌, ℕ, [], None, IfOk, IsOk, OnOk, map, take, length, slice_get, option_map};
 ghost use Rattle.tip_branch.specs.Always.{Always};
 ghost use Rattle.tip_machine.specs.Heads.{starting};
+ghost use Rattle.tip_machine.specs.Steps.{fits};
 ghost use Rattle.tip_machine.specs.States.{started};
-ghost use Rattle.tip_core.specs.Hosted.{realm as realm_at, room_in, may_take_in, IsRoomFor, Steps};
+ghost use Rattle.tip_core.specs.Hosted.{realm as realm_at, room_in, may_take_in, HaveNames, IsRoomFor, Steps};
 ghost use Rattle.tip_core.specs.Isolation.{IsIsolated};
 
 use crate::realms::Realms;
 use crate::room::Room;
+use crate::starts::Starts;
 use std::alloc::{AllocError, Global};
 use std::marker::Model;
 use tip_line::Refusal;
@@ -30,14 +32,14 @@ pub struct Core {
 }
 
 impl Model for Core {
-    ghost use Rattle.tip_core.specs.Hosted.{Hosted};
+    ghost use Rattle.tip_core.specs.Hosted.{HaveNames, Hosted};
     ghost use Rattle.tip_core.specs.Tables.{AreAllAlone, AreCounted};
 
     ghost Value = { Hosted };
 
     ghost view = { λ c. record { heads = c.realms.heads.items; connections = c.realms.connections } };
 
-    ghost invariant = { λ c. AreCounted c.realms × AreAllAlone c.realms };
+    ghost invariant = { λ c. AreCounted c.realms × AreAllAlone c.realms × HaveNames (record { heads = c.realms.heads.items; connections = c.realms.connections }) };
 }
 
 impl Core {
@@ -55,14 +57,15 @@ impl Core {
     }
 
     /// These realms start, in place of those that were.
-    #[tactic(auto, using(crate::proofs::Stepping::starting_counted, crate::proofs::Stepping::new_realm))]
-    pub fn start(self, alloc: Global, starts: Vec<Start>) -> Result<Core, AllocError>
+    #[tactic(auto, using(crate::proofs::Stepping::starting_counted, crate::proofs::Stepping::new_realm, crate::proofs::Naming::named_at_start))]
+    pub fn start(self, alloc: Global, starts: Starts) -> Result<Core, AllocError>
         requires { Always }
-        ensures { IfOk result (λ core. (place : ℕ) → realm_at core place ≡ option_map (λ start. started (starting start)) (slice_get starts.items place)) }
+        ensures realms { IfOk result (λ core. (place : ℕ) → realm_at core place ≡ option_map (λ start. started (starting start)) (slice_get starts place)) }
+        ensures named { IfOk result HaveNames }
     {
         Ok(Core {
             realms: Realms {
-                heads: heads_of(alloc, starts)?,
+                heads: heads_of(alloc, starts.into_vec())?,
                 connections: Table::new(alloc),
             },
         })
@@ -74,6 +77,7 @@ impl Core {
         requires { Always }
         ensures realms { (place : ℕ) → realm_at self.new place ≡ realm_at self.old place }
         ensures ok { IfOk result (IsRoomFor self.new realm event.now) }
+        ensures today { IfOk result (λ room. room.change ≡ None) }
     {
         let room = Room::new(alloc, 2, None)?;
         self.realms.reserve(event)?;
@@ -83,8 +87,10 @@ impl Core {
     /// One event of one realm, with what became of the change that it wanted. It takes no memory.
     #[tactic(auto, using(crate::proofs::Stepping::steps, crate::proofs::Stepping::nowhere_steps, crate::proofs::Stepping::counted))]
     pub fn apply(&mut self, realm: usize, event: Event, room: Room, outcome: Outcome) -> Answer
-        requires { IsRoomFor self.old realm event room }
+        requires room { IsRoomFor self.old realm event room }
+        requires fits { fits room.change outcome ≡ true }
         ensures steps { Steps self.old self.new realm event outcome result }
+        ensures named { HaveNames self.new }
         ensures room { room_in self.new ≡ room_in self.old }
     {
         let mut making = room.into_making();

@@ -293,7 +293,7 @@ opened_plain boxes w plain = either IsPlain (has_place (length boxes) w.state) _
 
 -- no transaction is found where there is none
 pub unknown : (id : List ℕ) (state : State) → state.transactions ≡ [] → identified_by id state ≡ None
-unknown id state none = ap (find (has_id id)) none
+unknown id state none = ap (find (has_id state.head.name id)) none
 
 either_none : {T : Type 0} (b : Bool) (found : Option T) → found ≡ None → cond b found None ≡ None
 either_none true found is = is

@@ -81,7 +81,7 @@ module _ (R : Key → Work → Work → Type 0) (May : ℕ → Type 0) (k : (key
     push_part-goes : (peer : Option (List ℕ)) (n : ℕ) → May n → Q (push_part (Some t) peer n w)
     push_part-goes None n may = refused NotActive
     push_part-goes (Some address) n may =
-        either Q (is_active t.txn.phase) _ _
+        either Q (is_active t.phase) _ _
         (kept t.key _ ((k t.key).then w _ _ (send-keeps (R t.key) May (Is t.key) (k t.key) n _ _ w may) ((k t.key).then _ _ _ (enlisting-keeps (R t.key) May (Is t.key) (k t.key) _ t.key _ refl) (taking-keeps (R t.key) May (Is t.key) (k t.key) n _ _ may))))
         (refused NotActive)
 
@@ -120,7 +120,7 @@ module _ (R : Key → Work → Work → Type 0) (May : ℕ → Type 0) (k : (key
   resume-goes : (found : Option Transaction) → Ends Q (resume found w)
   unfolding resume
   resume-goes None = refused NotActive
-  resume-goes (Some t) = either_ends Q (is_committed t.txn.phase) (resume_in t.place t w) _ (resume_in-goes t t.place) (refused NotActive)
+  resume-goes (Some t) = either_ends Q (is_committed t.phase) (resume_in t.place t w) _ (resume_in-goes t t.place) (refused NotActive)
 
   voted-goes : (found : Option Transaction) (party : PartyNotes) → Ends Q (voted found party w)
   unfolding voted

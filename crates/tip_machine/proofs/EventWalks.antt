@@ -76,7 +76,7 @@ module _ (R : Work → Work → Type 0) (May : ℕ → Type 0) (On : Key → Typ
 
     reconnect_for-keeps : (found : Option Transaction) (place : ℕ) (w : Work) → R w (reconnect_for found place c w)
     reconnect_for-keeps None place w = hang_up-keeps w
-    reconnect_for-keeps (Some t) place w = either (R w) (is_committed t.txn.phase) (reach (subordinate_of place t) t.key c w) (closed c w) (reach-keeps (subordinate_of place t) t.key w) (hang_up-keeps w)
+    reconnect_for-keeps (Some t) place w = either (R w) (is_committed t.phase) (reach (subordinate_of place t) t.key c w) (closed c w) (reach-keeps (subordinate_of place t) t.key w) (hang_up-keeps w)
 
     pursue-keeps : (purpose : Purpose) (w : Work) → R w (pursue purpose c w)
     pursue-keeps purpose.Plain w = k.same w

@@ -30,7 +30,7 @@ no_and false c is = refl
 
 -- what is found is nothing, or aborted
 IsGone : Option Transaction → Type 0
-IsGone found = (t : Transaction) → found ≡ Some t → t.txn.phase ≡ Aborted
+IsGone found = (t : Transaction) → found ≡ Some t → t.phase ≡ Aborted
 
 query_of : (n : ℕ) (found : Option Transaction) (w : Work) → IsGone found → reply n command.Query (cond (option_map_or exists found false) said.QueriedExists said.QueriedNotFound) w ≡ reply n command.Query said.QueriedNotFound w
 unfolding IsGone
@@ -41,12 +41,12 @@ pull_of : (n : ℕ) (found : Option Transaction) (peer : Option (List ℕ)) (sub
 unfolding IsGone
 pull_of n None peer subordinate w gone = refl
 pull_of n (Some t) None subordinate w gone = refl
-pull_of n (Some t) (Some address) subordinate w gone = not_so (is_active t.txn.phase && not (is_enlisted t.txn.parts address (Some subordinate))) _ _ (no_and (is_active t.txn.phase) _ (ap is_active (gone t refl)))
+pull_of n (Some t) (Some address) subordinate w gone = not_so (is_active t.phase && not (is_enlisted t.parts address (Some subordinate))) _ _ (no_and (is_active t.phase) _ (ap is_active (gone t refl)))
 
 reconnect_of : (n : ℕ) (found : Option Transaction) (w : Work) → IsGone found → reconnect_to found n w ≡ reply n command.Reconnect said.NotReconnected w
 unfolding IsGone
 reconnect_of n None w gone = refl
-reconnect_of n (Some t) w gone = not_so (is_prepared t.txn.phase) _ _ (ap is_prepared (gone t refl))
+reconnect_of n (Some t) w gone = not_so (is_prepared t.phase) _ _ (ap is_prepared (gone t refl))
 
 pub queried : (id : List ℕ) (connection : Connection) (work : Work) → IsForgotten id work.state → query id connection work ≡ reply connection.number command.Query said.QueriedNotFound work
 unfolding query IsGone
@@ -64,22 +64,22 @@ pushed_of : (found : Option Transaction) (peer : Option (List ℕ)) (n : ℕ) (w
 unfolding IsGone
 pushed_of None peer n w gone = refl
 pushed_of (Some t) None n w gone = refl
-pushed_of (Some t) (Some address) n w gone = not_so (is_active t.txn.phase) _ _ (ap is_active (gone t refl))
+pushed_of (Some t) (Some address) n w gone = not_so (is_active t.phase) _ _ (ap is_active (gone t refl))
 
 resumed_of : (found : Option Transaction) (w : Work) → IsGone found → resume found w ≡ resume None w
 unfolding resume IsGone
 resumed_of None w gone = refl
-resumed_of (Some t) w gone = not_so (is_committed t.txn.phase) _ _ (ap is_committed (gone t refl))
+resumed_of (Some t) w gone = not_so (is_committed t.phase) _ _ (ap is_committed (gone t refl))
 
 asked_of : (found : Option Transaction) (c : Connection) (w : Work) → IsGone found → query_for found c w ≡ closed c w
 unfolding IsGone
 asked_of None c w gone = refl
-asked_of (Some t) c w gone = not_so _ _ _ (no_and _ _ (no_and (is_prepared t.txn.phase) _ (ap is_prepared (gone t refl))))
+asked_of (Some t) c w gone = not_so _ _ _ (no_and _ _ (no_and (is_prepared t.phase) _ (ap is_prepared (gone t refl))))
 
 reached_of : (found : Option Transaction) (place : ℕ) (c : Connection) (w : Work) → IsGone found → reconnect_for found place c w ≡ closed c w
 unfolding IsGone
 reached_of None place c w gone = refl
-reached_of (Some t) place c w gone = not_so (is_committed t.txn.phase) _ _ (ap is_committed (gone t refl))
+reached_of (Some t) place c w gone = not_so (is_committed t.phase) _ _ (ap is_committed (gone t refl))
 
 pub pushed : (id : List ℕ) (peer : Option (List ℕ)) (number : ℕ) (work : Work) → IsForgotten id work.state → push_part (identified_by id work.state) peer number work ≡ refuse NotActive work
 unfolding IsGone

@@ -171,12 +171,12 @@ module _ (key : Key) where
     numbered = λ numbered. counted.numbered numbered;
     made = λ absent. step (is_same key (next_key w.state.head c)) refl absent;
   } where
-    counted : Counts key w.state (record w.state { connections = changed (has_number c.number) (making w.state.head.limits.branches (next_key w.state.head c)) w.state.connections })
-    counted = changed_at key c.number (making w.state.head.limits.branches (next_key w.state.head c)) w.state (λ d. refl) (λ d off. still_made (has_number key.connection d) d.made key.number off)
+    counted : Counts key w.state (record w.state { connections = changed (has_number c.number) (making (length w.state.head.branches) (next_key w.state.head c)) w.state.connections })
+    counted = changed_at key c.number (making (length w.state.head.branches) (next_key w.state.head c)) w.state (λ d. refl) (λ d off. still_made (has_number key.connection d) d.made key.number off)
 
     step : (b : Bool) → is_same key (next_key w.state.head c) ≡ b → IsAbsent key w.state → IsAbsent key (make from c w).state ⊎ IsMade key w.state (make from c w).state
-    step true same absent = inr (subst (λ p. IsMade p w.state (make from c w).state) (sym (same_place key (next_key w.state.head c) same)) (not_given c w.state is, given_then w.state.head.limits.branches c w.state is))
-    step false differ absent = inl (none-added (has_key key) w.state.transactions (begun w.state.head (next_key w.state.head c) from (take w.state.head.limits.branches c.boxes)) absent differ)
+    step true same absent = inr (subst (λ p. IsMade p w.state (make from c w).state) (sym (same_place key (next_key w.state.head c) same)) (not_given c w.state is, given_then (length w.state.head.branches) c w.state is))
+    step false differ absent = inl (none-added (has_key key) w.state.transactions (begun w.state.head (next_key w.state.head c) from (take (length w.state.head.branches) c.boxes)) absent differ)
 
   closed_by_counts : (on : Key) → Closed (λ w v. Counts key w.state v.state) any (Is on)
   unfolding react

@@ -211,7 +211,7 @@ module _ (event : Event) (key : Key) where
   unfolding make
   has_made from c w named on =
       let next = next_key w.state.head c in
-      let branches = w.state.head.limits.branches in
+      let branches = length w.state.head.branches in
       let counted = change c.number (making branches next) w in
       goes_on w counted _ (changed_at c.number (making branches next) w named (λ c. refl)) (added_to (begun w.state.head next from (take branches c.boxes)) counted on)
 

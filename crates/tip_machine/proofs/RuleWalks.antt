@@ -104,7 +104,7 @@ module _ (R : Work → Work → Type 0) (May : ℕ → Type 0) (On : Key → Typ
 
   pub dispatch-keeps : (key : Key) (w : Work) → On key → R w (dispatch key w)
   unfolding dispatch
-  dispatch-keeps key w on = on_each (R w) (transaction_of key w.state) (λ t. dispatched t.place t.txn.phase key) w (k.same w) (λ t is. dispatched-keeps t.place t.txn.phase key w on)
+  dispatch-keeps key w on = on_each (R w) (transaction_of key w.state) (λ t. dispatched t.place t.phase key) w (k.same w) (λ t is. dispatched-keeps t.place t.phase key w on)
 
   release-keeps : (key : Key) (w : Work) → On key → R w (release key w)
   unfolding release
@@ -145,7 +145,7 @@ module _ (R : Work → Work → Type 0) (May : ℕ → Type 0) (On : Key → Typ
   wait-keeps other key w on = k.same w
 
   conclude-keeps : (decision : Decision) (t : Transaction) (w : Work) → On t.key → Ends (R w) (conclude decision t w)
-  conclude-keeps decision.Wait t w on = wait-keeps t.txn.phase t.key w on
+  conclude-keeps decision.Wait t w on = wait-keeps t.phase t.key w on
   conclude-keeps decision.Commit t w on = agree-keeps (owed_to_superior t.key w.state) t.origin t w on
   conclude-keeps decision.Abort t w on = abort-keeps t.key w on
   conclude-keeps decision.ReadOnly t w on = leave-keeps t.key w on
@@ -163,7 +163,7 @@ module _ (R : Work → Work → Type 0) (May : ℕ → Type 0) (On : Key → Typ
 
   settle-here : (key : Key) (w : Work) → On key → Ends (R w) (settle key w)
   unfolding settle
-  settle-here key w on = attempt_on_each (R w) (transaction_of key w.state) (λ t. settle_in t.txn.phase t) w (k.same w) (λ t is. settle_in-keeps t.txn.phase t w (on_found On key w.state.transactions t is on))
+  settle-here key w on = attempt_on_each (R w) (transaction_of key w.state) (λ t. settle_in t.phase t) w (k.same w) (λ t is. settle_in-keeps t.phase t w (on_found On key w.state.transactions t is on))
 
   -- what keeps what was kept
   more : (a : Attempt) (v w : Work) → R v w → Ends (R w) a → Ends (R v) a
@@ -203,7 +203,7 @@ module _ (R : Work → Work → Type 0) (May : ℕ → Type 0) (On : Key → Typ
   unanswered-keeps : (part : ℕ) (t : Transaction) (w : Work) → On t.key → R w (lost_unanswered part t w)
   unanswered-keeps part t w on =
       let noted = alter t.key (noting part (answered Lost)) w in
-      either (R w) (is_some (answer_at t.txn.parts part)) w (abort t.key noted) (k.same w) (k.then w noted _ (noting-keeps part (answered Lost) t.key w on) (abort-keeps t.key noted on))
+      either (R w) (is_some (answer_at t.parts part)) w (abort t.key noted) (k.same w) (k.then w noted _ (noting-keeps part (answered Lost) t.key w on) (abort-keeps t.key noted on))
 
   part_lost-keeps : (phase : Phase) (part : ℕ) (t : Transaction) (w : Work) → On t.key → R w (part_lost phase part t w)
   part_lost-keeps phase.Active part t w on = unanswered-keeps part t w on
@@ -214,8 +214,8 @@ module _ (R : Work → Work → Type 0) (May : ℕ → Type 0) (On : Key → Typ
 
   missed-keeps : (role : Option Role) (w : Work) → IfSome (key_of role) On → R w (missed role w)
   missed-keeps None w on = k.same w
-  missed-keeps (Some (Superior key)) w on = on_each (R w) (transaction_of key w.state) _ w (k.same w) (λ t is. superior_lost-keeps t.txn.phase key w on)
-  missed-keeps (Some (Subordinate key part)) w on = on_each (R w) (transaction_of key w.state) _ w (k.same w) (λ t is. part_lost-keeps t.txn.phase part t w (on_found On key w.state.transactions t is on))
+  missed-keeps (Some (Superior key)) w on = on_each (R w) (transaction_of key w.state) _ w (k.same w) (λ t is. superior_lost-keeps t.phase key w on)
+  missed-keeps (Some (Subordinate key part)) w on = on_each (R w) (transaction_of key w.state) _ w (k.same w) (λ t is. part_lost-keeps t.phase part t w (on_found On key w.state.transactions t is on))
 
   -- where it may be gone, it may fail
   fail_from : (c : Connection) (v w : Work) → IfSome (key_of c.role) On → R v (gone c w) → R v (fail c w)
@@ -262,7 +262,7 @@ module _ (R : Work → Work → Type 0) (May : ℕ → Type 0) (On : Key → Typ
 
   pull_into-keeps : (found : Option Transaction) (peer : Option (List ℕ)) (subordinate : List ℕ) (n : ℕ) (w : Work) → May n → IfSome found (λ t. On t.key) → R w (pull_into found peer subordinate n w)
   pull_into-keeps (Some t) (Some address) subordinate n w may on =
-      either (R w) (is_active t.txn.phase && not (is_enlisted t.txn.parts address (Some subordinate))) _ _
+      either (R w) (is_active t.phase && not (is_enlisted t.parts address (Some subordinate))) _ _
       (k.then w _ _ (reply-keeps n _ _ w may) (k.then _ _ _ (enlisting-keeps _ t.key _ on) (taking-keeps n _ _ may)))
       (reply-keeps n _ _ w may)
   pull_into-keeps None peer subordinate n w may on = reply-keeps n _ _ w may
@@ -281,7 +281,7 @@ module _ (R : Work → Work → Type 0) (May : ℕ → Type 0) (On : Key → Typ
 
   reconnect_to-keeps : (found : Option Transaction) (n : ℕ) (w : Work) → May n → IfSome found (λ t. On t.key) → R w (reconnect_to found n w)
   reconnect_to-keeps None n w may on = reply-keeps n _ _ w may
-  reconnect_to-keeps (Some t) n w may on = either (R w) (is_prepared t.txn.phase) (take_over t.key n (find (is_superior_of t.key) w.state.connections) w) _ (take_over-keeps t.key n _ w refl may on) (reply-keeps n _ _ w may)
+  reconnect_to-keeps (Some t) n w may on = either (R w) (is_prepared t.phase) (take_over t.key n (find (is_superior_of t.key) w.state.connections) w) _ (take_over-keeps t.key n _ w refl may on) (reply-keeps n _ _ w may)
 
   prepare-keeps : (phase : Phase) (peer : Option (List ℕ)) (c : Connection) (t : Transaction) (w : Work) → On t.key → Ends (R w) (prepare phase peer c t w)
   prepare-keeps phase.Active (Some address) c t w on = ask-keeps t w on
@@ -360,9 +360,9 @@ module _ (R : Key → Work → Work → Type 0) (May : ℕ → Type 0) (k : (key
   serves Begin c w may is = begins c w may is
   serves (Push superior) c w may is = pushes superior c w may is
   serves (Pull superior subordinate) c w may is = pulls superior subordinate c w may
-  serves Prepare c w may is = obeys command.Prepare _ c w may (λ key role t v on. prepare-keeps (R key) May (Is key) (k key) t.txn.phase c.peer c t v on)
-  serves Commit c w may is = obeys command.Commit _ c w may (λ key role t v on. decide_commit-keeps (R key) May (Is key) (k key) t.txn.phase c t v may role on)
-  serves Abort c w may is = obeys command.Abort _ c w may (λ key role t v on. decide_abort-keeps (R key) May (Is key) (k key) t.txn.phase c t v may role on)
+  serves Prepare c w may is = obeys command.Prepare _ c w may (λ key role t v on. prepare-keeps (R key) May (Is key) (k key) t.phase c.peer c t v on)
+  serves Commit c w may is = obeys command.Commit _ c w may (λ key role t v on. decide_commit-keeps (R key) May (Is key) (k key) t.phase c t v may role on)
+  serves Abort c w may is = obeys command.Abort _ c w may (λ key role t v on. decide_abort-keeps (R key) May (Is key) (k key) t.phase c t v may role on)
   serves (Query superior) c w may is = let key = or_any None in (key, query-keeps (R key) May (Is key) (k key) superior c w may)
   serves (Reconnect subordinate) c w may is = reconnects subordinate c w may
   serves (Multiplex protocol) c w may is = replied c _ _ w may

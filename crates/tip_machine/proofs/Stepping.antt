@@ -131,6 +131,27 @@ pub silent : (serving : Serving) (state : State) (event : Event) (outcome : Outc
 unfolding IsSilent
 silent serving state event outcome = silent_step serving state event outcome
 
+-- The name of a realm stays
+
+HasName : State → Work → Type 0
+HasName state work = work.state.head.name ≡ state.head.name
+
+went-named : (state : State) (v : Work) → Went (entered state) v → HasName state v
+unfolding HasName
+went-named state v (inl goes) = ap (λ h. h.name) goes.head
+went-named state v (inr opens) = ap (λ h. h.name) opens.head
+
+frozen-named : (event : Event) (state : State) → HasName state (frozen event state)
+unfolding HasName
+frozen-named event state = refl
+
+named_step : (serving : Serving) (state : State) (event : Event) (outcome : Outcome) → HasName state (step_serving serving state event outcome)
+named_step serving state event outcome = either (HasName state) (is_open state) _ (frozen event state) (went-named state _ (step-went serving state event outcome)) (frozen-named event state)
+
+pub step-named : (serving : Serving) (state : State) (event : Event) (outcome : Outcome) → (step_serving serving state event outcome).state.head.name ≡ state.head.name
+unfolding HasName
+step-named serving state event outcome = named_step serving state event outcome
+
 -- Numbers of connections
 
 Numbers : State → Work → Type 0

@@ -40,7 +40,7 @@ making boxes key connection = record (taking (Superior key) connection) { boxes 
 unfoldable pub make : Origin → Connection → Work → Work
 make origin connection work =
     let key = next_key work.state.head connection in
-    let boxes = work.state.head.limits.branches in
+    let boxes = length work.state.head.branches in
     let work = change connection.number (making boxes key) work in
     record work { state = record work.state { transactions = work.state.transactions ++ begun work.state.head key origin (take boxes connection.boxes) ∷ [] } }
 
@@ -77,9 +77,9 @@ push superior connection work =
 -- PULL: the primary becomes a subordinate of an active transaction, if it gave an address and is no part of it yet (section 13)
 abbrev pub pull_into : Option Transaction → Option (List ℕ) → List ℕ → ℕ → Work → Work
 pull_into (Some transaction) (Some address) subordinate number work =
-    if is_active transaction.txn.phase && not (is_enlisted transaction.txn.parts address (Some subordinate))
+    if is_active transaction.phase && not (is_enlisted transaction.parts address (Some subordinate))
     then
-    change number (taking (Subordinate transaction.key (length transaction.txn.parts)))
+    change number (taking (Subordinate transaction.key (length transaction.parts)))
     (alter transaction.key (enlisting (enlisted address (Some subordinate)))
     (reply number command.Pull said.Pulled work))
     else reply number command.Pull said.NotPulled work
@@ -91,7 +91,7 @@ pull superior subordinate connection work = pull_into (identified_by superior wo
 
 -- QUERY: does a transaction of this identifier exist here? One that is aborted does not (section 13)
 abbrev pub exists : Transaction → Bool
-exists transaction = exists_in transaction.txn.phase
+exists transaction = exists_in transaction.phase
 
 -- QUERY for the transaction of this identifier (section 13)
 unfoldable pub query : List ℕ → Connection → Work → Work
@@ -108,7 +108,7 @@ take_over key number (Some earlier) work = closed earlier (change number (taking
 abbrev pub reconnect_to : Option Transaction → ℕ → Work → Work
 reconnect_to None number work = reply number command.Reconnect said.NotReconnected work
 reconnect_to (Some transaction) number work =
-    if is_prepared transaction.txn.phase
+    if is_prepared transaction.phase
     then take_over transaction.key number (find (is_superior_of transaction.key) work.state.connections) work
     else reply number command.Reconnect said.NotReconnected work
 
@@ -163,9 +163,9 @@ serve (Identify lowest highest peer secondary) connection work = Attempt.Done (i
 serve Begin connection work = Attempt.Done (begin connection work)
 serve (Push superior) connection work = Attempt.Done (push superior connection work)
 serve (Pull superior subordinate) connection work = Attempt.Done (pull superior subordinate connection work)
-serve Prepare connection work = obey command.Prepare (λ transaction. prepare transaction.txn.phase connection.peer connection transaction) connection work
-serve Commit connection work = obey command.Commit (λ transaction. decide_commit transaction.txn.phase connection transaction) connection work
-serve Abort connection work = obey command.Abort (λ transaction. decide_abort transaction.txn.phase connection transaction) connection work
+serve Prepare connection work = obey command.Prepare (λ transaction. prepare transaction.phase connection.peer connection transaction) connection work
+serve Commit connection work = obey command.Commit (λ transaction. decide_commit transaction.phase connection transaction) connection work
+serve Abort connection work = obey command.Abort (λ transaction. decide_abort transaction.phase connection transaction) connection work
 serve (Query superior) connection work = Attempt.Done (query superior connection work)
 serve (Reconnect subordinate) connection work = Attempt.Done (reconnect subordinate connection work)
 serve (Multiplex protocol) connection work = Attempt.Done (reply connection.number command.Multiplex said.CantMultiplex work)

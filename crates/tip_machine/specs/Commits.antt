@@ -43,7 +43,7 @@ late = record {
 -- the second branch says no: the first is aborted, the third was never asked
 abbrev pub a_no : Example
 a_no = record {
-  world = north_with (record { connections = 8; transactions = 8; branches = 3; boxes = 9; entries = 100 }) ((1, codes "b1") ∷ (2, codes "b2") ∷ (3, codes "b3") ∷ []);
+  world = north_with (record { connections = 8; transactions = 8; boxes = 9; entries = 100 }) ((1, codes "b1") ∷ (2, codes "b2") ∷ (3, codes "b3") ∷ []);
   lines =
       connects (at 1 1) None (yes 11 ∷ no 12 ∷ yes 13 ∷ []) ++ (
       hears (at 1 1) command.Begin ∷
@@ -65,7 +65,7 @@ a_no = record {
 -- a row names the branches by the labels of the realm
 abbrev pub labelled : Example
 labelled = record {
-  world = north_with (record { connections = 8; transactions = 8; branches = 2; boxes = 8; entries = 100 }) ((1, codes "ledger") ∷ (2, codes "queue") ∷ []);
+  world = north_with (record { connections = 8; transactions = 8; boxes = 8; entries = 100 }) ((1, codes "ledger") ∷ (2, codes "queue") ∷ []);
   lines =
       connects (at 1 1) None (yes 11 ∷ yes 12 ∷ []) ++ (
       hears (at 1 1) command.Begin ∷

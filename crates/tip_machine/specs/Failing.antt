@@ -34,7 +34,7 @@ superior_lost Aborted key work = abort key work
 
 -- a part is lost: before its answer that is a no; one that is to commit will be reached again (section 15)
 abbrev pub lost_unanswered : ℕ → Transaction → Work → Work
-lost_unanswered part transaction work = if is_some (answer_at transaction.txn.parts part) then work else abort transaction.key (alter transaction.key (noting part (answered Lost)) work)
+lost_unanswered part transaction work = if is_some (answer_at transaction.parts part) then work else abort transaction.key (alter transaction.key (noting part (answered Lost)) work)
 
 -- the same in each phase (section 15)
 abbrev pub part_lost : Phase → ℕ → Transaction → Work → Work
@@ -47,8 +47,8 @@ part_lost Aborted part transaction work = abort transaction.key work
 -- what the failure means for the transaction that the connection was on (section 15)
 abbrev pub missed : Option Role → Work → Work
 missed None work = work
-missed (Some (Superior key)) work = on_key key (λ transaction. superior_lost transaction.txn.phase key) work
-missed (Some (Subordinate key part)) work = on_key key (λ transaction. part_lost transaction.txn.phase part transaction) work
+missed (Some (Superior key)) work = on_key key (λ transaction. superior_lost transaction.phase key) work
+missed (Some (Subordinate key part)) work = on_key key (λ transaction. part_lost transaction.phase part transaction) work
 
 -- a connection fails, and its transaction goes on without it (section 15)
 unfoldable pub fail : Connection → Work → Work

@@ -308,7 +308,7 @@ resumed = record {
 -- a realm whose journal is full takes no event; renewed, it starts anew
 abbrev pub frozen_and_renewed : Example
 frozen_and_renewed = record {
-  world = north_with (record { connections = 8; transactions = 8; branches = 1; boxes = 8; entries = 2 }) ((1, codes "b1") ∷ []);
+  world = north_with (record { connections = 8; transactions = 8; boxes = 8; entries = 2 }) ((1, codes "b1") ∷ []);
   lines =
       connects (at 1 1) None (yes 11 ∷ []) ++ (
       hears (at 1 1) command.Begin ∷

@@ -12,23 +12,10 @@ use Rattle.tip_machine.specs.Types.{Event}
 use Rattle.tip_machine.specs.Moves.{Move, World, moved}
 use Rattle.tip_machine.specs.Returns.{Back, can_answer, event_of}
 use Rattle.tip_machine.specs.Served.{Serving}
-use Rattle.tip_machine.specs.Steps.{wants_serving}
-use Rattle.tip_machine.specs.declared.event.Change.{Change}
+use Rattle.tip_machine.specs.Steps.{fits, wants_serving}
 use Rattle.tip_machine.specs.declared.event.Event.TheVariants.{Voted, Settled}
 use Rattle.tip_machine.specs.declared.event.Outcome.{Outcome}
 use Rattle.tip_machine.specs.declared.event.Outcome.TheVariants.{NoChange, Stored, Refused}
-
-abbrev pub is_no_change : Outcome → Bool
-is_no_change NoChange = true
-is_no_change Stored = false
-is_no_change Refused = false
-
--- the outcome is one of the change that was wanted: no change where none was, and stored or refused where one was
-abbrev pub fits : Option Change → Outcome → Bool
-fits None outcome = is_no_change outcome
-fits (Some change) NoChange = false
-fits (Some change) Stored = true
-fits (Some change) Refused = true
 
 -- a party comes back from an errand of its realm alone, and not with an event of its own
 abbrev pub brings_no_party : Event → Bool

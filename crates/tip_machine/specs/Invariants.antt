@@ -50,14 +50,14 @@ are_distinct same (x ∷ xs) = not (list_any (same x) xs) && are_distinct same x
 abbrev pub are_keyed : State → Bool
 are_keyed state =
     are_distinct is_same (map (λ transaction. transaction.key) state.transactions)
-    && list_all (λ transaction. was_given state transaction.key && bytes_eq transaction.txn.id (identifier state.head.name transaction.key)) state.transactions
+    && list_all (λ transaction. was_given state transaction.key) state.transactions
 
 -- Roles
 
 -- a role names an open transaction, and of its parts one that is there beside the local party
 abbrev pub is_role_in : State → Role → Bool
 is_role_in state (Superior key) = is_some (transaction_of key state)
-is_role_in state (Subordinate key part) = nat_le 1 part && option_map_or (λ transaction. nat_lt part (length transaction.txn.parts)) (transaction_of key state) false
+is_role_in state (Subordinate key part) = nat_le 1 part && option_map_or (λ transaction. nat_lt part (length transaction.parts)) (transaction_of key state) false
 
 abbrev pub is_same_role : Role → Role → Bool
 is_same_role (Superior key) (Superior other) = is_same key other
@@ -177,8 +177,8 @@ is_told_to_abort Spent connected = connected
 
 -- what is so of a transaction in each phase
 abbrev pub is_in_phase : Phase → State → Transaction → Bool
-is_in_phase Active state transaction = option_map_or (λ c. is_none c.owed) (superior_of transaction state) false && is_untold transaction.place && is_none (answer_at transaction.txn.parts 0)
-is_in_phase Asking state transaction = option_map_or (λ c. is_asked c.owed transaction.origin) (superior_of transaction state) false && has_voted transaction.place (is_some (answer_at transaction.txn.parts 0)) && is_waiting (decision_of transaction)
+is_in_phase Active state transaction = option_map_or (λ c. is_none c.owed) (superior_of transaction state) false && is_untold transaction.place && is_none (answer_at transaction.parts 0)
+is_in_phase Asking state transaction = option_map_or (λ c. is_asked c.owed transaction.origin) (superior_of transaction state) false && has_voted transaction.place (is_some (answer_at transaction.parts 0)) && is_waiting (decision_of transaction)
 is_in_phase Prepared state transaction = option_map_or (λ c. is_prepared_state c.state && is_none c.owed) (superior_of transaction state) true && has_address transaction.origin && waits_here transaction.place
 is_in_phase Committed state transaction = is_none (superior_of transaction state) && is_told_to_commit transaction.place
 is_in_phase Aborted state transaction = is_told_to_abort transaction.place (list_any (is_on transaction.key) state.connections)
@@ -212,10 +212,10 @@ is_part Aborted part connection = true
 
 abbrev pub are_parts_from : ℕ → List Participant → State → Transaction → Bool
 are_parts_from place [] state transaction = true
-are_parts_from place (part ∷ parts) state transaction = is_part transaction.txn.phase part (find (is_part_of transaction.key place) state.connections) && are_parts_from (place + 1) parts state transaction
+are_parts_from place (part ∷ parts) state transaction = is_part transaction.phase part (find (is_part_of transaction.key place) state.connections) && are_parts_from (place + 1) parts state transaction
 
 abbrev pub is_transaction : State → Transaction → Bool
-is_transaction state transaction = is_in_phase transaction.txn.phase state transaction && are_parts_from 1 (drop 1 transaction.txn.parts) state transaction
+is_transaction state transaction = is_in_phase transaction.phase state transaction && are_parts_from 1 (drop 1 transaction.parts) state transaction
 
 -- Branches and errands
 
@@ -228,7 +228,7 @@ is_decided Aborted = false
 
 -- behind the promise no branch is active
 abbrev pub have_promised : Transaction → Bool
-have_promised transaction = not (is_decided transaction.txn.phase) || not (list_any is_active (members_at transaction.place))
+have_promised transaction = not (is_decided transaction.phase) || not (list_any is_active (members_at transaction.place))
 
 abbrev pub is_same_errand : Errand → Errand → Bool
 is_same_errand errand.Vote errand.Vote = true
@@ -260,7 +260,7 @@ came_twice this (origin.Subordinate address superior) = comes_from address super
 
 -- no transaction that has no outcome is here twice
 abbrev pub are_known_once : State → Bool
-are_known_once state = are_distinct (λ this that. came_twice this that.origin) (filter (λ transaction. is_undecided transaction.txn.phase) state.transactions)
+are_known_once state = are_distinct (λ this that. came_twice this that.origin) (filter (λ transaction. is_undecided transaction.phase) state.transactions)
 
 -- Rows
 
@@ -284,7 +284,7 @@ row_of key rows = option_map_or (λ stored. Some stored.1) (find (λ stored. is_
 -- rows are phases: each transaction in doubt, or committed, has its row, no other has one, and no row is of none
 abbrev pub are_stored : State → List (Key × Row) → Bool
 are_stored state rows =
-    list_all (λ transaction. is_stored_as transaction.txn.phase transaction (row_of transaction.key rows)) state.transactions
+    list_all (λ transaction. is_stored_as transaction.phase transaction (row_of transaction.key rows)) state.transactions
     && list_all (λ stored. is_some (transaction_of stored.0 state)) rows
 
 -- ALL OF THEM, of a realm with its rows and the parties that are out

@@ -7,7 +7,7 @@ use Rattle.tip_branch.specs.Notes.{idle_party}
 use Rattle.tip_rows.specs.Keys.{Place as Key}
 use Rattle.tip_rows.specs.declared.row.Row.{Row}
 use Rattle.tip_rows.specs.declared.row.Row.TheVariants as row
-use Rattle.tip_txn.specs.Transactions.{recovered}
+use Rattle.tip_txn.specs.Transactions.{promised_parts}
 use Rattle.tip_txn.specs.declared.answer.Phase.TheVariants.{Prepared, Committed}
 use Rattle.tip_machine.specs.Types.{PartyPlace, Transaction}
 use Rattle.tip_machine.specs.Answers.{identifier}
@@ -34,14 +34,16 @@ reopened head key boxes (row.Prepared address superior branches subordinates) = 
   origin = origin.Subordinate (Some address) superior;
   place = adopted head key branches boxes;
   branches = branches;
-  txn = recovered (identifier head.name key) Prepared subordinates;
+  phase = Prepared;
+  parts = promised_parts subordinates;
 }
 reopened head key boxes (row.Committed branches subordinates) = record {
   key = key;
   origin = origin.Root;
   place = adopted head key branches boxes;
   branches = branches;
-  txn = recovered (identifier head.name key) Committed subordinates;
+  phase = Committed;
+  parts = promised_parts subordinates;
 }
 
 -- A REALM AFTER A START (ours)

@@ -85,9 +85,9 @@ may_take_on (Some connection) = may_take connection
 -- our transaction is pushed to the other side, which becomes a part at once (section 13, PUSH)
 abbrev pub push_part : Option Transaction → Option (List ℕ) → ℕ → Work → Work
 push_part (Some transaction) (Some address) number work =
-    if is_active transaction.txn.phase
+    if is_active transaction.phase
     then
-    change number (taking (Subordinate transaction.key (length transaction.txn.parts)))
+    change number (taking (Subordinate transaction.key (length transaction.parts)))
     (alter transaction.key (enlisting (enlisted address None))
     (send number awaited.Push (asked.Push transaction.key) work))
     else refuse NotActive work
@@ -124,7 +124,7 @@ resume_in Spent transaction work = if is_done transaction then finish transactio
 -- only a committed transaction is resumed (ours)
 unfoldable pub resume : Option Transaction → Work → Attempt
 resume None work = Attempt.Done (refuse NotActive work)
-resume (Some transaction) work = if is_committed transaction.txn.phase then resume_in transaction.place transaction work else Attempt.Done (refuse NotActive work)
+resume (Some transaction) work = if is_committed transaction.phase then resume_in transaction.place transaction work else Attempt.Done (refuse NotActive work)
 
 -- Parties that come back (ours)
 

@@ -53,7 +53,7 @@ abort_as (Some (Subordinate key part)) work = abort key work
 
 -- is a transaction in doubt, with nobody to tell it the outcome? (section 10)
 abbrev pub is_in_doubt : State → Transaction → Bool
-is_in_doubt state transaction = is_prepared transaction.txn.phase && not (list_any (is_superior_of transaction.key) state.connections)
+is_in_doubt state transaction = is_prepared transaction.phase && not (list_any (is_superior_of transaction.key) state.connections)
 
 -- we ask the superior of a transaction in doubt whether its own still exists, if it is there (section 13, QUERY)
 abbrev pub ask_superior : Origin → Key → Connection → Work → Work
@@ -87,7 +87,7 @@ reach (Some s) key connection work = if is_owed_commit connection.peer key work.
 abbrev pub reconnect_for : Option Transaction → ℕ → Connection → Work → Work
 reconnect_for None place connection work = closed connection work
 reconnect_for (Some transaction) place connection work =
-    if is_committed transaction.txn.phase
+    if is_committed transaction.phase
     then reach (subordinate_of place transaction) transaction.key connection work
     else closed connection work
 

@@ -232,4 +232,4 @@ north_with limits branches = record {
 }
 
 abbrev pub north : World
-north = north_with (record { connections = 8; transactions = 8; branches = 1; boxes = 8; entries = 100 }) ((1, codes "b1") ∷ [])
+north = north_with (record { connections = 8; transactions = 8; boxes = 8; entries = 100 }) ((1, codes "b1") ∷ [])

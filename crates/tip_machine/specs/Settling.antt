@@ -52,7 +52,7 @@ dispatched Spent phase key work = work
 
 -- a party that is here goes out to be told the outcome, where a branch waits for it; else it is let go (ours)
 unfoldable pub dispatch : Key → Work → Work
-dispatch key work = on_key key (λ transaction. dispatched transaction.place transaction.txn.phase key) work
+dispatch key work = on_key key (λ transaction. dispatched transaction.place transaction.phase key) work
 
 -- Outcomes
 
@@ -102,7 +102,7 @@ wait other key work = work
 
 -- the answers decide (section 13, PREPARE and COMMIT)
 abbrev pub conclude : Decision → Transaction → Work → Attempt
-conclude decision.Wait transaction work = Attempt.Done (wait transaction.txn.phase transaction.key work)
+conclude decision.Wait transaction work = Attempt.Done (wait transaction.phase transaction.key work)
 conclude decision.Commit transaction work = agree (owed_to_superior transaction.key work.state) transaction.origin transaction work
 conclude decision.Abort transaction work = Attempt.Done (abort transaction.key work)
 conclude decision.ReadOnly transaction work = Attempt.Done (leave transaction.key work)
@@ -121,7 +121,7 @@ settle_in Aborted transaction work = Attempt.Done (abort transaction.key work)
 
 -- WHAT FOLLOWS for a transaction, after something was asked or answered (section 13)
 unfoldable pub settle : Key → Work → Attempt
-settle key work = attempt_on_key key (λ transaction. settle_in transaction.txn.phase transaction) work
+settle key work = attempt_on_key key (λ transaction. settle_in transaction.phase transaction) work
 
 -- a party that is here goes out to vote (ours)
 abbrev pub asked_for_votes : PartyPlace → Key → Work → Work

@@ -41,7 +41,7 @@ transaction_of key state = find (has_key key) state.transactions
 
 -- the transaction of an identifier: no other realm is looked through (section 5)
 abbrev pub identified_by : List ℕ → State → Option Transaction
-identified_by id state = find (has_id id) state.transactions
+identified_by id state = find (has_id state.head.name id) state.transactions
 
 -- is there a connection free, and are there no more boxes than may be? (ours)
 abbrev pub has_place : ℕ → State → Bool
@@ -49,4 +49,4 @@ has_place boxes state = nat_lt (length state.connections) state.head.limits.conn
 
 -- is there a transaction free, and has the connection a box for each branch? (ours, for NOTBEGUN and NOTPUSHED)
 abbrev pub has_room : Connection → State → Bool
-has_room connection state = nat_lt (length state.transactions) state.head.limits.transactions && nat_le state.head.limits.branches (length connection.boxes)
+has_room connection state = nat_lt (length state.transactions) state.head.limits.transactions && nat_le (length state.head.branches) (length connection.boxes)

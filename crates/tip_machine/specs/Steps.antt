@@ -1,5 +1,5 @@
 -- The step of one realm: what it answers to an event, and what it is afterwards.
-use Rattle.std.specs.Prelude.{◌≡◌, ◌≤◌, ℕ, ◌+◌, ◌&&◌, nat_lt, Bool, false, List, Option, Some, None, if◌then◌else◌}
+use Rattle.std.specs.Prelude.{◌≡◌, ◌≤◌, ℕ, ◌+◌, ◌&&◌, nat_lt, Bool, true, false, not, List, Option, Some, None, if◌then◌else◌}
 use Rattle.std.specs.List.{list_any}
 use Rattle.tip_line.specs.declared.refusal.Refusal.{Refusal}
 use Rattle.tip_txn.specs.declared.answer.Phase.TheVariants.{Aborted}
@@ -73,6 +73,16 @@ step_serving serving state event outcome = if is_open state then ordered state (
 abbrev pub wants_serving : Serving → State → Event → Option Change
 wants_serving serving state event = if is_open state then wanted (attempt serving event (entered state)) else None
 
+abbrev pub is_no_change : Outcome → Bool
+is_no_change NoChange = true
+is_no_change Stored = false
+is_no_change Refused = false
+
+-- the outcome is one of the change that was wanted: no change where none was, and stored or refused where one was
+abbrev pub fits : Option Change → Outcome → Bool
+fits None outcome = is_no_change outcome
+fits (Some change) outcome = not (is_no_change outcome)
+
 -- the step of today
 abbrev pub step : State → Event → Outcome → Work
 step = step_serving today
@@ -104,7 +114,7 @@ pub record TouchesOne (key : Key) (event : Event) (old new : State) : Type 0 whe
 
 -- no transaction of this identifier is open, or it is aborted
 abbrev pub IsForgotten : List ℕ → State → Type 0
-IsForgotten id state = (transaction : Transaction) → identified_by id state ≡ Some transaction → transaction.txn.phase ≡ Aborted
+IsForgotten id state = (transaction : Transaction) → identified_by id state ≡ Some transaction → transaction.phase ≡ Aborted
 
 -- the seat of the next connection
 abbrev pub IsNext : State → Seat → Type 0

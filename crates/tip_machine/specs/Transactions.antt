@@ -11,7 +11,7 @@ use Rattle.tip_rows.specs.Keys.{Place as Key, is_same}
 use Rattle.tip_rows.specs.declared.row.Row.{Row}
 use Rattle.tip_rows.specs.declared.row.Row.TheVariants as row
 use Rattle.tip_txn.specs.Parts.{is_text, changed_at}
-use Rattle.tip_txn.specs.Transactions.{fresh}
+use Rattle.tip_txn.specs.Transactions.{local_party}
 use Rattle.tip_txn.specs.declared.answer.Answer.{Answer}
 use Rattle.tip_txn.specs.declared.answer.Answer.TheVariants as answer
 use Rattle.tip_txn.specs.declared.answer.Decision.{Decision}
@@ -33,8 +33,8 @@ abbrev pub has_key : Key → Transaction → Bool
 has_key key transaction = is_same key transaction.key
 
 -- is this the transaction of that identifier? One of another realm is none of ours, as one that never was
-abbrev pub has_id : List ℕ → Transaction → Bool
-has_id id transaction = bytes_eq id transaction.txn.id
+abbrev pub has_id : List ℕ → List ℕ → Transaction → Bool
+has_id realm id transaction = bytes_eq id (identifier realm transaction.key)
 
 -- the key of the next transaction that is made on a connection (ours, for section 5)
 abbrev pub next_key : Head → Connection → Key
@@ -72,7 +72,7 @@ is_undecided Committed = false
 is_undecided Aborted = false
 
 abbrev pub entering : Phase → Transaction → Transaction
-entering phase transaction = record transaction { txn = record transaction.txn { phase = phase } }
+entering phase transaction = record transaction { phase = phase }
 
 -- Where it comes from
 
@@ -83,7 +83,7 @@ comes_from (Some peer) id (origin.Subordinate address superior) = is_text peer a
 
 -- it was pushed or pulled from this manager under this identifier, and has no outcome yet (section 13, ALREADYPUSHED)
 abbrev pub is_known : Option (List ℕ) → List ℕ → Transaction → Bool
-is_known peer superior transaction = is_undecided transaction.txn.phase && comes_from peer superior transaction.origin
+is_known peer superior transaction = is_undecided transaction.phase && comes_from peer superior transaction.origin
 
 -- its superior is at this address
 abbrev pub is_decided_at : Option (List ℕ) → Origin → Bool
@@ -98,7 +98,8 @@ begun head key origin boxes = record {
   origin = origin;
   place = Here (idle_party head.name head.epoch (identifier head.name key) (fresh_members 1 boxes));
   branches = head.branches;
-  txn = fresh (identifier head.name key);
+  phase = Active;
+  parts = local_party ∷ [];
 }
 
 -- Its local party
@@ -145,7 +146,7 @@ decision answers =
 
 -- what the parts of a transaction decide, its local party among them (section 13, PREPARE and COMMIT)
 abbrev pub decision_of : Transaction → Decision
-decision_of transaction = decision (map (λ part. part.answer) transaction.txn.parts)
+decision_of transaction = decision (map (λ part. part.answer) transaction.parts)
 
 -- what a party answers, that decided so (ours)
 abbrev pub as_answer : Decision → Answer
@@ -162,11 +163,11 @@ verdict party = as_answer (decision (filter is_some (map ballot party.members)))
 
 -- a part of it is changed
 abbrev pub noting : ℕ → (Participant → Participant) → Transaction → Transaction
-noting part f transaction = record transaction { txn = record transaction.txn { parts = changed_at part f transaction.txn.parts } }
+noting part f transaction = record transaction { parts = changed_at part f transaction.parts }
 
 -- a part more, the last
 abbrev pub enlisting : Participant → Transaction → Transaction
-enlisting part transaction = record transaction { txn = record transaction.txn { parts = transaction.txn.parts ++ part ∷ [] } }
+enlisting part transaction = record transaction { parts = transaction.parts ++ part ∷ [] }
 
 -- the subordinates of these parts that said yes, each with its place as a part
 abbrev pub willing_from : ℕ → List Participant → List (ℕ × Participant)
@@ -175,7 +176,7 @@ willing_from part (p ∷ parts) = if agrees p.answer then (part, p) ∷ willing_
 
 -- its subordinates that said yes, in the order enlisted; the local party stands before all parts
 abbrev pub subordinates : Transaction → List (ℕ × Participant)
-subordinates transaction = willing_from 1 (drop 1 transaction.txn.parts)
+subordinates transaction = willing_from 1 (drop 1 transaction.parts)
 
 -- the number of a subordinate counts from 1
 abbrev pub subordinate_of : ℕ → Transaction → Option (ℕ × Participant)

@@ -12,8 +12,6 @@ pub struct Limits {
     pub connections: u32,
     /// Open transactions, 1 to 4,096.
     pub transactions: u32,
-    /// Local branches of one transaction, 1 to 8.
-    pub branches: u32,
     /// Boxes that are handed in with one connection, 0 to 4,096.
     pub boxes: u32,
     /// Entries of the journal from one start to the next, 1 to 10,000,000.
@@ -27,7 +25,6 @@ impl Limits {
     {
         (1..=4_096).contains(&self.connections)
             && (1..=4_096).contains(&self.transactions)
-            && (1..=8).contains(&self.branches)
             && self.boxes <= 4_096
             && (1..=10_000_000).contains(&self.entries)
     }

@@ -8,7 +8,7 @@ use Rattle.std.proofs.lemmas.List.{append_assoc}
 use Rattle.std.proofs.lemmas.Option.{same_Some, none-some}
 use Rattle.tip_core.specs.Hosted.{Hosted, realm}
 use Rattle.tip_line.specs.Words.{is_address, is_realm}
-use Rattle.tip_machine.specs.Heads.{are_allowed, starting}
+use Rattle.tip_machine.specs.Heads.{are_allowed, is_other, starting}
 use Rattle.tip_machine.specs.States.{started}
 use Rattle.tip_machine.specs.declared.head.Limits.{Limits}
 use Rattle.tip_machine.specs.declared.head.Start.{Start}
@@ -18,7 +18,7 @@ use Rattle.tip_play.specs.Scenes.{Acting, Scene, moved}
 use Rattle.tip_script.specs.Scripts.{Move, move_of}
 use Rattle.tip_play.specs.Stages.{APlaying, AreActors, Declared, IsDeclared, IsStage}
 use Rattle.tip_play.specs.Standing.{AreReadings, IsActing, IsScene, IsMoved}
-use Rattle.tip_play.specs.Transcripts.{Stage, Declaring, Playing, Acted, acted, acted_by, acts, acts_if, acting_of, scene_of, starts_text, declared, is_other, start_of}
+use Rattle.tip_play.specs.Transcripts.{Stage, Declaring, Playing, Acted, acted, acted_by, acts, acts_if, acting_of, scene_of, starts_text, declared, is_count, start_of}
 use Rattle.tip_script.specs.declared.instruction.Instruction.{Instruction}
 use Rattle.tip_script.specs.declared.instruction.Instruction.TheVariants as instruction
 use Rattle.tip_play.specs.declared.playing.Actor.{Actor}
@@ -33,15 +33,15 @@ actors_push (a ∷ actors) [] actor start are name none = absurd are
 actors_push (a ∷ actors) (s ∷ starts) actor start are name none = (are.0, are.1, actors_push actors starts actor start are.2 name none)
 
 -- a realm more was declared
-pub declares : (realms realms' : Declared) (starts : List Start) (name address : List ℕ) (limits : Limits) (actor : Actor) → IsDeclared realms starts → list_all (is_other name) realms.starts.items ≡ true → length realms.starts.items < 64 → are_allowed limits ≡ true → is_realm name ≡ true → is_address address ≡ true → actor.name ≡ name → actor.readers.items ≡ [] →
-    realms'.actors.items ≡ realms.actors.items ++ actor ∷ [] → realms'.starts.items ≡ realms.starts.items ++ start_of name address limits ∷ [] →
-    (all : List Start) × (declared name address limits starts ≡ Some all) × IsDeclared realms' all
-declares realms realms' starts name address limits actor is new few allowed named reached actor_is no_readers actors_are starts_are =
-    let start = start_of name address limits in
+pub declares : (realms realms' : Declared) (starts : List Start) (name address : List ℕ) (branches : ℕ) (limits : Limits) (actor : Actor) → IsDeclared realms starts → list_all (is_other name) realms.starts ≡ true → length realms.starts < 64 → is_count branches ≡ true → are_allowed limits ≡ true → is_realm name ≡ true → is_address address ≡ true → actor.name ≡ name → actor.readers.items ≡ [] →
+    realms'.actors.items ≡ realms.actors.items ++ actor ∷ [] → realms'.starts ≡ realms.starts ++ start_of name address branches limits ∷ [] →
+    (all : List Start) × (declared name address branches limits starts ≡ Some all) × IsDeclared realms' all
+declares realms realms' starts name address branches limits actor is new few some allowed named reached actor_is no_readers actors_are starts_are =
+    let start = start_of name address branches limits in
     let other : list_all (is_other name) starts ≡ true = ap (list_all (is_other name)) (sym is.starts_are) ∙ new in
     let short : nat_lt (length starts) 64 ≡ true = let e = ap length is.starts_are in grind (arith, nat_tests) in (
       starts ++ start ∷ [],
-      rw (other, short, allowed, named, reached) refl,
+      rw (other, short, some, allowed, named, reached) refl,
       record {
         starts_are = starts_are ∙ ap (λ l. l ++ start ∷ []) is.starts_are;
         actors = rw actors_are (actors_push realms.actors.items starts actor start is.actors actor_is no_readers);
@@ -93,13 +93,13 @@ plays_on playing playing' printed printed' move (Playing scene) is moves =
     let m = moves scene is in
     (Playing m.scene, ap (option_map Playing) m.is, m.stands, m.text)
 
-starts_first : (starts : List Start) (i : Instruction) → ((name : _) (address : _) (limits : Limits) → i ≢ instruction.Realm name address limits) → acts (Declaring starts) (move_by i) ≡ acted_by (starts_text starts) (moved (move_by i) (scene_of starts))
-starts_first starts (instruction.Realm name address limits) other = absurd (other name address limits refl)
+starts_first : (starts : List Start) (i : Instruction) → ((name : _) (address : _) (branches : ℕ) (limits : Limits) → i ≢ instruction.Realm name address branches limits) → acts (Declaring starts) (move_by i) ≡ acted_by (starts_text starts) (moved (move_by i) (scene_of starts))
+starts_first starts (instruction.Realm name address branches limits) other = absurd (other name address branches limits refl)
 starts_first starts (instruction.Open realm) other = refl
 starts_first starts (instruction.Feed realm connection octets) other = refl
 starts_first starts (instruction.Lost realm connection) other = refl
 
-pub plays_first : (playing' : APlaying) (starts : List Start) (printed between printed' : List ℕ) (i : Instruction) → ((name : _) (address : _) (limits : Limits) → i ≢ instruction.Realm name address limits) → between ≡ printed ++ starts_text starts → IsMoved playing'.core playing'.actors.items between printed' (moved (move_by i) (scene_of starts)) →
+pub plays_first : (playing' : APlaying) (starts : List Start) (printed between printed' : List ℕ) (i : Instruction) → ((name : _) (address : _) (branches : ℕ) (limits : Limits) → i ≢ instruction.Realm name address branches limits) → between ≡ printed ++ starts_text starts → IsMoved playing'.core playing'.actors.items between printed' (moved (move_by i) (scene_of starts)) →
     (then_ : Stage) × ((acts (Declaring starts) (move_by i)).stage ≡ Some then_) × IsStage (stage.Playing playing') then_ × (printed' ≡ printed ++ (acts (Declaring starts) (move_by i)).printed)
 plays_first playing' starts printed between printed' i other text m =
     let first = starts_first starts i other in

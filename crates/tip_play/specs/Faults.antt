@@ -1,5 +1,7 @@
 -- How the process ends where a script is not played to its end.
 use Rattle.std.specs.Prelude.{ℕ}
+use Rattle.tip_core.specs.declared.starts.StartFault.{StartFault}
+use Rattle.tip_core.specs.declared.starts.StartFault.TheVariants as starts
 use Rattle.tip_line.specs.declared.fault.WordFault.{WordFault}
 use Rattle.tip_line.specs.declared.fault.WordFault.TheVariants as words
 use Rattle.tip_play.specs.declared.fault.LineFault.{LineFault}
@@ -12,6 +14,11 @@ status_of (Script line) = 2
 status_of Read = 1
 status_of Write = 1
 status_of Memory = 1
+
+-- a name that is there already makes a bad line
+abbrev pub start_fault_of : StartFault → LineFault
+start_fault_of starts.SameName = lines.NotUnderstood
+start_fault_of starts.Memory = lines.Memory
 
 -- a word that is none makes a bad line; want of memory stays what it is
 abbrev pub line_fault_of : WordFault → LineFault

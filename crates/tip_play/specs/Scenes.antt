@@ -144,7 +144,7 @@ on_connection f name connection scene = on_acting f (place_of name scene) connec
 
 -- what a line does once the realms have started
 abbrev pub moved : Move → Scene → Moved
-moved (Declare name address limits) scene = fault
+moved (Declare name address branches limits) scene = fault
 moved (Open realm) scene = opens_at realm (place_of realm scene) (slice_get scene (place_of realm scene)) scene
 moved (Feed realm connection octets) scene = on_connection (feeds octets) realm connection scene
 moved (Lose realm connection) scene = on_connection loses realm connection scene

@@ -32,7 +32,7 @@ AreActors (actor ∷ actors) [] = ⊥
 AreActors (actor ∷ actors) (start ∷ starts) = (actor.name ≡ start.name) × (actor.readers.items ≡ []) × AreActors actors starts
 
 pub record IsDeclared (realms : Declared) (starts : List Start) : Type 0 where
-  pub starts_are : realms.starts.items ≡ starts
+  pub starts_are : realms.starts ≡ starts
   pub actors : AreActors realms.actors.items starts
 
 abbrev pub IsStage : AStage → Stage → Type 0
@@ -42,10 +42,10 @@ IsStage (stage.Playing playing) (Declaring starts) = ⊥
 IsStage (stage.Playing playing) (Playing scene) = IsScene playing.core playing.actors.items scene
 
 -- a realm more was declared, or may not be; where memory ends nothing is said
-abbrev pub Declares : List ℕ → List ℕ → List Start → Option (List Start) → Result Declared LineFault → Type 0
-Declares name address starts more (Ok realms) = (all : List Start) × (more ≡ Some all) × IsDeclared realms all
-Declares name address starts more (Err NotUnderstood) = more ≡ None
-Declares name address starts more (Err Memory) = Unit {0}
+abbrev pub Declares : Option (List Start) → Result Declared LineFault → Type 0
+Declares more (Ok realms) = (all : List Start) × (more ≡ Some all) × IsDeclared realms all
+Declares more (Err NotUnderstood) = more ≡ None
+Declares more (Err Memory) = Unit {0}
 
 -- a line was done, or may not stand here; where memory ends nothing is said
 abbrev pub Moves : Hosted → List Actor → List ℕ → List ℕ → Moved → Result (Unit {0}) LineFault → Type 0

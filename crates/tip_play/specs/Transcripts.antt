@@ -4,7 +4,7 @@ use Rattle.std.specs.List.{list_all, flat_map, slice_split}
 use Rattle.std.specs.Io.KnownBytes.{Appends, Consumes}
 use Rattle.std.specs.Str.{bytes_eq}
 use Rattle.tip_line.specs.Words.{is_address, is_realm}
-use Rattle.tip_machine.specs.Heads.{are_allowed, starting}
+use Rattle.tip_machine.specs.Heads.{are_allowed, is_other, starting}
 use Rattle.tip_rows.specs.Rows.{first_label}
 use Rattle.tip_machine.specs.States.{started}
 use Rattle.tip_machine.specs.declared.head.Limits.{Limits}
@@ -32,21 +32,22 @@ abbrev pub first_branches : ℕ → List (ℕ × List ℕ)
 first_branches zero = []
 first_branches (suc number) = first_branches number ++ (suc number, first_label (suc number)) ∷ []
 
-abbrev pub is_other : List ℕ → Start → Bool
-is_other name start = not (bytes_eq start.name name)
-
 -- a realm that is declared so starts in its first epoch
-abbrev pub start_of : List ℕ → List ℕ → Limits → Start
-start_of name address limits = record { name = name; address = address; limits = limits; branches = first_branches limits.branches; epoch = 1 }
+abbrev pub start_of : List ℕ → List ℕ → ℕ → Limits → Start
+start_of name address branches limits = record { name = name; address = address; limits = limits; branches = first_branches branches; epoch = 1 }
 
--- at most 64 realms, each with a name of its own, an address and limits that it may have
-abbrev pub may_be_declared : List ℕ → List ℕ → Limits → List Start → Bool
-may_be_declared name address limits starts = list_all (is_other name) starts && nat_lt (length starts) 64 && are_allowed limits && is_realm name && is_address address
+-- how many branches a transaction may have
+abbrev pub is_count : ℕ → Bool
+is_count branches = nat_le 1 branches && nat_le branches 8
 
-abbrev pub declared : List ℕ → List ℕ → Limits → List Start → Option (List Start)
-declared name address limits starts =
-    if may_be_declared name address limits starts
-    then Some (starts ++ start_of name address limits ∷ [])
+-- at most 64 realms, each with a name of its own, an address, and branches and limits that it may have
+abbrev pub may_be_declared : List ℕ → List ℕ → ℕ → Limits → List Start → Bool
+may_be_declared name address branches limits starts = list_all (is_other name) starts && nat_lt (length starts) 64 && is_count branches && are_allowed limits && is_realm name && is_address address
+
+abbrev pub declared : List ℕ → List ℕ → ℕ → Limits → List Start → Option (List Start)
+declared name address branches limits starts =
+    if may_be_declared name address branches limits starts
+    then Some (starts ++ start_of name address branches limits ∷ [])
     else None
 
 -- The start
@@ -66,7 +67,7 @@ abbrev pub acted_by : List ℕ → Moved → Acted
 acted_by before moved = record { printed = before ++ moved.printed; stage = option_map Playing moved.scene }
 
 abbrev pub acts : Stage → Move → Acted
-acts (Declaring starts) (Declare name address limits) = record { printed = []; stage = option_map Declaring (declared name address limits starts) }
+acts (Declaring starts) (Declare name address branches limits) = record { printed = []; stage = option_map Declaring (declared name address branches limits starts) }
 acts (Declaring starts) (Open realm) = acted_by (starts_text starts) (moved (Open realm) (scene_of starts))
 acts (Declaring starts) (Feed realm connection octets) = acted_by (starts_text starts) (moved (Feed realm connection octets) (scene_of starts))
 acts (Declaring starts) (Lose realm connection) = acted_by (starts_text starts) (moved (Lose realm connection) (scene_of starts))

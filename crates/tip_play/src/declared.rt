@@ -1,14 +1,13 @@
 //! The realms of a script, before they start.
 ghost use Rattle.std.specs.Prelude.{◌≡◌, ◌++◌, ◌&&◌, true, false, List, [], IfOk, OnOk, IsErrOf, string_bytes};
-ghost use Rattle.std.specs.List.{list_all, flat_map};
+ghost use Rattle.std.specs.List.{flat_map};
 ghost use Rattle.tip_machine.specs.declared.head.Start.{Start};
 ghost use Rattle.tip_play.specs.Printing.{start_text};
 ghost use Rattle.tip_play.specs.Stages.{Declares, IsDeclared};
 ghost use Rattle.tip_play.specs.Standing.{IsScene};
-ghost use Rattle.tip_play.specs.Transcripts.{declared, is_other, scene_of, start_of, starts_text};
+ghost use Rattle.tip_play.specs.Transcripts.{declared, is_count, scene_of, start_of, starts_text};
 ghost use Rattle.tip_play.specs.declared.fault.LineFault.TheVariants.{NotUnderstood};
 ghost use Rattle.tip_line.specs.Words.{is_address, is_realm};
-ghost use Rattle.tip_machine.specs.Heads.{are_allowed};
 
 use crate::branches::first_branches;
 use crate::fault::LineFault;
@@ -16,7 +15,7 @@ use crate::playing::{Actor, Playing};
 use crate::printing::print_start;
 use std::alloc::{AllocError, Global};
 use tip_branch::HeldFresh;
-use tip_core::Core;
+use tip_core::{Core, Starts};
 use tip_line::{Address, Realm};
 use tip_machine::{Limits, Start};
 
@@ -28,7 +27,7 @@ const MOST_REALMS: usize = 64;
 pub struct Declared<C = Core, B = HeldFresh> {
     core: C,
     no_boxes: B,
-    starts: Vec<Start>,
+    starts: Starts,
     actors: Vec<Actor>,
 }
 
@@ -41,7 +40,7 @@ impl Declared<Core, HeldFresh> {
         Declared {
             core,
             no_boxes,
-            starts: Vec::new(alloc),
+            starts: Starts::new(alloc),
             actors: Vec::new(alloc),
         }
     }
@@ -52,19 +51,20 @@ impl Declared<Core, HeldFresh> {
         alloc: Global,
         name: &str,
         address: &[u8],
+        branches: u32,
         limits: Limits,
     ) -> Result<Declared, LineFault>
-        ensures { (starts : List Start) → IsDeclared self starts → Declares name.now address.now starts (declared name.now address.now limits starts) result }
+        ensures { (starts : List Start) → IsDeclared self starts → Declares (declared name.now address.now branches limits starts) result }
     {
-        if !is_new(&self.starts, name)
-            || self.starts.len() >= MOST_REALMS
+        if self.starts.as_slice().len() >= MOST_REALMS
+            || !(1..=8).contains(&branches)
             || !limits.are_allowed()
         {
             return Err(LineFault::NotUnderstood);
         }
-        let start = start_of(alloc, name, address, limits)?;
+        let start = start_of(alloc, name, address, branches, limits)?;
         self.actors.push(Actor::new(alloc, start.name.copy()?))?;
-        self.starts.push(start)?;
+        self.starts.add(start)?;
         Ok(self)
     }
 
@@ -86,25 +86,24 @@ impl Declared<Core, HeldFresh> {
 }
 
 /// What is known of a realm at its start that is declared so.
-fn start_of(alloc: Global, name: &str, address: &[u8], limits: Limits) -> Result<Start, LineFault>
-    requires { are_allowed limits ≡ true }
-    ensures ok { IfOk result (λ start. (start ≡ start_of name.now address.now limits) × (is_realm name.now ≡ true) × (is_address address.now ≡ true)) }
+fn start_of(
+    alloc: Global,
+    name: &str,
+    address: &[u8],
+    branches: u32,
+    limits: Limits,
+) -> Result<Start, LineFault>
+    requires { branches ≤ 8 }
+    ensures ok { IfOk result (λ start. (start ≡ start_of name.now address.now branches limits) × (is_realm name.now ≡ true) × (is_address address.now ≡ true)) }
     ensures bad { IsErrOf result NotUnderstood → (is_realm name.now && is_address address.now) ≡ false }
 {
     Ok(Start {
         name: Realm::new(alloc, name.as_bytes())?,
         address: Address::new(alloc, address)?,
         limits,
-        branches: first_branches(alloc, limits.branches as u8)?,
+        branches: first_branches(alloc, branches as u8)?,
         epoch: 1,
     })
-}
-
-/// Whether no realm has this name.
-fn is_new(starts: &[Start], name: &str) -> bool
-    ensures { result ≡ list_all (is_other name.now) starts.now }
-{
-    starts.iter().all(|start| start.name.as_str() != name)
 }
 
 /// Prints the start of each realm.

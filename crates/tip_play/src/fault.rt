@@ -4,6 +4,7 @@ ghost use Rattle.tip_play.specs.Faults.{status_of};
 
 use std::alloc::{AllocError, AllocFailed};
 use thiserror::Error;
+use tip_core::StartFault;
 use tip_line::WordFault;
 
 /// Why a line of a script is not done.
@@ -43,6 +44,19 @@ impl From<WordFault> for LineFault {
         match fault {
             WordFault::NotWord => LineFault::NotUnderstood,
             WordFault::Memory => LineFault::Memory,
+        }
+    }
+}
+
+impl From<StartFault> for LineFault {
+    ghost use Rattle.tip_play.specs.Faults.{start_fault_of};
+
+    ghost from_gives = { λ fault result. result ≡ start_fault_of fault };
+
+    fn from(fault: StartFault) -> LineFault {
+        match fault {
+            StartFault::SameName => LineFault::NotUnderstood,
+            StartFault::Memory => LineFault::Memory,
         }
     }
 }

@@ -84,10 +84,12 @@ fn declare(
     if let Instruction::Realm {
         name,
         address,
+        branches,
         limits,
     } = instruction
     {
-        return Ok(Stage::Declaring(declared.add(alloc, name, address, limits)?));
+        let declared = declared.add(alloc, name, address, branches, limits)?;
+        return Ok(Stage::Declaring(declared));
     }
     let mut playing = declared.start(alloc, printed)?;
     play(&mut playing, alloc, instruction, printed)?;

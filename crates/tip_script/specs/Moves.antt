@@ -13,7 +13,7 @@ octets_of (octets.Hex digits) = octets_in digits.now
 
 -- the move that an instruction is
 abbrev pub move_by : Instruction → Move
-move_by (instruction.Realm name address limits) = Declare name.now address.now limits
+move_by (instruction.Realm name address branches limits) = Declare name.now address.now branches limits
 move_by (instruction.Open realm) = Open realm.now
 move_by (instruction.Feed realm connection octets) = Feed realm.now connection (octets_of octets)
 move_by (instruction.Lost realm connection) = Lose realm.now connection

@@ -12,7 +12,7 @@ use Rattle.tip_machine.specs.declared.head.Limits.{Limits}
 -- what a line says
 pub data Move : Type 0 where
   -- a realm is declared
-  Declare : (name : List ℕ) → (address : List ℕ) → (limits : Limits) → Move
+  Declare : (name : List ℕ) → (address : List ℕ) → (branches : ℕ) → (limits : Limits) → Move
   -- another manager opens a connection of a realm, and no boxes come with it
   Open : (realm : List ℕ) → Move
   -- octets come on a connection
@@ -57,23 +57,23 @@ octets_in digits = decoded (decode_of digits)
 
 -- The forms of a line, by the fields behind its first word
 
--- CONNECTIONS TRANSACTIONS BRANCHES BOXES ENTRIES
-unfoldable pub limits_in : List (List ℕ) → Option Limits
-limits_in (connections ∷ transactions ∷ branches ∷ boxes ∷ entries ∷ []) = do
+-- CONNECTIONS TRANSACTIONS BRANCHES BOXES ENTRIES: how many branches each transaction has, and the limits
+unfoldable pub sizes_in : List (List ℕ) → Option (ℕ × Limits)
+sizes_in (connections ∷ transactions ∷ branches ∷ boxes ∷ entries ∷ []) = do
   c ← number_in connections
   t ← number_in transactions
   b ← number_in branches
   x ← number_in boxes
   e ← number_in entries
-  Some (record { connections = c; transactions = t; branches = b; boxes = x; entries = e })
-limits_in fields = None
+  Some (b, record { connections = c; transactions = t; boxes = x; entries = e })
+sizes_in fields = None
 
--- realm NAME ADDRESS and the limits
+-- realm NAME ADDRESS and the sizes
 unfoldable pub declaration : List (List ℕ) → Option Move
-declaration (name ∷ address ∷ limits) = do
+declaration (name ∷ address ∷ numbers) = do
   realm ← realm_in name
-  numbers ← limits_in limits
-  Some (Declare realm address numbers)
+  sizes ← sizes_in numbers
+  Some (Declare realm address sizes.0 sizes.1)
 declaration fields = None
 
 -- open REALM -

@@ -2,7 +2,7 @@
 ghost use Rattle.std.specs.Prelude.{◌≡◌, option_map};
 ghost use Rattle.std.specs.List.{list_all};
 ghost use Rattle.tip_script.specs.Moves.{move_by};
-ghost use Rattle.tip_script.specs.Scripts.{is_digit, is_hex, limits_in, declaration, opening, text_line, hex_octets, loss, move_of};
+ghost use Rattle.tip_script.specs.Scripts.{is_digit, is_hex, sizes_in, declaration, opening, text_line, hex_octets, loss, move_of};
 
 use crate::fields::{number_in, realm_in};
 use tip_line::Fields;
@@ -24,6 +24,8 @@ pub enum Instruction<'a> {
     Realm {
         name: &'a str,
         address: &'a [u8],
+        /// How many local branches each transaction has.
+        branches: u32,
         limits: Limits,
     },
     /// `open REALM -`: another manager opens a connection, and no boxes come with it.
@@ -61,20 +63,23 @@ impl<'a> Instruction<'a> {
     }
 }
 
-#[tactic(auto, unfolding(crate::specs::Scripts::limits_in))]
-fn limits_in(mut fields: Fields<'_, b' '>) -> Option<Limits>
-    ensures { result ≡ limits_in fields.entry }
+/// How many branches each transaction has, and the limits.
+#[tactic(auto, unfolding(crate::specs::Scripts::sizes_in))]
+fn sizes_in(mut fields: Fields<'_, b' '>) -> Option<(u32, Limits)>
+    ensures { result ≡ sizes_in fields.entry }
 {
+    let connections = number_in(fields.next()?)?;
+    let transactions = number_in(fields.next()?)?;
+    let branches = number_in(fields.next()?)?;
     let limits = Limits {
-        connections: number_in(fields.next()?)?,
-        transactions: number_in(fields.next()?)?,
-        branches: number_in(fields.next()?)?,
+        connections,
+        transactions,
         boxes: number_in(fields.next()?)?,
         entries: number_in(fields.next()?)?,
     };
     match fields.next() {
         Some(_) => None,
-        None => Some(limits),
+        None => Some((branches, limits)),
     }
 }
 
@@ -84,10 +89,13 @@ fn declaration(mut fields: Fields<'_, b' '>) -> Option<Instruction<'_>>
 {
     let name = fields.next()?;
     let address = fields.next()?;
+    let name = realm_in(name)?;
+    let (branches, limits) = sizes_in(fields)?;
     Some(Instruction::Realm {
-        name: realm_in(name)?,
+        name,
         address,
-        limits: limits_in(fields)?,
+        branches,
+        limits,
     })
 }
 

@@ -22,9 +22,13 @@ fresh = record { phase = Active; parts = local_party ∷ []; spare = 0 }
 abbrev pub willing : List ℕ × List ℕ → Participant
 willing subordinate = record { address = Some subordinate.0; id = Some subordinate.1; answer = Some Yes; acknowledged = false }
 
+-- the parts of a stored row: each said yes, the local party too, and no subordinate has acknowledged
+abbrev pub promised_parts : List (List ℕ × List ℕ) → List Participant
+promised_parts subordinates = record local_party { answer = Some Yes } ∷ map willing subordinates
+
 -- the transaction of a stored row
 abbrev pub recovered : Phase → List (List ℕ × List ℕ) → Transaction
-recovered phase subordinates = record { phase = phase; parts = record local_party { answer = Some Yes } ∷ map willing subordinates; spare = 0 }
+recovered phase subordinates = record { phase = phase; parts = promised_parts subordinates; spare = 0 }
 
 -- an aborted transaction is none, as one that never was
 abbrev pub exists_in : Phase → Bool

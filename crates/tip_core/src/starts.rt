@@ -1,0 +1,95 @@
+//! The realms that are to start.
+ghost use Rattle.std.specs.Prelude.{◌≡◌, ◌++◌, ◌∷◌, [], true, false, length, OnOk, OnErr, IsErrOf};
+ghost use Rattle.std.specs.List.{list_all};
+ghost use Rattle.tip_machine.specs.Heads.{have_names, is_other};
+ghost use Rattle.tip_core.specs.declared.starts.StartFault.TheVariants.{SameName};
+
+use std::alloc::{AllocError, Global};
+use std::marker::Model;
+use thiserror::Error;
+use tip_machine::Start;
+
+/// Why a realm was not added to those that are to start.
+#[derive(Clone, Copy, Debug, PartialEq, Eq, Error)]
+pub enum StartFault {
+    #[error("a realm of this name is there already")]
+    SameName,
+    #[error("out of memory")]
+    Memory,
+}
+
+impl From<AllocError> for StartFault {
+    ghost use Rattle.tip_core.specs.declared.starts.StartFault.TheVariants.{Memory};
+
+    ghost from_gives = { λ _ fault. fault ≡ Memory };
+
+    fn from(_: AllocError) -> StartFault {
+        StartFault::Memory
+    }
+}
+
+/// The realms that are to start, in the order of declaration. Each has a name of its own.
+#[derive(Debug, Drop)]
+pub struct Starts {
+    items: Vec<Start>,
+}
+
+impl Model for Starts {
+    ghost use Rattle.std.specs.Prelude.{◌≡◌, true, List};
+    ghost use Rattle.tip_machine.specs.Heads.{have_names};
+    ghost use Rattle.tip_machine.specs.declared.head.Start.{Start};
+
+    ghost Value = { List Start };
+
+    ghost view = { λ s. s.items.items };
+
+    ghost invariant = { λ s. have_names s.items.items ≡ true };
+}
+
+impl Starts {
+    /// None so far.
+    pub fn new(alloc: Global) -> Starts
+        ensures { result ≡ [] }
+    {
+        Starts {
+            items: Vec::new(alloc),
+        }
+    }
+
+    /// One realm more, unless one of its name is there.
+    #[tactic(auto, using(crate::proofs::Naming::named_more))]
+    pub fn add(&mut self, start: Start) -> Result<(), StartFault>
+        ensures ok { OnOk result (self.new ≡ self.old ++ start ∷ []) }
+        ensures new { OnOk result (list_all (is_other start.name) self.old ≡ true) }
+        ensures taken { IsErrOf result SameName → list_all (is_other start.name) self.old ≡ false }
+        ensures err { OnErr result (self.new ≡ self.old) }
+    {
+        if !is_new(&self.items, start.name.as_str()) {
+            return Err(StartFault::SameName);
+        }
+        Ok(self.items.push(start)?)
+    }
+
+    /// The realms, in the order of declaration.
+    pub fn as_slice(&self) -> &[Start]
+        ensures same { result.now ≡ self.now }
+        ensures named { have_names self.now ≡ true }
+    {
+        &self.items
+    }
+
+    /// The same as a vector, without taking memory.
+    pub fn into_vec(self) -> Vec<Start>
+        ensures same { result.items ≡ self }
+        ensures named { have_names self ≡ true }
+    {
+        self.items
+    }
+}
+
+/// Whether no realm has this name.
+fn is_new(starts: &[Start], name: &str) -> bool
+    ensures { result ≡ list_all (is_other name.now) starts.now }
+{
+    starts.iter().all(|start| start.name.as_str() != name)
+}
