@@ -17,7 +17,7 @@ abbrev pub no_head : Head
 no_head = record {
   name = [];
   address = [];
-  limits = record { connections = 0; transactions = 0; branches = 0; boxes = 0; entries = 0 };
+  limits = record { connections = 0; transactions = 0; boxes = 0; entries = 0 };
   branches = [];
   epoch = 0;
   given = 0;

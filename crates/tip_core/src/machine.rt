@@ -1,5 +1,5 @@
 //! The machines of all realms.
-ghost use Rattle.std.specs.Prelude.{◌≡◌, ℕ, [], None, IfOk, IsOk, OnOk, map, take, length, slice_get, option_map};
+ghost use Rattle.std.specs.Prelude.{◌≡◌, ℕ, [], None, true, IfOk, IsOk, OnOk, map, take, length, slice_get, option_map};
 ghost use Rattle.tip_branch.specs.Always.{Always};
 ghost use Rattle.tip_machine.specs.Heads.{starting};
 ghost use Rattle.tip_machine.specs.Steps.{fits};

@@ -4,7 +4,7 @@ ghost use Rattle.std.specs.List.{list_all};
 ghost use Rattle.tip_machine.specs.Heads.{have_names, is_other};
 ghost use Rattle.tip_core.specs.declared.starts.StartFault.TheVariants.{SameName};
 
-use std::alloc::{AllocError, Global};
+use std::alloc::{AllocFailed, Global};
 use std::marker::Model;
 use thiserror::Error;
 use tip_machine::Start;
@@ -18,12 +18,12 @@ pub enum StartFault {
     Memory,
 }
 
-impl From<AllocError> for StartFault {
+impl<T: Drop> From<AllocFailed<T>> for StartFault {
     ghost use Rattle.tip_core.specs.declared.starts.StartFault.TheVariants.{Memory};
 
     ghost from_gives = { λ _ fault. fault ≡ Memory };
 
-    fn from(_: AllocError) -> StartFault {
+    fn from(_: AllocFailed<T>) -> StartFault {
         StartFault::Memory
     }
 }

@@ -23,6 +23,8 @@ pub mod Returns
 pub mod Moves
 pub mod Honest
 pub mod Verdicts
+pub mod Traces
+pub mod Agreement
 pub mod Invariants
 pub mod Scripts
 pub mod Commits

@@ -19,8 +19,9 @@ use Rattle.tip_line.specs.declared.response.Response.{Response}
 use Rattle.tip_rows.specs.Keys.{Place as Key, is_same}
 use Rattle.tip_rows.specs.declared.row.Row.{Row}
 use Rattle.tip_machine.specs.Types.{Event}
+use Rattle.tip_machine.specs.Agreement.{IsAgreed}
 use Rattle.tip_machine.specs.Answers.{identifier}
-use Rattle.tip_machine.specs.Honest.{branches_in, is_honest}
+use Rattle.tip_machine.specs.Honest.{branches_in, is_run}
 use Rattle.tip_machine.specs.Invariants.{IsSound}
 use Rattle.tip_machine.specs.Moves.{Move, World, moved}
 use Rattle.tip_machine.specs.Outputs.{Output}
@@ -28,7 +29,7 @@ use Rattle.tip_machine.specs.Returns.{Back, event_of}
 use Rattle.tip_machine.specs.Served.{everything}
 use Rattle.tip_machine.specs.States.{started}
 use Rattle.tip_machine.specs.Steps.{wants_serving}
-use Rattle.tip_machine.specs.Verdicts.{Agrees, told}
+use Rattle.tip_machine.specs.Traces.{Moment, traced}
 use Rattle.tip_machine.specs.declared.answer.Asked.{Asked}
 use Rattle.tip_machine.specs.declared.answer.Item.TheVariants.{Say, Ask, Close}
 use Rattle.tip_machine.specs.declared.answer.Said.{Said}
@@ -130,17 +131,21 @@ pub record Example : Type 0 where
 abbrev pub Shows : Example → Type 0
 Shows example = played example.world example.lines ≡ example.shown
 
--- what its branches are told of the first transaction agrees
-abbrev pub TellsOneThing : Example → Type 0
-TellsOneThing example = Agrees (told (codes "north") (identifier (codes "north") (record { epoch = 1; connection = 1; number = 1 })) example.shown)
+-- the moves of a script
+abbrev pub moves_of : World → List Line → List Move
+moves_of world [] = []
+moves_of world (line ∷ lines) = move_of line world ∷ moves_of (moved everything (move_of line world) world).world lines
 
--- the moves of a script are an honest run
-abbrev pub is_run_of : World → List Line → Bool
-is_run_of world [] = true
-is_run_of world (line ∷ lines) = is_honest everything (move_of line world) world && is_run_of (moved everything (move_of line world) world).world lines
+abbrev pub trace_of : Example → List Moment
+trace_of example = traced everything example.world (moves_of example.world example.lines)
 
+-- its first transaction is not half committed
+abbrev pub Agrees : Example → Type 0
+Agrees example = IsAgreed example.world (trace_of example) (identifier (codes "north") (record { epoch = 1; connection = 1; number = 1 }))
+
+-- it is an honest run
 abbrev pub IsHonestRun : Example → Type 0
-IsHonestRun example = is_run_of example.world example.lines ≡ true
+IsHonestRun example = is_run everything example.world (moves_of example.world example.lines) ≡ true
 
 -- the invariants hold at first, and in each state that is reached
 abbrev pub Reaches : World → List Line → Type 0

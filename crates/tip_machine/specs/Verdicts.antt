@@ -1,6 +1,6 @@
 -- What the branches of a transaction are told (ours): what agreement is about. It is read off what is shown alone, so a realm
 -- that says COMMIT and forgets the transaction in the same event has still said it.
-use Rattle.std.specs.Prelude.{◌≡◌, ℕ, ◌&&◌, Bool, true, false, List, filter_map, Option, Some, None, if◌then◌else◌}
+use Rattle.std.specs.Prelude.{ℕ, ◌&&◌, not, Bool, true, false, List, filter_map, Option, Some, None, if◌then◌else◌}
 use Rattle.std.specs.List.{list_any}
 use Rattle.std.specs.Str.{bytes_eq}
 use Rattle.tip_branch.specs.declared.member.Call.{Call}
@@ -46,6 +46,6 @@ abbrev pub is_abort : Verdict → Bool
 is_abort Verdict.Commit = false
 is_abort Verdict.Abort = true
 
--- AGREEMENT: no branch is told to commit where a branch is told to abort
-abbrev pub Agrees : List Verdict → Type 0
-Agrees told = (list_any is_commit told && list_any is_abort told) ≡ false
+-- no branch is told to commit where a branch is told to abort
+abbrev pub agrees : List Verdict → Bool
+agrees told = not (list_any is_commit told && list_any is_abort told)
