@@ -29,4 +29,5 @@ pub mod Invariants
 pub mod Scripts
 pub mod Commits
 pub mod Failures
+pub mod Worked
 pub mod Runs

@@ -44,6 +44,21 @@ use Rattle.tip_machine.specs.declared.event.Outcome.TheVariants.{NoChange, Store
 use Rattle.tip_machine.specs.declared.event.Seat.{Seat}
 use Rattle.tip_machine.specs.declared.head.Limits.{Limits}
 
+-- Transactions of the realm north
+
+abbrev pub key : ℕ → ℕ → ℕ → Key
+key epoch connection number = record { epoch = epoch; connection = connection; number = number }
+
+abbrev pub name : Key → List ℕ
+name key = identifier (codes "north") key
+
+-- its first transaction
+abbrev pub t : Key
+t = key 1 1 1
+
+abbrev pub id : List ℕ
+id = name t
+
 -- what the branches of a party answer that do as their plans promise
 
 abbrev pub vote_of : Member → Vote
@@ -128,6 +143,11 @@ pub record Example : Type 0 where
   pub lines : List Line
   pub shown : List Output
 
+-- what holds of each example
+abbrev pub Each : (Example → Type 0) → List Example → Type 0
+Each P [] = Unit {0}
+Each P (example ∷ examples) = P example × Each P examples
+
 abbrev pub Shows : Example → Type 0
 Shows example = played example.world example.lines ≡ example.shown
 
@@ -141,7 +161,7 @@ trace_of example = traced everything example.world (moves_of example.world examp
 
 -- its first transaction is not half committed
 abbrev pub Agrees : Example → Type 0
-Agrees example = IsAgreed example.world (trace_of example) (identifier (codes "north") (record { epoch = 1; connection = 1; number = 1 }))
+Agrees example = IsAgreed example.world (trace_of example) id
 
 -- it is an honest run
 abbrev pub IsHonestRun : Example → Type 0
@@ -215,19 +235,6 @@ abbrev pub not_removed : Key → Output
 not_removed key = Output.Changed (Remove key) Refused
 
 -- The realm north
-
-abbrev pub key : ℕ → ℕ → ℕ → Key
-key epoch connection number = record { epoch = epoch; connection = connection; number = number }
-
-abbrev pub name : Key → List ℕ
-name key = identifier (codes "north") key
-
--- its first transaction
-abbrev pub t : Key
-t = key 1 1 1
-
-abbrev pub id : List ℕ
-id = name t
 
 abbrev pub north_with : Limits → List (ℕ × List ℕ) → World
 north_with limits branches = record {

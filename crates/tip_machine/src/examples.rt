@@ -1,7 +1,8 @@
 //! Worked examples of the machine: what short scripts show is what its definitions compute.
 ghost use Rattle.tip_machine.specs.Commits.{late, a_no, labelled, push_and_prepare, one_part_says_no, two_parts, pulled, pushed, known_or_not_pulled, in_doubt_and_committed, out_of_turn};
 ghost use Rattle.tip_machine.specs.Failures.{part_lost, part_not_valid, not_valid, lost_vote, restarted_in_doubt, refused_removal, presumed_abort, part_reached_again, taken_over, resumed, frozen_and_renewed, stranger};
-ghost use Rattle.tip_machine.specs.Scripts.{Agrees, IsHonestRun, Shows, StaysSound};
+ghost use Rattle.tip_machine.specs.Worked.{worked};
+ghost use Rattle.tip_machine.specs.Scripts.{Agrees, Each, IsHonestRun, Shows, StaysSound};
 
 /// Transactions that come to their outcome.
 #[tactic(auto, using(crate::proofs::Commits::shows_late, crate::proofs::Commits::shows_a_no, crate::proofs::Commits::shows_labelled, crate::proofs::Commits::shows_push_and_prepare, crate::proofs::Commits::shows_one_part_says_no, crate::proofs::Commits::shows_two_parts, crate::proofs::Commits::shows_pulled, crate::proofs::Commits::shows_pushed, crate::proofs::Commits::shows_known_or_not_pulled, crate::proofs::Commits::shows_in_doubt_and_committed, crate::proofs::Commits::shows_out_of_turn))]
@@ -65,29 +66,7 @@ pub fn invariants_hold()
 
 /// The first transaction of no example is half committed.
 pub fn nothing_is_half_committed()
-    ensures late { Agrees late }
-    ensures a_no { Agrees a_no }
-    ensures labelled { Agrees labelled }
-    ensures push_and_prepare { Agrees push_and_prepare }
-    ensures one_part_says_no { Agrees one_part_says_no }
-    ensures two_parts { Agrees two_parts }
-    ensures pulled { Agrees pulled }
-    ensures pushed { Agrees pushed }
-    ensures known_or_not_pulled { Agrees known_or_not_pulled }
-    ensures in_doubt_and_committed { Agrees in_doubt_and_committed }
-    ensures out_of_turn { Agrees out_of_turn }
-    ensures part_lost { Agrees part_lost }
-    ensures part_not_valid { Agrees part_not_valid }
-    ensures not_valid { Agrees not_valid }
-    ensures lost_vote { Agrees lost_vote }
-    ensures restarted_in_doubt { Agrees restarted_in_doubt }
-    ensures refused_removal { Agrees refused_removal }
-    ensures presumed_abort { Agrees presumed_abort }
-    ensures part_reached_again { Agrees part_reached_again }
-    ensures taken_over { Agrees taken_over }
-    ensures resumed { Agrees resumed }
-    ensures frozen_and_renewed { Agrees frozen_and_renewed }
-    ensures stranger { Agrees stranger }
+    ensures { Each Agrees worked }
 {}
 
 /// Each example is an honest run.
