@@ -1,6 +1,6 @@
 -- Each realm has a name of its own, at its start and after each event.
 use Rattle.std.proofs.Common.{◌≡◌, ◌≢◌, ℕ, zero, suc, Bool, true, false, List, [], ◌∷◌, ◌++◌, Option, Some, None, refl, ap, sym, ◌∙◌, subst, inl, inr, arith}
-use Rattle.std.specs.Prelude.{◌&&◌, not, slice_get, option_map}
+use Rattle.std.specs.Prelude.{◌&&◌, map, not, slice_get, option_map}
 use Rattle.std.specs.List.{list_all}
 use Rattle.std.specs.Str.{bytes_eq}
 use Rattle.std.proofs.lemmas.Option.{same_Some, none-some}
@@ -10,11 +10,14 @@ use Rattle.tip_machine.specs.Heads.{have_names, is_other, starting}
 use Rattle.tip_machine.specs.Served.{today}
 use Rattle.tip_machine.specs.States.{State, started}
 use Rattle.tip_machine.specs.Steps.{step}
-use Rattle.tip_machine.specs.Types.{Answer, Event}
+use Rattle.tip_machine.specs.Types.{Answer, Connection, Event}
 use Rattle.tip_machine.specs.declared.event.Outcome.{Outcome}
 use Rattle.tip_machine.specs.declared.head.Start.{Start}
 use Rattle.tip_machine.proofs.Stepping.{step-named}
+use Rattle.tip_machine.specs.declared.head.Head.{Head}
+use Rattle.tip_table.specs.Kept.{Kept, of}
 use Rattle.tip_core.specs.Hosted.{Hosted, HaveNames, Steps, realm}
+use Rattle.tip_core.proofs.Stepping.{new_realm}
 
 -- Realms that are to start
 
@@ -87,3 +90,6 @@ named_alike old new same named this that a b is_this is_that names = named this 
 
 pub none_named : (core : Hosted) → ((place : ℕ) → realm core place ≡ None) → HaveNames core
 none_named core none this that a b is_this is_that same = absurd (none-some a (sym (none this) ∙ is_this))
+
+pub heads_named : (starts : List Start) (heads : List Head) (table : Kept Connection) → have_names starts ≡ true → heads ≡ map starting starts → ((place : ℕ) → of table place ≡ []) → HaveNames (record { heads = heads; connections = table })
+heads_named starts heads table named are empty = named_at_start (record { heads = heads; connections = table }) starts named (λ place. rw are (new_realm starts table place (empty place)))
