@@ -1,5 +1,5 @@
 -- Each event that opens no connection is refused, or keeps what each single change keeps.
-use Rattle.std.proofs.Common.{◌≡◌, Bool, true, false, ℕ, List, Option, Some, None, refl}
+use Rattle.std.proofs.Common.{◌≡◌, Bool, true, false, ℕ, List, Option, Some, None, cond, refl}
 use Rattle.std.specs.Prelude.{find}
 use Rattle.std.specs.Option.{IfSome}
 use Rattle.tip_branch.specs.Notes.{PartyNotes}
@@ -24,7 +24,7 @@ use Rattle.tip_machine.specs.declared.event.Heard.{Heard}
 use Rattle.tip_machine.specs.declared.event.Seat.{Seat}
 use Rattle.tip_machine.specs.declared.transaction.PartyPlace.TheVariants.{Here, Out, Spent}
 use Rattle.tip_machine.specs.declared.transaction.Origin.TheVariants as origin
-use Rattle.tip_machine.proofs.Walks.{AtOne, Closed, Ends, Is, either, either_ends, is_or_any, key_of, more_ends, or_any, seated_there}
+use Rattle.tip_machine.proofs.Walks.{AtOne, Closed, Ends, Is, at_one, either, either_attempt, is_or_any, key_of, or_any, seated_there}
 use Rattle.tip_machine.proofs.RuleWalks.{dispatch-keeps, enlisting-keeps, fail-keeps, finish-keeps, noting-keeps, send-keeps, settle-keeps, standing-keeps, taking-keeps}
 use Rattle.tip_machine.proofs.EventWalks.{is_heard}
 
@@ -51,88 +51,95 @@ abbrev IsThere : Option Connection → State → Type 0
 IsThere found state = (c : Connection) → found ≡ Some c → connection_of c.number state ≡ Some c
 
 -- what holds of an event that was refused, of one that brought a stranger, and of what was kept
-module _ (R : Key → Work → Work → Type 0) (May : ℕ → Type 0) (k : (key : Key) → Closed (R key) May (Is key)) (w : Work) (Q : Work → Type 0) (kept : (key : Key) (v : Work) → R key w v → Q v) (refused : (why : Refusal) → Q (refuse why w)) (strangers : (party : PartyNotes) → Ends Q (strange party w)) where
-  kept_each : (key : Key) (a : Attempt) → Ends (R key w) a → Ends Q a
-  kept_each key a keeps = more_ends (R key w) Q (kept key) a keeps
+module _ (R : Key → Work → Work → Type 0) (May : ℕ → Type 0) (k : (key : Key) → Closed (R key) May (Is key)) (w : Work) (Q : Attempt → Type 0) (kept : (a : Attempt) → Ends (AtOne R w) a → Q a) (refused : (why : Refusal) → Q (Attempt.Done (refuse why w))) (strangers : (party : PartyNotes) → Q (strange party w)) where
+  kept_each : (key : Key) (a : Attempt) → Ends (R key w) a → Q a
+  kept_each key a keeps = kept a (at_one R w key a keeps)
 
-  line-goes : (serving : Serving) (found : Option Connection) (may : IfSome found (λ c. May c.number)) (heard : Heard) → IsThere found w.state → Ends Q (line serving found heard w)
+  done : (key : Key) (v : Work) → R key w v → Q (Attempt.Done v)
+  done key v keeps = kept_each key (Attempt.Done v) keeps
+
+  -- either way, of work that is done
+  which : (b : Bool) (this that : Work) → Q (Attempt.Done this) → Q (Attempt.Done that) → Q (Attempt.Done (cond b this that))
+  which b this that e f = either (λ v. Q (Attempt.Done v)) b this that e f
+
+  line-goes : (serving : Serving) (found : Option Connection) (may : IfSome found (λ c. May c.number)) (heard : Heard) → IsThere found w.state → Q (line serving found heard w)
   unfolding line
   line-goes serving None may heard is = refused Stale
-  line-goes serving (Some c) may heard is = either_ends Q (may_take c) (hear serving c.side heard c w) _ (more_ends (AtOne R w) Q (λ v one. kept one.0 v one.1) _ (is_heard R May k c w may serving c.side heard (is c refl))) (refused Busy)
+  line-goes serving (Some c) may heard is = either_attempt Q (may_take c) (hear serving c.side heard c w) _ (kept (hear serving c.side heard c w) (is_heard R May k c w may serving c.side heard (is c refl))) (refused Busy)
 
-  lost-goes : (found : Option Connection) (may : IfSome found (λ c. May c.number)) → Q (lost found w)
+  lost-goes : (found : Option Connection) (may : IfSome found (λ c. May c.number)) → Q (Attempt.Done (lost found w))
   unfolding lost
   lost-goes None may = refused Stale
-  lost-goes (Some c) may = let key = or_any (key_of c.role) in kept key _ (fail-keeps (R key) May (Is key) (k key) c w may (is_or_any (key_of c.role)))
+  lost-goes (Some c) may = let key = or_any (key_of c.role) in done key _ (fail-keeps (R key) May (Is key) (k key) c w may (is_or_any (key_of c.role)))
 
-  pull_if-goes : (found : Option Transaction) (superior : List ℕ) (c : Connection) → May c.number → connection_of c.number w.state ≡ Some c → Q (pull_if found superior c w)
+  pull_if-goes : (found : Option Transaction) (superior : List ℕ) (c : Connection) → May c.number → connection_of c.number w.state ≡ Some c → Q (Attempt.Done (pull_if found superior c w))
   pull_if-goes None superior c may is =
       let key = next_key w.state.head c in
-      either Q (has_room c w.state) _ _ (kept key _ ((k key).then w _ _ ((k key).makes (origin.Subordinate c.peer superior) c w may refl is) (send-keeps (R key) May (Is key) (k key) c.number _ _ _ may))) (refused Full)
+      which (has_room c w.state) _ _ (done key _ ((k key).then w _ _ ((k key).makes (origin.Subordinate c.peer superior) c w may refl is) (send-keeps (R key) May (Is key) (k key) c.number _ _ _ may))) (refused Full)
   pull_if-goes (Some t) superior c may is = refused Known
 
-  ask_pull-goes : (found : Option Connection) (may : IfSome found (λ c. May c.number)) (superior : List ℕ) → IsThere found w.state → Q (ask_pull found superior w)
+  ask_pull-goes : (found : Option Connection) (may : IfSome found (λ c. May c.number)) (superior : List ℕ) → IsThere found w.state → Q (Attempt.Done (ask_pull found superior w))
   unfolding ask_pull
   ask_pull-goes None may superior is = refused Stale
-  ask_pull-goes (Some c) may superior is = either Q (is_free c) (pull_if (find (is_known c.peer superior) w.state.transactions) superior c w) _ (pull_if-goes (find (is_known c.peer superior) w.state.transactions) superior c may (is c refl)) (refused Busy)
+  ask_pull-goes (Some c) may superior is = which (is_free c) (pull_if (find (is_known c.peer superior) w.state.transactions) superior c w) _ (pull_if-goes (find (is_known c.peer superior) w.state.transactions) superior c may (is c refl)) (refused Busy)
 
   -- events of the transaction that was found
   module _ (t : Transaction) where
-    push_part-goes : (peer : Option (List ℕ)) (n : ℕ) → May n → Q (push_part (Some t) peer n w)
+    push_part-goes : (peer : Option (List ℕ)) (n : ℕ) → May n → Q (Attempt.Done (push_part (Some t) peer n w))
     push_part-goes None n may = refused NotActive
     push_part-goes (Some address) n may =
-        either Q (is_active t.phase) _ _
-        (kept t.key _ ((k t.key).then w _ _ (send-keeps (R t.key) May (Is t.key) (k t.key) n _ _ w may) ((k t.key).then _ _ _ (enlisting-keeps (R t.key) May (Is t.key) (k t.key) _ t.key _ refl) (taking-keeps (R t.key) May (Is t.key) (k t.key) n _ _ may))))
+        which (is_active t.phase) _ _
+        (done t.key _ ((k t.key).then w _ _ (send-keeps (R t.key) May (Is t.key) (k t.key) n _ _ w may) ((k t.key).then _ _ _ (enlisting-keeps (R t.key) May (Is t.key) (k t.key) _ t.key _ refl) (taking-keeps (R t.key) May (Is t.key) (k t.key) n _ _ may))))
         (refused NotActive)
 
-    resume_in-goes : (place : PartyPlace) → Ends Q (resume_in place t w)
-    resume_in-goes (Here party) = kept t.key _ (dispatch-keeps (R t.key) May (Is t.key) (k t.key) t.key w refl)
+    resume_in-goes : (place : PartyPlace) → Q (resume_in place t w)
+    resume_in-goes (Here party) = done t.key _ (dispatch-keeps (R t.key) May (Is t.key) (k t.key) t.key w refl)
     resume_in-goes (Out errand) = refused Busy
-    resume_in-goes Spent = either_ends Q (is_done t) (finish t w) _ (kept_each t.key _ (finish-keeps (R t.key) May (Is t.key) (k t.key) w t w refl ((k t.key).same w))) (refused Busy)
+    resume_in-goes Spent = either_attempt Q (is_done t) (finish t w) _ (kept_each t.key _ (finish-keeps (R t.key) May (Is t.key) (k t.key) w t w refl ((k t.key).same w))) (refused Busy)
 
     -- its party is here again
     returns : (party : PartyNotes) → R t.key w (alter t.key (standing_at (Here party)) w)
     returns party = standing-keeps (R t.key) May (Is t.key) (k t.key) (Here party) t.key w refl
 
-    settles_from : (v : Work) → R t.key w v → Ends Q (settle t.key v)
+    settles_from : (v : Work) → R t.key w v → Q (settle t.key v)
     settles_from v r = kept_each t.key _ (settle-keeps (R t.key) May (Is t.key) (k t.key) w t.key v refl r)
 
-    voted_for-goes : (place : PartyPlace) (party : PartyNotes) → Ends Q (voted_for place party t w)
+    voted_for-goes : (place : PartyPlace) (party : PartyNotes) → Q (voted_for place party t w)
     voted_for-goes (Out errand.Vote) party = settles_from _ ((k t.key).then w _ _ (returns party) (noting-keeps (R t.key) May (Is t.key) (k t.key) 0 (answered (verdict party)) t.key _ refl))
     voted_for-goes place party = strangers party
 
-    settled_for-goes : (place : PartyPlace) (party : PartyNotes) → Ends Q (settled_for place party t w)
+    settled_for-goes : (place : PartyPlace) (party : PartyNotes) → Q (settled_for place party t w)
     settled_for-goes (Out errand.Commit) party =
         let here = alter t.key (standing_at (Here party)) w in
         settles_from _ (either (R t.key w) (has_ready party) here (dispatch t.key here) (returns party) ((k t.key).then w here _ (returns party) (dispatch-keeps (R t.key) May (Is t.key) (k t.key) t.key here refl)))
     settled_for-goes (Out errand.Abort) party = settles_from _ (returns party)
     settled_for-goes place party = strangers party
 
-  push_found-goes : (found : Option Transaction) (peer : Option (List ℕ)) (n : ℕ) → May n → Q (push_part found peer n w)
+  push_found-goes : (found : Option Transaction) (peer : Option (List ℕ)) (n : ℕ) → May n → Q (Attempt.Done (push_part found peer n w))
   push_found-goes None peer n may = refused NotActive
   push_found-goes (Some t) peer n may = push_part-goes t peer n may
 
-  ask_push-goes : (found : Option Connection) (may : IfSome found (λ c. May c.number)) (id : List ℕ) → Q (ask_push found id w)
+  ask_push-goes : (found : Option Connection) (may : IfSome found (λ c. May c.number)) (id : List ℕ) → Q (Attempt.Done (ask_push found id w))
   unfolding ask_push
   ask_push-goes None may id = refused Stale
-  ask_push-goes (Some c) may id = either Q (is_free c) (push_part (identified_by id w.state) c.peer c.number w) _ (push_found-goes (identified_by id w.state) c.peer c.number may) (refused Busy)
+  ask_push-goes (Some c) may id = which (is_free c) (push_part (identified_by id w.state) c.peer c.number w) _ (push_found-goes (identified_by id w.state) c.peer c.number may) (refused Busy)
 
-  resume-goes : (found : Option Transaction) → Ends Q (resume found w)
+  resume-goes : (found : Option Transaction) → Q (resume found w)
   unfolding resume
   resume-goes None = refused NotActive
-  resume-goes (Some t) = either_ends Q (is_committed t.phase) (resume_in t.place t w) _ (resume_in-goes t t.place) (refused NotActive)
+  resume-goes (Some t) = either_attempt Q (is_committed t.phase) (resume_in t.place t w) _ (resume_in-goes t t.place) (refused NotActive)
 
-  voted-goes : (found : Option Transaction) (party : PartyNotes) → Ends Q (voted found party w)
+  voted-goes : (found : Option Transaction) (party : PartyNotes) → Q (voted found party w)
   unfolding voted
   voted-goes None party = strangers party
   voted-goes (Some t) party = voted_for-goes t t.place party
 
-  settled-goes : (found : Option Transaction) (party : PartyNotes) → Ends Q (settled found party w)
+  settled-goes : (found : Option Transaction) (party : PartyNotes) → Q (settled found party w)
   unfolding settled
   settled-goes None party = strangers party
   settled-goes (Some t) party = settled_for-goes t t.place party
 
-  pub attempt-goes : (serving : Serving) (event : Event) → is_opening event ≡ false → ((seat : Seat) → Names event seat.number → IfSome (seated seat w.state) (λ c. May c.number)) → Ends Q (attempt serving event w)
+  pub attempt-goes : (serving : Serving) (event : Event) → is_opening event ≡ false → ((seat : Seat) → Names event seat.number → IfSome (seated seat w.state) (λ c. May c.number)) → Q (attempt serving event w)
   attempt-goes serving (Open boxes) not may = absurd (cc)
   attempt-goes serving (Dial address purpose boxes) not may = absurd (cc)
   attempt-goes serving (Line seat heard) not may = line-goes serving (seated seat w.state) (may seat refl) heard (seated_there seat w.state)

@@ -32,7 +32,7 @@ use Rattle.tip_machine.specs.declared.event.Event.TheVariants.{Open, Dial}
 use Rattle.tip_machine.specs.declared.event.Outcome.{Outcome}
 use Rattle.tip_machine.specs.declared.event.Seat.{Seat}
 use Rattle.tip_machine.specs.declared.transaction.Origin.{Origin}
-use Rattle.tip_machine.proofs.Walks.{Closed, Ends, Is, chosen_ends, either, or_any, seated-number}
+use Rattle.tip_machine.proofs.Walks.{AtOne, Closed, Ends, Is, chosen_ends, either, more_ends, or_any, seated-number}
 use Rattle.tip_machine.proofs.Lists.{find-added, find-changed, find-without, none-changed, none-map, none-without}
 use Rattle.tip_machine.proofs.RuleWalks.{moved-number}
 use Rattle.tip_machine.proofs.AttemptWalks.{attempt-goes, each_event, is_opening}
@@ -272,8 +272,8 @@ each event state seat names (Some c) is = subst (Names event) (sym (seated-numbe
 
 others : (serving : Serving) (event : Event) (state : State) → is_opening event ≡ false → Ends (Touches event state) (attempt serving event (entered state))
 others serving event state not =
-    attempt-goes (Leaves event) (Names event) (closed_by_leaves event) (entered state) (Touches event state)
-    (λ key v leaves. (key, record { transactions = leaves.transactions; connections = λ n le unnamed off. (leaves.connections n unnamed off).0 }))
+    attempt-goes (Leaves event) (Names event) (closed_by_leaves event) (entered state) (Ends (Touches event state))
+    (more_ends (AtOne (Leaves event) (entered state)) (Touches event state) (λ v one. (one.0, record { transactions = one.1.transactions; connections = λ n le unnamed off. (one.1.connections n unnamed off).0 })))
     (λ why. untouched event state (entered state).state refl refl) (λ party. untouched event state (entered state).state refl refl) serving event not
     (λ seat names. each event (entered state).state seat names (seated seat (entered state).state) refl)
 

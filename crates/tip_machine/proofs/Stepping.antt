@@ -1,5 +1,5 @@
 -- What a step leaves of a realm's counts, and what a refusal leaves.
-use Rattle.std.proofs.Common.{◌≡◌, ◌≤◌, Bool, ℕ, ◌+◌, List, [], Some, None, refl, ap, arith, sym, ◌∙◌, ◌⊎◌, inl, inr}
+use Rattle.std.proofs.Common.{◌≡◌, ◌≤◌, Bool, true, false, ℕ, ◌+◌, List, [], Some, None, cond, refl, ap, arith, sym, ◌∙◌, ◌⊎◌, inl, inr}
 use Rattle.std.specs.Prelude.{◌&&◌, IsSome, length}
 use Rattle.std.proofs.lemmas.Option.{same_Some, none-some}
 use Rattle.tip_branch.specs.declared.branch.Badge.{Badge}
@@ -13,15 +13,16 @@ use Rattle.tip_machine.specs.Changes.{refuse}
 use Rattle.tip_machine.specs.Order.{in_turn, ordered, turn}
 use Rattle.tip_machine.specs.Requests.{added, dial, hand_back, opened}
 use Rattle.tip_machine.specs.Served.{Serving}
-use Rattle.tip_machine.specs.Steps.{attempt, chosen, entered, frozen, is_open, returned, step_serving, ChangesTheEntriesAlone, IsNext}
+use Rattle.tip_machine.specs.Steps.{attempt, chosen, entered, frozen, is_open, returned, step_serving, wanted, wants_serving, ChangesTheEntriesAlone, IsNext}
 use Rattle.tip_machine.specs.declared.answer.Told.{Told}
 use Rattle.tip_machine.specs.declared.connection.Purpose.{Purpose}
 use Rattle.tip_machine.specs.declared.event.Event.TheVariants.{Open, Dial, Voted, Settled}
 use Rattle.tip_machine.specs.declared.event.Outcome.{Outcome}
+use Rattle.tip_machine.specs.declared.event.Outcome.TheVariants.{NoChange, Stored, Refused}
 use Rattle.tip_machine.specs.declared.event.Seat.{Seat}
 use Rattle.tip_machine.proofs.AttemptWalks.{each_event}
 use Rattle.tip_machine.proofs.Walks.{Ends, chosen_ends, either, more_ends}
-use Rattle.tip_machine.proofs.Keeping.{Goes, event-goes, some_none}
+use Rattle.tip_machine.proofs.Keeping.{Goes, IsCalm, event-calm, event-goes, some_none}
 
 -- a connection is counted, and its seat is told
 pub record Opens (before after : Work) : Type 0 where
@@ -130,6 +131,25 @@ silent_step serving state event outcome = either IsSilent (is_open state) _ (fro
 pub silent : (serving : Serving) (state : State) (event : Event) (outcome : Outcome) → IsSome (step_serving serving state event outcome).answer.refusal → ((step_serving serving state event outcome).answer.told ≡ []) × ((step_serving serving state event outcome).answer.work ≡ None)
 unfolding IsSilent
 silent serving state event outcome = silent_step serving state event outcome
+
+-- and wants no change
+
+wants_nothing : (a : Attempt) (outcome : Outcome) (state : State) → IsCalm a → IsSome (ordered state (chosen a outcome)).answer.refusal → wanted a ≡ None
+unfolding ordered
+wants_nothing (Attempt.Done work) outcome state is some = refl
+wants_nothing (Attempt.Asks change stored refused) Stored state is some = absurd (some_none stored.answer.refusal is.0 some)
+wants_nothing (Attempt.Asks change stored refused) Refused state is some = absurd (some_none refused.answer.refusal is.1 some)
+wants_nothing (Attempt.Asks change stored refused) NoChange state is some = absurd (some_none refused.answer.refusal is.1 some)
+
+wants_or_not : (b : Bool) (a : Attempt) (outcome : Outcome) (state : State) (other : Work) → IsCalm a → IsSome (cond b (ordered state (chosen a outcome)) other).answer.refusal → cond b (wanted a) None ≡ None
+wants_or_not true a outcome state other is some = wants_nothing a outcome state is some
+wants_or_not false a outcome state other is some = refl
+
+attempt-calm : (serving : Serving) (event : Event) (w : Work) → w.answer.refusal ≡ None → IsCalm (attempt serving event w)
+attempt-calm serving event w none = each_event (λ event. IsCalm (attempt serving event w)) (λ boxes. tt) (λ address purpose boxes. tt) (λ event not. event-calm serving event w not none) event
+
+pub wants_none : (serving : Serving) (state : State) (event : Event) (outcome : Outcome) → IsSome (step_serving serving state event outcome).answer.refusal → wants_serving serving state event ≡ None
+wants_none serving state event outcome some = wants_or_not (is_open state) (attempt serving event (entered state)) outcome state (frozen event state) (attempt-calm serving event (entered state) refl) some
 
 -- The name of a realm stays
 

@@ -58,9 +58,12 @@ chosen_ends P (Attempt.Asks change stored refused) Stored p = p.0
 chosen_ends P (Attempt.Asks change stored refused) Refused p = p.1
 chosen_ends P (Attempt.Asks change stored refused) NoChange p = p.1
 
+pub either_attempt : (P : Attempt → Type 0) (b : Bool) (this that : Attempt) → P this → P that → P (cond b this that)
+either_attempt P true this that e f = e
+either_attempt P false this that e f = f
+
 pub either_ends : (P : Work → Type 0) (b : Bool) (this that : Attempt) → Ends P this → Ends P that → Ends P (cond b this that)
-either_ends P true this that e f = e
-either_ends P false this that e f = f
+either_ends P = either_attempt (Ends P)
 
 pub more_ends : (P Q : Work → Type 0) → ((w : Work) → P w → Q w) → (a : Attempt) → Ends P a → Ends Q a
 more_ends P Q goes (Attempt.Done w) p = goes w p

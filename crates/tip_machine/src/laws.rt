@@ -13,13 +13,13 @@ ghost use Rattle.tip_machine.specs.Commands.{pull, query, reconnect};
 ghost use Rattle.tip_machine.specs.Failing.{closed};
 ghost use Rattle.tip_machine.specs.Given.{are_numbered, was_given};
 ghost use Rattle.tip_machine.specs.Invariants.{IsSound};
-ghost use Rattle.tip_machine.specs.Moves.{Move, fresh, led_to};
+ghost use Rattle.tip_machine.specs.Moves.{Move, World, fresh, led_to};
 ghost use Rattle.tip_machine.specs.Requests.{push_part, resume};
 ghost use Rattle.tip_machine.specs.Responses.{pursue};
 ghost use Rattle.tip_machine.specs.Returns.{Back, back_of, can_answer, is_done};
 ghost use Rattle.tip_machine.specs.Served.{Serving, today};
 ghost use Rattle.tip_machine.specs.States.{State, Work, identified_by, transaction_of};
-ghost use Rattle.tip_machine.specs.Steps.{step_serving, ChangesTheEntriesAlone, IsForgotten, IsNext, TouchesOne};
+ghost use Rattle.tip_machine.specs.Steps.{step_serving, wants_serving, ChangesTheEntriesAlone, IsForgotten, IsNext, TouchesOne};
 ghost use Rattle.tip_machine.specs.Transactions.{decision};
 ghost use Rattle.tip_machine.specs.Types.{Connection, Event};
 ghost use Rattle.tip_machine.specs.declared.answer.Said.TheVariants as said;
@@ -29,13 +29,15 @@ ghost use Rattle.tip_machine.specs.declared.event.Outcome.{Outcome};
 ghost use Rattle.tip_machine.specs.declared.event.Seat.{Seat};
 ghost use Rattle.tip_machine.specs.declared.head.Head.{Head};
 
-/// What is refused has not happened: at most the journal has an entry more, nothing is told, and no party goes out.
-#[tactic(auto, using(crate::proofs::Stepping::quiet, crate::proofs::Stepping::silent))]
+/// What is refused has not happened: at most the journal has an entry more, nothing is told, no party goes out, and no change is
+/// wanted.
+#[tactic(auto, using(crate::proofs::Stepping::quiet, crate::proofs::Stepping::silent, crate::proofs::Stepping::wants_none))]
 pub fn a_refusal_changes_the_entries_alone()
     ensures state { (serving : Serving) (state : State) (event : Event) (outcome : Outcome) → IsSome (step_serving serving state event outcome).answer.refusal →
         ChangesTheEntriesAlone state (step_serving serving state event outcome).state }
     ensures silent { (serving : Serving) (state : State) (event : Event) (outcome : Outcome) → IsSome (step_serving serving state event outcome).answer.refusal →
         ((step_serving serving state event outcome).answer.told ≡ []) × ((step_serving serving state event outcome).answer.work ≡ None) }
+    ensures unwanted { (serving : Serving) (state : State) (event : Event) (outcome : Outcome) → IsSome (step_serving serving state event outcome).answer.refusal → wants_serving serving state event ≡ None }
 {}
 
 /// A new connection has the next number of its start, the count of numbers never falls, and numbers rise in the order made.
@@ -55,15 +57,14 @@ pub fn at_most_one_transaction_changes()
 {}
 
 /// An identifier is never made twice: a new transaction has a key that was not given before, that is given then, and that
-/// stays so, also in each later start.
-#[tactic(auto, using(crate::proofs::Identifiers::new_was_not_given, crate::proofs::Identifiers::new_is_given, crate::proofs::Identifiers::given_stays, crate::proofs::Identifiers::given_later))]
+/// stays so wherever moves lead, over restarts and renewals too.
+#[tactic(auto, using(crate::proofs::Identifiers::new_was_not_given, crate::proofs::Identifiers::new_is_given, crate::proofs::Making::led_given))]
 pub fn an_identifier_is_never_made_twice()
     ensures new { (serving : Serving) (state : State) (event : Event) (outcome : Outcome) (key : Key) → transaction_of key state ≡ None → IsSome (transaction_of key (step_serving serving state event outcome).state) →
         was_given state key ≡ false }
     ensures given { (serving : Serving) (state : State) (event : Event) (outcome : Outcome) (key : Key) → are_numbered state ≡ true → transaction_of key state ≡ None → IsSome (transaction_of key (step_serving serving state event outcome).state) →
         was_given (step_serving serving state event outcome).state key ≡ true }
-    ensures stays { (serving : Serving) (state : State) (event : Event) (outcome : Outcome) (key : Key) → was_given state key ≡ true → was_given (step_serving serving state event outcome).state key ≡ true }
-    ensures later { (old new : State) (key : Key) → old.head.epoch < new.head.epoch → was_given old key ≡ true → was_given new key ≡ true }
+    ensures stays { (serving : Serving) (world : World) (moves : List Move) (key : Key) → was_given world.state key ≡ true → was_given (led_to serving world moves).state key ≡ true }
 {}
 
 /// The decision that the machine computes is the decision of two-phase commit over the set of answers.
