@@ -1,17 +1,15 @@
 -- HONEST RUNS (ours): what is chosen from outside, and what the machine computes. Chosen are the other managers' lines, boxes
 -- and what their branches answer, what becomes of a change, and which errand is lost. All else follows.
-use Rattle.std.specs.Prelude.{ℕ, ◌==◌, ◌&&◌, nat_lt, Bool, true, false, List, [], ◌∷◌, length, Option, Some, None}
-use Rattle.std.specs.List.{list_all}
+use Rattle.std.specs.Prelude.{◌&&◌, nat_lt, Bool, true, false, List, [], ◌∷◌, Option, Some, None}
 use Rattle.tip_branch.specs.Notes.{PartyNotes}
 use Rattle.tip_branch.specs.declared.branch.Badge.{Badge}
 use Rattle.tip_rows.specs.Keys.{Place as Key}
 use Rattle.tip_rows.specs.Logs.{last_epoch}
-use Rattle.tip_rows.specs.declared.row.Row.{Row}
-use Rattle.tip_rows.specs.declared.row.Row.TheVariants as row
 use Rattle.tip_machine.specs.Types.{Event}
 use Rattle.tip_machine.specs.Moves.{Move, World, moved}
 use Rattle.tip_machine.specs.Returns.{Back, can_answer, event_of}
 use Rattle.tip_machine.specs.Served.{Serving}
+use Rattle.tip_machine.specs.Starting.{are_adopted}
 use Rattle.tip_machine.specs.Steps.{fits, wants_serving}
 use Rattle.tip_machine.specs.declared.event.Event.TheVariants.{Voted, Settled}
 use Rattle.tip_machine.specs.declared.event.Outcome.{Outcome}
@@ -22,15 +20,6 @@ abbrev pub brings_no_party : Event → Bool
 brings_no_party (Voted party) = false
 brings_no_party (Settled party) = false
 brings_no_party other = true
-
--- the local branches that a row names
-abbrev pub branches_in : Row → List (ℕ × List ℕ)
-branches_in (row.Prepared address superior branches subordinates) = branches
-branches_in (row.Committed branches subordinates) = branches
-
--- each row's branches get exactly their boxes
-abbrev pub are_adopted : (Key → List Badge) → List (Key × Row) → Bool
-are_adopted boxes rows = list_all (λ row. length (boxes row.0) == length (branches_in row.1)) rows
 
 -- the realm can start again
 abbrev pub can_start : (Key → List Badge) → World → Bool

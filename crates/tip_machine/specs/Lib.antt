@@ -21,6 +21,7 @@ pub mod Recovery
 pub mod Outputs
 pub mod Returns
 pub mod Moves
+pub mod Starting
 pub mod Honest
 pub mod Verdicts
 pub mod Traces

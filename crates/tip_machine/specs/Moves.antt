@@ -9,7 +9,7 @@ use Rattle.tip_rows.specs.declared.row.Row.{Row}
 use Rattle.tip_table.specs.Lists.{without}
 use Rattle.tip_machine.specs.Types.{Event, PartyPlace}
 use Rattle.tip_machine.specs.Outputs.{Output, drops_of, outputs}
-use Rattle.tip_machine.specs.Recovery.{restarted}
+use Rattle.tip_machine.specs.Recovery.{Loaded, restarted}
 use Rattle.tip_machine.specs.Returns.{Back, event_of}
 use Rattle.tip_machine.specs.Served.{Serving}
 use Rattle.tip_machine.specs.States.{State, started}
@@ -90,8 +90,12 @@ lost_from (party ∷ errands) world = record { shown = drops_of party; world = r
 abbrev pub risen : Head → Head
 risen head = record head { epoch = head.epoch + 1; given = 0; entries = 0 }
 
+-- rows with the boxes that were adopted for them
+abbrev pub loaded : (Key → List Badge) → List (Key × Row) → List Loaded
+loaded boxes rows = map (λ stored. record { key = stored.0; row = stored.1; boxes = boxes stored.0 }) rows
+
 abbrev pub restarted_from : (Key → List Badge) → World → State
-restarted_from boxes world = restarted (risen world.state.head) (map (λ row. record { key = row.0; row = row.1; boxes = boxes row.0 }) world.rows)
+restarted_from boxes world = restarted (risen world.state.head) (loaded boxes world.rows)
 
 abbrev pub drops_at : PartyPlace → List Output
 drops_at (Here party) = drops_of party

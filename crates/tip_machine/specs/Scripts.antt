@@ -17,11 +17,12 @@ use Rattle.tip_line.specs.declared.command.Command.{Command}
 use Rattle.tip_line.specs.declared.command.Command.TheVariants as command
 use Rattle.tip_line.specs.declared.response.Response.{Response}
 use Rattle.tip_rows.specs.Keys.{Place as Key, is_same}
+use Rattle.tip_rows.specs.Rows.{branches_of}
 use Rattle.tip_rows.specs.declared.row.Row.{Row}
 use Rattle.tip_machine.specs.Types.{Event}
 use Rattle.tip_machine.specs.Agreement.{IsAgreed}
 use Rattle.tip_machine.specs.Answers.{identifier}
-use Rattle.tip_machine.specs.Honest.{branches_in, is_run}
+use Rattle.tip_machine.specs.Honest.{is_run}
 use Rattle.tip_machine.specs.Invariants.{IsSound}
 use Rattle.tip_machine.specs.Moves.{Move, World, moved}
 use Rattle.tip_machine.specs.Outputs.{Output}
@@ -105,7 +106,7 @@ late_box mark = record { plan = plan.Late; mark = mark }
 -- one box of kind yes is adopted for each branch of a row
 abbrev pub adopted : List (Key × Row) → Key → List Badge
 adopted [] key = []
-adopted (row ∷ rows) key = if is_same key row.0 then take (length (branches_in row.1)) (yes 91 ∷ yes 92 ∷ yes 93 ∷ []) else adopted rows key
+adopted (row ∷ rows) key = if is_same key row.0 then take (length (branches_of row.1)) (yes 91 ∷ yes 92 ∷ yes 93 ∷ []) else adopted rows key
 
 -- the outcome of a change, where one is wanted
 abbrev pub of_change : Outcome → Option Change → Outcome

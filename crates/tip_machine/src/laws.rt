@@ -18,6 +18,7 @@ ghost use Rattle.tip_machine.specs.Requests.{push_part, resume};
 ghost use Rattle.tip_machine.specs.Responses.{pursue};
 ghost use Rattle.tip_machine.specs.Returns.{Back, back_of, can_answer, is_done};
 ghost use Rattle.tip_machine.specs.Served.{Serving, today};
+ghost use Rattle.tip_machine.specs.Starting.{IsStart, is_starting};
 ghost use Rattle.tip_machine.specs.States.{State, Work, identified_by, transaction_of};
 ghost use Rattle.tip_machine.specs.Steps.{step_serving, wants_serving, ChangesTheEntriesAlone, IsForgotten, IsNext, TouchesOne};
 ghost use Rattle.tip_machine.specs.Transactions.{decision};
@@ -95,6 +96,12 @@ pub fn an_aborted_transaction_is_as_one_that_never_was()
     ensures resume { (id : List ℕ) (work : Work) → IsForgotten id work.state → resume (identified_by id work.state) work ≡ resume None work }
     ensures dial_to_query { (id : List ℕ) (connection : Connection) (work : Work) → IsForgotten id work.state → pursue (purpose.Query id) connection work ≡ closed connection work }
     ensures dial_to_reconnect { (id : List ℕ) (place : ℕ) (connection : Connection) (work : Work) → IsForgotten id work.state → pursue (purpose.Reconnect id place) connection work ≡ closed connection work }
+{}
+
+/// A realm that has stored nothing starts, whatever it declares that it may.
+#[tactic(auto, using(crate::proofs::Begun::fresh_starts))]
+pub fn a_realm_without_rows_starts()
+    ensures { (head : Head) → is_starting head ≡ true → IsStart (fresh head) }
 {}
 
 /// The steps that are served today keep the invariants: they hold wherever a realm comes that had stored nothing.

@@ -1,0 +1,51 @@
+-- WHAT A RUN BEGINS WITH (ours): what the first start of a process makes of a realm's declaration and of its rows, in a store
+-- that only tipd wrote.
+use Rattle.std.specs.Prelude.{◌≡◌, ℕ, ◌+◌, ◌==◌, ◌&&◌, nat_lt, Bool, true, List, [], ◌∷◌, length}
+use Rattle.std.specs.List.{All, list_all}
+use Rattle.tip_branch.specs.declared.branch.Badge.{Badge}
+use Rattle.tip_line.specs.Words.{is_address, is_realm}
+use Rattle.tip_rows.specs.Branches.{are_branches}
+use Rattle.tip_rows.specs.Keys.{Place as Key, IsKey}
+use Rattle.tip_rows.specs.Labels.{is_label}
+use Rattle.tip_rows.specs.Logs.{is_rising, last_epoch}
+use Rattle.tip_rows.specs.Rows.{IsRow, branches_of}
+use Rattle.tip_rows.specs.declared.row.Row.{Row}
+use Rattle.tip_machine.specs.Heads.{are_allowed, is_within}
+use Rattle.tip_machine.specs.Moves.{World, loaded}
+use Rattle.tip_machine.specs.Recovery.{restarted}
+use Rattle.tip_machine.specs.declared.head.Head.{Head}
+
+-- branches are numbered from here on, one by one
+abbrev pub are_counted_from : ℕ → List (ℕ × List ℕ) → Bool
+are_counted_from number [] = true
+are_counted_from number (branch ∷ branches) = (branch.0 == number) && are_counted_from (number + 1) branches
+
+-- the branches that a realm may declare: one to eight, numbered from 1, each with a label of its own
+abbrev pub are_declared : List (ℕ × List ℕ) → Bool
+are_declared branches = is_within 1 8 (length branches) && are_counted_from 1 branches && are_branches branches && list_all (λ branch. is_label branch.1) branches
+
+-- a realm as it may be declared, at its start: in an epoch that it may have, with nothing counted
+abbrev pub is_starting : Head → Bool
+is_starting head =
+    is_realm head.name && is_address head.address && are_allowed head.limits && are_declared head.branches
+    && is_within 1 last_epoch head.epoch && (head.given == 0) && (head.entries == 0)
+
+-- rows as tipd writes them, of earlier epochs
+pub record AreRowsBefore (epoch : ℕ) (rows : List (Key × Row)) : Type 0 where
+  pub rising : is_rising rows ≡ true
+  pub keys : All (λ stored. IsKey stored.0) rows
+  pub earlier : list_all (λ stored. nat_lt stored.0.epoch epoch) rows ≡ true
+  pub whole : All (λ stored. IsRow stored.1) rows
+
+-- each row's branches get exactly their boxes
+abbrev pub are_adopted : (Key → List Badge) → List (Key × Row) → Bool
+are_adopted boxes rows = list_all (λ stored. length (boxes stored.0) == length (branches_of stored.1)) rows
+
+pub record IsStart (world : World) : Type 0 where
+  pub head : is_starting world.state.head ≡ true
+  pub rows : AreRowsBefore world.state.head.epoch world.rows
+  -- the boxes that were adopted for the rows' branches
+  pub boxes : Key → List Badge
+  pub adopted : are_adopted boxes world.rows ≡ true
+  pub state : world.state ≡ restarted world.state.head (loaded boxes world.rows)
+  pub errands : world.errands ≡ []
