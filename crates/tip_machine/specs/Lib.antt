@@ -31,4 +31,5 @@ pub mod Scripts
 pub mod Commits
 pub mod Failures
 pub mod Worked
+pub mod Twins
 pub mod Runs

@@ -1,8 +1,12 @@
 //! Worked examples of the machine: what short scripts show is what its definitions compute.
+ghost use Rattle.std.specs.Prelude.{◌≡◌, codes, false};
+ghost use Rattle.tip_machine.specs.Agreement.{is_asked, is_backed, is_kept, is_one};
 ghost use Rattle.tip_machine.specs.Commits.{late, a_no, labelled, push_and_prepare, one_part_says_no, two_parts, pulled, pushed, known_or_not_pulled, in_doubt_and_committed, out_of_turn};
 ghost use Rattle.tip_machine.specs.Failures.{part_lost, part_not_valid, not_valid, lost_vote, restarted_in_doubt, refused_removal, presumed_abort, part_reached_again, taken_over, resumed, frozen_and_renewed, stranger};
 ghost use Rattle.tip_machine.specs.Worked.{worked};
-ghost use Rattle.tip_machine.specs.Scripts.{Agrees, Each, IsHonestRun, Shows, StaysSound};
+ghost use Rattle.tip_machine.specs.Scripts.{Agrees, Each, IsHonestRun, Shows, StaysSound, id, trace_of};
+ghost use Rattle.tip_machine.specs.Traces.{at_each};
+ghost use Rattle.tip_machine.specs.Twins.{committed, denied, forged, never_asked, never_done, never_stored, told_both, unheard_at};
 
 /// Transactions that come to their outcome.
 #[tactic(auto, using(crate::proofs::Commits::shows_late, crate::proofs::Commits::shows_a_no, crate::proofs::Commits::shows_labelled, crate::proofs::Commits::shows_push_and_prepare, crate::proofs::Commits::shows_one_part_says_no, crate::proofs::Commits::shows_two_parts, crate::proofs::Commits::shows_pulled, crate::proofs::Commits::shows_pushed, crate::proofs::Commits::shows_known_or_not_pulled, crate::proofs::Commits::shows_in_doubt_and_committed, crate::proofs::Commits::shows_out_of_turn))]
@@ -67,6 +71,19 @@ pub fn invariants_hold()
 /// The first transaction of no example is half committed.
 pub fn nothing_is_half_committed()
     ensures { Each Agrees worked }
+{}
+
+/// Each sentence of agreement refuses the runs that it is there to refuse.
+pub fn false_twins_are_refused()
+    ensures one { is_one (codes "north") id (forged told_both (trace_of late)) ≡ false }
+    ensures backed { at_each (is_backed (codes "north") id late.world) (forged never_stored (trace_of late)) ≡ false }
+    ensures kept_to_branches { at_each (is_kept (codes "north") id late.world) (forged never_done (trace_of late)) ≡ false }
+    ensures kept_to_subordinates { at_each (is_kept (codes "north") id two_parts.world) (unheard_at 13 (trace_of two_parts)) ≡ false }
+    ensures kept_to_who_asks { at_each (is_kept (codes "north") id two_parts.world) (forged denied (trace_of two_parts)) ≡ false }
+    ensures asked_of_branches { at_each (is_asked (codes "north") id late.world) (forged never_asked (trace_of late)) ≡ false }
+    ensures asked_of_parts { at_each (is_asked (codes "north") id two_parts.world) (unheard_at 11 (trace_of two_parts)) ≡ false }
+    ensures asked_without_a_no { at_each (is_asked (codes "north") id one_part_says_no.world) (forged committed (trace_of one_part_says_no)) ≡ false }
+    ensures asked_without_a_loss { at_each (is_asked (codes "north") id part_lost.world) (forged committed (trace_of part_lost)) ≡ false }
 {}
 
 /// Each example is an honest run.
