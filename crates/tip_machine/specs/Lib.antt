@@ -23,6 +23,10 @@ pub mod Returns
 pub mod Moves
 pub mod Honest
 pub mod Verdicts
+pub mod Links
+pub mod Parties
+pub mod Phases
+pub mod Stored
 pub mod Invariants
 pub mod Scripts
 pub mod Commits
