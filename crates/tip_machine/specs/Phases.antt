@@ -2,7 +2,6 @@
 -- parts, and one for its local party. What is in no row of a table is never so.
 use Rattle.std.specs.Prelude.{ℕ, ◌+◌, ◌&&◌, ◌||◌, not, Bool, true, false, List, [], ◌∷◌, Option, Some, None, find, is_some}
 use Rattle.std.specs.List.{list_any}
-use Rattle.std.specs.Option.{option_map_or}
 use Rattle.std.specs.Str.{bytes_eq}
 use Rattle.tip_conn.specs.declared.state.State.TheVariants as state
 use Rattle.tip_branch.specs.declared.member.Errand.TheVariants as errand
@@ -23,49 +22,54 @@ use Rattle.tip_machine.specs.States.{State}
 use Rattle.tip_machine.specs.Transactions.{agrees, decision_of, is_spent}
 use Rattle.tip_machine.specs.declared.connection.Awaited.TheVariants as awaited
 use Rattle.tip_machine.specs.declared.transaction.Origin.{Origin}
-use Rattle.tip_machine.specs.declared.transaction.Origin.TheVariants.{Root, Subordinate}
+use Rattle.tip_machine.specs.declared.transaction.Origin.TheVariants as origin
 use Rattle.tip_machine.specs.declared.transaction.PartyPlace.TheVariants.{Here, Out, Spent}
 
 -- THE TABLE OF THE SUPERIOR: by the phase and by where the transaction comes from, what its superior's connection is
 abbrev pub is_superior : Phase → Origin → Link → Bool
-is_superior Active Root (Owes state.Begun None) = true
-is_superior Active (Subordinate address superior) (Awaits state.Idle (Some awaited.Pull)) = true
-is_superior Active (Subordinate address superior) (Owes state.Enlisted None) = true
-is_superior Asking Root (Owes state.Begun (Some command.Commit)) = true
-is_superior Asking (Subordinate (Some address) superior) (Owes state.Enlisted (Some command.Prepare)) = true
-is_superior Asking (Subordinate address superior) (Owes state.Enlisted (Some command.Commit)) = true
-is_superior Prepared (Subordinate (Some address) superior) (Owes state.Prepared None) = true
-is_superior Prepared (Subordinate (Some address) superior) Gone = true
-is_superior Committed origin Gone = true
-is_superior Aborted Root (Owes state.Begun None) = true
-is_superior Aborted (Subordinate address superior) (Awaits state.Idle (Some awaited.Pull)) = true
-is_superior Aborted (Subordinate address superior) (Owes state.Enlisted None) = true
-is_superior Aborted origin Gone = true
-is_superior phase origin link = false
+is_superior Active origin.Root (Owes state.Begun None) = true
+is_superior Active (origin.Subordinate address superior) (Awaits state.Idle (Some awaited.Pull)) = true
+is_superior Active (origin.Subordinate address superior) (Owes state.Enlisted None) = true
+is_superior Asking origin.Root (Owes state.Begun (Some command.Commit)) = true
+is_superior Asking (origin.Subordinate (Some address) superior) (Owes state.Enlisted (Some command.Prepare)) = true
+is_superior Asking (origin.Subordinate address superior) (Owes state.Enlisted (Some command.Commit)) = true
+is_superior Prepared (origin.Subordinate (Some address) superior) (Owes state.Prepared None) = true
+is_superior Prepared (origin.Subordinate (Some address) superior) Gone = true
+is_superior Committed from Gone = true
+is_superior Aborted origin.Root (Owes state.Begun None) = true
+is_superior Aborted (origin.Subordinate address superior) (Awaits state.Idle (Some awaited.Pull)) = true
+is_superior Aborted (origin.Subordinate address superior) (Owes state.Enlisted None) = true
+is_superior Aborted from Gone = true
+is_superior phase from link = false
 
--- THE TABLE OF A PART: by the phase and by what the part's connection is, its answer, and whether it has acknowledged
-abbrev pub is_part : Phase → Link → Option Answer → Bool → Bool
-is_part Active (Awaits state.Idle (Some awaited.Push)) None false = true
-is_part Active (Awaits state.Enlisted None) None false = true
-is_part Active Gone (Some ReadOnly) false = true
-is_part Asking (Awaits state.Idle (Some awaited.Push)) None false = true
-is_part Asking (Awaits state.Enlisted (Some awaited.Prepare)) None false = true
-is_part Asking (Awaits state.Prepared None) (Some Yes) false = true
-is_part Asking Gone (Some Yes) false = true
-is_part Asking Gone (Some ReadOnly) false = true
-is_part Prepared (Awaits state.Prepared None) (Some Yes) false = true
-is_part Prepared Gone (Some Yes) false = true
-is_part Prepared Gone (Some ReadOnly) false = true
-is_part Committed (Awaits state.Prepared (Some awaited.Commit)) (Some Yes) false = true
-is_part Committed (Awaits state.Idle (Some awaited.Reconnect)) (Some Yes) false = true
-is_part Committed Gone (Some Yes) acknowledged = true
-is_part Committed Gone (Some ReadOnly) false = true
-is_part Aborted (Awaits state.Idle (Some awaited.Push)) None false = true
-is_part Aborted (Awaits state.Enlisted (Some awaited.Prepare)) None false = true
-is_part Aborted (Awaits state.Enlisted (Some awaited.Abort)) None false = true
-is_part Aborted (Awaits state.Prepared (Some awaited.Abort)) (Some Yes) false = true
-is_part Aborted Gone answer false = true
-is_part phase link answer acknowledged = false
+-- THE TABLE OF A PART: by the phase and by what the part's connection is, its answer
+abbrev pub is_part : Phase → Link → Option Answer → Bool
+is_part Active (Awaits state.Idle (Some awaited.Push)) None = true
+is_part Active (Awaits state.Enlisted None) None = true
+is_part Active Gone (Some ReadOnly) = true
+is_part Asking (Awaits state.Idle (Some awaited.Push)) None = true
+is_part Asking (Awaits state.Enlisted (Some awaited.Prepare)) None = true
+is_part Asking (Awaits state.Prepared None) (Some Yes) = true
+is_part Asking Gone (Some Yes) = true
+is_part Asking Gone (Some ReadOnly) = true
+is_part Prepared (Awaits state.Prepared None) (Some Yes) = true
+is_part Prepared Gone (Some Yes) = true
+is_part Prepared Gone (Some ReadOnly) = true
+is_part Committed (Awaits state.Prepared (Some awaited.Commit)) (Some Yes) = true
+is_part Committed (Awaits state.Idle (Some awaited.Reconnect)) (Some Yes) = true
+is_part Committed Gone (Some Yes) = true
+is_part Committed Gone (Some ReadOnly) = true
+is_part Aborted (Awaits state.Idle (Some awaited.Push)) None = true
+is_part Aborted (Awaits state.Enlisted (Some awaited.Prepare)) None = true
+is_part Aborted (Awaits state.Enlisted (Some awaited.Abort)) None = true
+is_part Aborted (Awaits state.Prepared (Some awaited.Abort)) (Some Yes) = true
+is_part Aborted Gone answer = true
+is_part phase link answer = false
+
+-- who has acknowledged had said yes, its transaction is committed, and it has no connection any more
+abbrev pub may_have_acknowledged : Phase → Link → Option Answer → Bool
+may_have_acknowledged Committed Gone (Some Yes) = true
+may_have_acknowledged phase link answer = false
 
 -- THE TABLE OF THE LOCAL PARTY: by the phase and by where the party is, the answer of the local part
 abbrev pub is_party : Phase → PartyPlace → Option Answer → Bool
@@ -104,15 +108,10 @@ is_same_address None None = true
 is_same_address (Some this) (Some that) = bytes_eq this that
 is_same_address this that = false
 
--- a transaction of another manager comes from the address that this gave
-abbrev pub is_from : Option (List ℕ) → Origin → Bool
-is_from peer Root = true
-is_from peer (Subordinate address superior) = is_same_address address peer
-
--- until its promise, the superior of a transaction is where that comes from
-abbrev pub is_at_its_superior : Phase → Origin → Option Connection → Bool
-is_at_its_superior Active origin superior = option_map_or (λ connection. is_from connection.peer origin) superior false
-is_at_its_superior phase origin superior = true
+-- an active transaction comes from where its superior is: a promise is made only to one that can be reached again (section 13, PREPARE)
+abbrev pub has_its_address : Phase → Origin → Option Connection → Bool
+has_its_address Active (origin.Subordinate address superior) (Some connection) = is_same_address address connection.peer
+has_its_address phase from connection = true
 
 -- Parts
 
@@ -125,11 +124,14 @@ is_named (Awaits state.Idle (Some awaited.Push)) part = is_some part.address
 is_named Gone part = not (agrees part.answer) || has_pair part
 is_named link part = has_pair part
 
+abbrev pub is_part_in : Phase → Link → Participant → Bool
+is_part_in phase link part =
+    is_part phase link part.answer && (not part.acknowledged || may_have_acknowledged phase link part.answer) && is_named link part
+
 abbrev pub are_parts_from : ℕ → List Participant → State → Transaction → Bool
 are_parts_from place [] state transaction = true
 are_parts_from place (part ∷ parts) state transaction =
-    let reached = link (find (is_part_of transaction.key place) state.connections) in
-    is_part transaction.txn.phase reached part.answer part.acknowledged && is_named reached part && are_parts_from (place + 1) parts state transaction
+    is_part_in transaction.txn.phase (link (find (is_part_of transaction.key place) state.connections)) part && are_parts_from (place + 1) parts state transaction
 
 -- the local part is the first
 abbrev pub are_parts : List Participant → State → Transaction → Bool
@@ -149,7 +151,7 @@ is_transaction state transaction =
     let phase = transaction.txn.phase in
     let superior = superior_of transaction state in
     is_superior phase transaction.origin (link superior)
-    && is_at_its_superior phase transaction.origin superior
+    && has_its_address phase transaction.origin superior
     && is_its_own state transaction transaction.place
     && are_parts transaction.txn.parts state transaction
     && has_come_to phase (decision_of transaction)
