@@ -1,7 +1,7 @@
 -- Connections that are alone stay alone, as long as no transaction is served; no change of the rows is asked for, and no party
 -- goes out.
 use Rattle.std.proofs.Common.{◌≡◌, Bool, true, false, ℕ, List, [], ◌∷◌, ◌++◌, Option, Some, None, cond, refl, ap, sym, ◌∙◌, subst}
-use Rattle.std.specs.Prelude.{◌&&◌, ◌||◌, ◌==◌, nat_le, find, length, is_some, is_none}
+use Rattle.std.specs.Prelude.{◌&&◌, ◌==◌, nat_le, find, length}
 use Rattle.std.specs.Option.{option_and_then}
 use Rattle.std.proofs.lemmas.Option.{same_Some, none-some}
 use Rattle.tip_branch.specs.Notes.{PartyNotes}
@@ -24,10 +24,11 @@ use Rattle.tip_conn.specs.declared.state.Side.TheVariants.{Primary, Secondary}
 use Rattle.tip_conn.specs.declared.state.State.{State as ConnectionState}
 use Rattle.tip_conn.specs.declared.state.State.TheVariants.{Initial, Idle, Begun, Enlisted, Prepared, Error as AtEnd}
 use Rattle.tip_conn.specs.declared.state.Turn.{Turn}
+use Rattle.tip_conn.specs.declared.state.Turn.TheVariants.{Keep, Reverse, Original}
 use Rattle.tip_table.specs.Lists.{changed, without}
 use Rattle.tip_machine.specs.Types.{Connection, Event, Transaction}
 use Rattle.tip_machine.specs.Answers.{response_name}
-use Rattle.tip_machine.specs.Connections.{has_number, identified, is_free, is_secondary, may_take, moved, moved_to, role_in}
+use Rattle.tip_machine.specs.Connections.{first_side, has_number, identified, is_free, may_take, moved, moved_to, role_in, turned}
 use Rattle.tip_machine.specs.Transactions.{has_id}
 use Rattle.tip_machine.specs.States.{Attempt, State, Work, connection_of, has_place, identified_by, seated}
 use Rattle.tip_machine.specs.Changes.{change, refuse, reply, tell}
@@ -87,10 +88,15 @@ role_in_none Enlisted role is = is
 role_in_none Prepared role is = is
 role_in_none AtEnd role is = is
 
--- where a connection goes that stays off transactions
+keeps_side : Turn → Bool
+keeps_side Keep = true
+keeps_side Reverse = false
+keeps_side Original = true
+
+-- where a connection goes that stays off transactions: it is not turned round
 abbrev IsEarly : Option (ConnectionState × Turn) → Type 0
 IsEarly None = Unit {0}
-IsEarly (Some place) = is_early place.0 ≡ true
+IsEarly (Some place) = (is_early place.0 ≡ true) × (keeps_side place.1 ≡ true)
 
 -- a command that is answered so leads from an early state to an early one
 abbrev StaysEarly : CommandName → ResponseName → Type 0
@@ -104,18 +110,24 @@ next_early command response Enlisted early is = absurd (cc)
 next_early command response Prepared early is = absurd (cc)
 next_early command response AtEnd early is = absurd (cc)
 
+turned_secondary : (turn : Turn) (c : Connection) → keeps_side turn ≡ true → IsAlone c → turned turn c ≡ Secondary
+unfolding keeps_side
+turned_secondary Keep c keeps alone = alone.side
+turned_secondary Reverse c keeps alone = absurd (cc)
+turned_secondary Original c keeps alone = ap first_side alone.dialled
+
 moved_to_alone : (place : Option (ConnectionState × Turn)) (c : Connection) → IsEarly place → IsAlone c → IsAlone (moved_to place c)
 moved_to_alone None c early alone = alone
-moved_to_alone (Some place) c early alone = record { dialled = alone.dialled; early = early; owed = refl; awaited = refl; role = role_in_none place.0 c.role alone.role }
+moved_to_alone (Some place) c early alone = record { dialled = alone.dialled; side = turned_secondary place.1 c early.1 alone; early = early.0; owed = refl; awaited = refl; role = role_in_none place.0 c.role alone.role }
 
 moved_alone : (command : CommandName) (response : ResponseName) → StaysEarly command response → (c : Connection) → IsAlone c → IsAlone (moved command response c)
 moved_alone command response early c alone = moved_to_alone (next_of command c.state response) c (next_early command response c.state early alone.early) alone
 
 identified_alone : (peer : Option (List ℕ)) (c : Connection) → IsAlone c → IsAlone (identified peer c)
-unfolding next_of
+unfolding next_of keeps_side
 identified_alone peer c alone =
-    let went = moved_alone command.Identify response.Identified (refl, tt) c alone in
-    record { dialled = went.dialled; early = went.early; owed = went.owed; awaited = went.awaited; role = went.role }
+    let went = moved_alone command.Identify response.Identified ((refl, refl), tt) c alone in
+    record { dialled = went.dialled; side = went.side; early = went.early; owed = went.owed; awaited = went.awaited; role = went.role }
 
 -- its failure touches no transaction
 missed_none : (role : Option Role) (w : Work) → role ≡ None → missed role w ≡ w
@@ -169,21 +181,21 @@ unfolding identify
 identify_plain lowest highest peer c w alone plain = either IsPlain (nat_le lowest 3 && nat_le 3 highest) _ (wrong c w) (record { alone = changed_alone (has_number c.number) (identified peer) w.state.connections (identified_alone peer) plain.alone; none = plain.none; work = plain.work }) (wrong_plain c w alone plain)
 
 queried_early : (exists : Bool) → StaysEarly command.Query (response_name (cond exists said.QueriedExists said.QueriedNotFound))
-unfolding next_of
-queried_early true = (tt, refl)
-queried_early false = (tt, refl)
+unfolding next_of keeps_side
+queried_early true = (tt, (refl, refl))
+queried_early false = (tt, (refl, refl))
 
 query_plain : (superior : List ℕ) (c : Connection) (w : Work) → IsPlain w → IsPlain (query superior c w)
 unfolding query
 query_plain superior c w plain = reply_plain c.number _ _ w (queried_early _) plain
 
 multiplex_early : StaysEarly command.Multiplex (response_name said.CantMultiplex)
-unfolding next_of
-multiplex_early = (tt, refl)
+unfolding next_of keeps_side
+multiplex_early = (tt, (refl, refl))
 
 tls_early : StaysEarly command.Tls (response_name said.CantTls)
-unfolding next_of
-tls_early = (refl, tt)
+unfolding next_of keeps_side
+tls_early = ((refl, refl), tt)
 
 serve_plain : (command : Command) (c : Connection) (w : Work) → is_served (name_of command) ≡ true → IsAlone c → IsPlain w → IsPlainAttempt (serve command c w)
 serve_plain (Identify lowest highest peer secondary) c w so alone plain = identify_plain lowest highest peer c w alone plain
@@ -240,16 +252,6 @@ unfolding line EachAlone
 line_plain None heard w alone plain = record { alone = plain.alone; none = plain.none; work = plain.work }
 line_plain (Some c) heard w alone plain = either_attempt (may_take c) (hear today c.side heard c w) _ (hear_plain c.side heard c w alone plain) (record { alone = plain.alone; none = plain.none; work = plain.work })
 
--- where a line is taken, we are the secondary
-takes_secondary : (side : Side) (owed awaited : Bool) → (owed && (is_secondary side || awaited)) ≡ true → awaited ≡ false → side ≡ Secondary
-takes_secondary Primary owed true may is = absurd (cc)
-takes_secondary Primary true false may is = absurd (cc)
-takes_secondary Primary false false may is = absurd (cc)
-takes_secondary Secondary owed awaited may is = refl
-
-pub secondary : (c : Connection) → IsAlone c → may_take c ≡ true → c.side ≡ Secondary
-secondary c alone may = takes_secondary c.side (is_none c.owed) (is_some c.awaited) may (ap is_some alone.awaited)
-
 which_attempt : (b : Bool) (this that : Attempt) → b ≡ true → cond b this that ≡ this
 which_attempt true this that is = refl
 which_attempt false this that is = absurd (cc)
@@ -259,7 +261,7 @@ unfolding line
 line_is None c heard w is alone may = absurd (none-some c is)
 line_is (Some d) c heard w is alone may =
     ap (λ e. cond (may_take e) (hear today e.side heard e w) (Attempt.Done (refuse Busy w))) (same_Some d c is)
-    ∙ (which_attempt (may_take c) (hear today c.side heard c w) _ may ∙ ap (λ side. hear today side heard c w) (secondary c alone may))
+    ∙ (which_attempt (may_take c) (hear today c.side heard c w) _ may ∙ ap (λ side. hear today side heard c w) alone.side)
 
 lost_plain : (found : Option Connection) (w : Work) → EachAlone found → IsPlain w → IsPlain (lost found w)
 unfolding lost EachAlone
@@ -289,7 +291,7 @@ ask_pull_plain (Some c) id w alone plain = subst IsPlain (sym (ask_pull_is c id 
 
 opened_plain : (boxes : List Badge) (w : Work) → IsPlain w → IsPlain (opened boxes w)
 unfolding opened added
-opened_plain boxes w plain = either IsPlain (has_place (length boxes) w.state) _ _ (record { alone = pushed_alone w.state.connections _ (record { dialled = refl; early = refl; owed = refl; awaited = refl; role = refl }) plain.alone; none = plain.none; work = plain.work }) (record { alone = plain.alone; none = plain.none; work = plain.work })
+opened_plain boxes w plain = either IsPlain (has_place (length boxes) w.state) _ _ (record { alone = pushed_alone w.state.connections _ (record { dialled = refl; side = refl; early = refl; owed = refl; awaited = refl; role = refl }) plain.alone; none = plain.none; work = plain.work }) (record { alone = plain.alone; none = plain.none; work = plain.work })
 
 -- no transaction is found where there is none
 pub unknown : (id : List ℕ) (state : State) → state.transactions ≡ [] → identified_by id state ≡ None

@@ -13,7 +13,11 @@ use Rattle.tip_machine.specs.Commands.{make, identify, begin, push, pull, query,
 use Rattle.tip_machine.specs.Requests.{added, opened, dial, lost, line, ask_push, ask_pull, resume, voted, settled}
 use Rattle.tip_machine.specs.Order.{ordered}
 use Rattle.tip_machine.specs.Given.{are_numbered}
-use Rattle.tip_machine.specs.Invariants.{IsSound, are_keyed, are_known_once, are_out, are_stored, have_promised, have_roles, is_connected, is_transaction}
+use Rattle.tip_machine.specs.Invariants.{IsSound, are_keyed, are_known_once}
+use Rattle.tip_machine.specs.Links.{have_roles, is_connected}
+use Rattle.tip_machine.specs.Parties.{are_out}
+use Rattle.tip_machine.specs.Phases.{is_transaction}
+use Rattle.tip_machine.specs.Stored.{are_stored}
 use Rattle.tip_machine.specs.Moves.{World, moved, stepped}
 use Rattle.tip_machine.specs.Scripts.{Line, Reaches, StaysSound, move_of}
 use Rattle.tip_machine.specs.Served.{everything}
@@ -24,7 +28,7 @@ use Rattle.tip_machine.specs.Failures.{part_lost, part_not_valid, not_valid, los
 is_sound : World → Bool
 is_sound world =
     are_numbered world.state && (are_keyed world.state && (have_roles world.state && (list_all is_connected world.state.connections && (list_all (is_transaction world.state) world.state.transactions
-    && (list_all have_promised world.state.transactions && (are_out world.state world.errands && (are_known_once world.state && are_stored world.state world.rows)))))))
+    && (are_out world.state world.errands && (are_known_once world.state && are_stored world.state world.rows))))))
 
 sound : (world : World) → is_sound world ≡ true → IsSound world
 unfolding is_sound
@@ -36,8 +40,7 @@ sound world is =
     let e = and_parts _ _ d.1 in
     let f = and_parts _ _ e.1 in
     let g = and_parts _ _ f.1 in
-    let h = and_parts _ _ g.1 in
-    record { numbered = a.0; keyed = b.0; roles = c.0; connections = d.0; transactions = e.0; promised = f.0; out = g.0; known_once = h.0; stored = h.1 }
+    record { numbered = a.0; keyed = b.0; roles = c.0; connections = d.0; transactions = e.0; out = f.0; known_once = g.0; stored = g.1 }
 
 stays_sound : World → List Line → Bool
 stays_sound world [] = is_sound world

@@ -1,6 +1,6 @@
 -- What is served today keeps the invariants: no transaction is made, no row is stored, and no party goes out.
 use Rattle.std.proofs.Common.{◌≡◌, true, List, [], ◌∷◌, ◌++◌, Option, Some, None, refl, ap, ◌∙◌}
-use Rattle.std.specs.Prelude.{filter_map, is_none}
+use Rattle.std.specs.Prelude.{◌||◌, Bool, false, filter_map, is_none, is_some, not}
 use Rattle.std.specs.List.{list_all}
 use Rattle.std.specs.Option.{option_to_list}
 use Rattle.std.proofs.lemmas.Bool.{and_from}
@@ -10,16 +10,19 @@ use Rattle.tip_conn.specs.declared.state.Side.{Side}
 use Rattle.tip_conn.specs.declared.state.Side.TheVariants.{Primary, Secondary}
 use Rattle.tip_conn.specs.declared.state.State.{State as ConnectionState}
 use Rattle.tip_conn.specs.declared.state.State.TheVariants.{Initial, Idle, Begun, Enlisted, Prepared, Error}
+use Rattle.tip_line.specs.declared.command.CommandName.{CommandName}
 use Rattle.tip_rows.specs.Keys.{Place as Key}
 use Rattle.tip_rows.specs.declared.row.Row.{Row}
 use Rattle.tip_machine.specs.Types.{Connection, Event}
 use Rattle.tip_machine.specs.Alone.{AreAlone, IsAlone, is_early}
+use Rattle.tip_machine.specs.Connections.{first_side}
 use Rattle.tip_machine.specs.Given.{are_numbered}
-use Rattle.tip_machine.specs.Invariants.{IsSound, has_its_role, is_connected, is_in_turn, is_on_side}
+use Rattle.tip_machine.specs.Invariants.{IsSound}
+use Rattle.tip_machine.specs.Links.{is_connected, acts_as, is_on_none, is_same_side, link_on}
+use Rattle.tip_machine.specs.Links.Link.{Owes}
 use Rattle.tip_machine.specs.Returns.{Back}
 use Rattle.tip_machine.specs.Moves.{Move, World, fresh, gone_for, led_to, lost_from, moved, renewed, restarted_from, rows_after, stepped}
 use Rattle.tip_machine.specs.Served.{today}
-use Rattle.tip_machine.specs.declared.connection.Awaited.{Awaited}
 use Rattle.tip_machine.specs.declared.event.Change.{Change}
 use Rattle.tip_machine.specs.declared.event.Outcome.{Outcome}
 use Rattle.tip_machine.specs.declared.event.Outcome.TheVariants.{NoChange, Stored, Refused}
@@ -92,26 +95,37 @@ no_roles : (cs : List Connection) → AreAlone cs → filter_map (λ connection.
 no_roles [] alone = refl
 no_roles (c ∷ cs) alone = rw alone.0.role (no_roles cs alone.1)
 
-in_turn : (side : Side) (c : Connection) → c.owed ≡ None → c.awaited ≡ None → is_in_turn side c ≡ true
+in_turn : (side : Side) (c : Connection) → c.owed ≡ None → c.awaited ≡ None → acts_as side c ≡ true
 in_turn Secondary c none nothing = ap is_none nothing
 in_turn Primary c none nothing = ap is_none none
 
-on_side : (side : Side) (awaited : Option Awaited) → is_on_side side awaited None ≡ true
-on_side Secondary awaited = refl
-on_side Primary awaited = refl
+on_its_side : (early : Bool) (side : Side) (dialled : Bool) → side ≡ Secondary → dialled ≡ false → (not early || is_same_side side (first_side dialled)) ≡ true
+on_its_side early Primary dialled is none = absurd (cc)
+on_its_side early Secondary true is none = absurd (cc)
+on_its_side true Secondary false is none = refl
+on_its_side false Secondary false is none = refl
 
-has_none : (state : ConnectionState) (awaited : Option Awaited) → is_early state ≡ true → has_its_role state awaited None ≡ true
-has_none Initial awaited early = refl
-has_none Idle awaited early = refl
-has_none Begun awaited early = absurd (cc)
-has_none Enlisted awaited early = absurd (cc)
-has_none Prepared awaited early = absurd (cc)
-has_none Error awaited early = absurd (cc)
+owes_none : (state : ConnectionState) (owed : Option CommandName) → is_early state ≡ true → owed ≡ None → is_on_none (Owes state owed) ≡ true
+owes_none state (Some command) early none = absurd (cc)
+owes_none Initial None early none = refl
+owes_none Idle None early none = refl
+owes_none Begun None early none = absurd (cc)
+owes_none Enlisted None early none = absurd (cc)
+owes_none Prepared None early none = absurd (cc)
+owes_none Error None early none = absurd (cc)
+
+none_on : (side : Side) (c : Connection) → side ≡ Secondary → IsAlone c → is_on_none (link_on side c) ≡ true
+none_on Secondary c is alone = owes_none c.state c.owed alone.early alone.owed
+none_on Primary c is alone = absurd (cc)
+
+is_either : (this that : Bool) → that ≡ true → (this || that) ≡ true
+is_either true that is = refl
+is_either false that is = is
 
 connected : (c : Connection) → IsAlone c → is_connected c ≡ true
 connected c alone =
-    and_from _ _ (and_from _ _ (in_turn c.side c alone.owed alone.awaited) (ap (is_on_side c.side c.awaited) alone.role ∙ on_side c.side c.awaited))
-    (ap (has_its_role c.state c.awaited) alone.role ∙ has_none c.state c.awaited alone.early)
+    and_from _ _ (and_from _ _ (in_turn c.side c alone.owed alone.awaited) (on_its_side (is_early c.state) c.side c.dialled alone.side alone.dialled))
+    (is_either (is_some c.role) _ (none_on c.side c alone.side alone))
 
 all_connected : (cs : List Connection) → AreAlone cs → list_all is_connected cs ≡ true
 all_connected [] alone = refl
@@ -124,7 +138,6 @@ quiet_sound world quiet = record {
   roles = rw (no_roles world.state.connections quiet.alone) refl;
   connections = all_connected world.state.connections quiet.alone;
   transactions = rw quiet.transactions refl;
-  promised = rw quiet.transactions refl;
   out = rw quiet.errands refl;
   known_once = rw quiet.transactions refl;
   stored = rw (quiet.transactions, quiet.rows) refl;

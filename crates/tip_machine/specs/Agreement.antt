@@ -42,9 +42,9 @@ use Rattle.tip_machine.specs.declared.event.Outcome.TheVariants.{Stored}
 
 -- Words
 
-abbrev pub is_committed : Row → Bool
-is_committed (row.Prepared address superior branches subordinates) = false
-is_committed (row.Committed branches subordinates) = true
+abbrev pub is_committed_row : Row → Bool
+is_committed_row (row.Prepared address superior branches subordinates) = false
+is_committed_row (row.Committed branches subordinates) = true
 
 abbrev pub is_willing : Answer → Bool
 is_willing answer.Yes = true
@@ -91,7 +91,7 @@ module _ (realm : List ℕ) (id : List ℕ) where
   row_in rows = option_map (λ stored. stored.1) (find (λ stored. spells stored.0) rows)
 
   abbrev pub stores_commit : Output → Bool
-  stores_commit (Output.Changed (Put key row) Stored) = spells key && is_committed row
+  stores_commit (Output.Changed (Put key row) Stored) = spells key && is_committed_row row
   stores_commit other = false
 
   abbrev pub removes : Output → Bool
@@ -100,7 +100,7 @@ module _ (realm : List ℕ) (id : List ℕ) where
 
   -- its committed row was stored, or stood at the start
   abbrev pub was_committed : World → List Output → Bool
-  was_committed start shown = option_map_or is_committed (row_in start.rows) false || list_any stores_commit shown
+  was_committed start shown = option_map_or is_committed_row (row_in start.rows) false || list_any stores_commit shown
 
   -- Its branches
 
@@ -129,17 +129,17 @@ module _ (realm : List ℕ) (id : List ℕ) where
   abbrev pub heard_from : ℕ → Moment → Option Came
   heard_from part moment = option_and_then (λ came. if option_map_or (λ other. part == other) (part_of came.connection.role) false then Some came else None) (heard_in moment)
 
-  abbrev pub answers_of : ℕ → List Moment → List Answer
-  answers_of part moments = filter_map (λ moment. option_and_then (λ came. answer_by came.connection.awaited came.response) (heard_from part moment)) moments
+  abbrev pub answers_from : ℕ → List Moment → List Answer
+  answers_from part moments = filter_map (λ moment. option_and_then (λ came. answer_by came.connection.awaited came.response) (heard_from part moment)) moments
 
   -- the connection of a part is gone before the part has answered
   abbrev pub is_lost : ℕ → List Moment → Moment → Bool
-  is_lost part before moment = has_part part moment.world && not (has_part part moment.after) && is_nil (answers_of part (before ++ moment ∷ []))
+  is_lost part before moment = has_part part moment.world && not (has_part part moment.after) && is_nil (answers_from part (before ++ moment ∷ []))
 
   -- a part has answered, yes or read-only alone, and was not lost
   abbrev pub was_willing : List Moment → ℕ → Bool
   was_willing moments part =
-      not (is_nil (answers_of part moments)) && list_all is_willing (answers_of part moments)
+      not (is_nil (answers_from part moments)) && list_all is_willing (answers_from part moments)
       && at_each (λ before moment. not (is_lost part before moment)) moments
 
   -- the start in which it was made
@@ -174,9 +174,9 @@ module _ (realm : List ℕ) (id : List ℕ) where
   -- KEPT: a committed row is removed only where, in that start, each subordinate in it has acknowledged and each branch in it has
   -- answered `commit` with Done; and what was committed is answered QUERIEDNOTFOUND only where its row is gone
 
-  abbrev pub is_over : List Moment → Row → Bool
-  is_over moments (row.Prepared address superior branches subordinates) = true
-  is_over moments (row.Committed branches subordinates) = list_all (was_called is_done_commit moments) branches && list_all (λ s. list_any (has_acknowledged s) moments) subordinates
+  abbrev pub all_have_done : List Moment → Row → Bool
+  all_have_done moments (row.Prepared address superior branches subordinates) = true
+  all_have_done moments (row.Committed branches subordinates) = list_all (was_called is_done_commit moments) branches && list_all (λ s. list_any (has_acknowledged s) moments) subordinates
 
   -- the moments of the last one's start
   abbrev pub of_this_start : List Moment → Moment → List Moment
@@ -196,7 +196,7 @@ module _ (realm : List ℕ) (id : List ℕ) where
 
   abbrev pub is_kept : World → List Moment → Moment → Bool
   is_kept start before moment =
-      (not (list_any removes moment.shown) || option_map_or (is_over (of_this_start before moment)) (row_in moment.world.rows) true)
+      (not (list_any removes moment.shown) || option_map_or (all_have_done (of_this_start before moment)) (row_in moment.world.rows) true)
       && (not (is_denied moment) || not (was_committed start (shown_in before)) || is_none (row_in moment.world.rows))
 
   -- ASKED: of a transaction made in the run a commit is told only where each branch had voted yes or read-only, and each part had

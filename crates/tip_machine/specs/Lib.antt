@@ -26,6 +26,10 @@ pub mod Honest
 pub mod Verdicts
 pub mod Traces
 pub mod Agreement
+pub mod Links
+pub mod Parties
+pub mod Phases
+pub mod Stored
 pub mod Invariants
 pub mod Scripts
 pub mod Commits
