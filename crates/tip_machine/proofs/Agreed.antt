@@ -13,10 +13,11 @@ use Rattle.tip_machine.specs.Failing.{gone, fail, closed, wrong}
 use Rattle.tip_machine.specs.Commands.{make, identify, begin, push, pull, query, reconnect, commanded}
 use Rattle.tip_machine.specs.Requests.{added, opened, dial, lost, line, ask_push, ask_pull, resume, voted, settled}
 use Rattle.tip_machine.specs.Order.{ordered}
-use Rattle.tip_machine.specs.Moves.{World, stepped}
+use Rattle.tip_machine.specs.Moves.{World, fresh, stepped}
 use Rattle.tip_machine.specs.Scripts.{Agrees, Each, Example, id, trace_of}
 use Rattle.tip_machine.specs.Traces.{Moment, at_each}
 use Rattle.tip_machine.specs.Worked.{worked}
+use Rattle.tip_machine.proofs.Each.{each}
 
 -- the four sentences as one test
 is_agreed : List ℕ → World → List Moment → Bool
@@ -30,16 +31,12 @@ agrees start moments is =
     let c = and_parts _ _ b.1 in
     record { one = a.0; backed = b.0; kept = c.0; asked = c.1 }
 
-each : (test : Example → Bool) (P : Example → Type 0) → ((example : Example) → test example ≡ true → P example) → (examples : List Example) → list_all test examples ≡ true → Each P examples
-each test P holds [] all = tt
-each test P holds (example ∷ examples) all = let both = and_parts (test example) (list_all test examples) all in (holds example both.0, each test P holds examples both.1)
-
 agrees_on : Example → Bool
-agrees_on example = is_agreed example.world.state.head.name example.world (trace_of example)
+agrees_on example = is_agreed example.head.name (fresh example.head) (trace_of example)
 
 agrees_so : (example : Example) → agrees_on example ≡ true → Agrees example
 unfolding agrees_on
-agrees_so example is = agrees example.world (trace_of example) is
+agrees_so example is = agrees (fresh example.head) (trace_of example) is
 
 pub agreed : Each Agrees worked
 unfolding is_agreed agrees_on reply send react dispatch release abort commit promise leave finish settle ask gone fail closed wrong make identify begin push pull query reconnect commanded added opened dial lost line ask_push ask_pull resume voted settled ordered stepped is_valid next_of digits

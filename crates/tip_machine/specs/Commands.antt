@@ -116,32 +116,32 @@ reconnect_to (Some transaction) number work =
 unfoldable pub reconnect : List ℕ → Connection → Work → Work
 reconnect subordinate connection work = reconnect_to (identified_by subordinate work.state) connection.number work
 
--- Commands of a superior, by the phase of its transaction. Where it is asking or committed, no superior can ask
+-- Commands of a superior, by the phase of its transaction. In other phases it can't ask: the table of the superior's connection
+-- (`is_superior`) has no such row
+
+abbrev pub never_asked : Work → Attempt
+never_asked work = Attempt.Done work
 
 -- PREPARE: one that nobody could reach again after a failure is not promised to (section 13)
 abbrev pub prepare : Phase → Option (List ℕ) → Connection → Transaction → Work → Attempt
 prepare phase.Active (Some address) connection transaction work = ask transaction work
 prepare phase.Active None connection transaction work = Attempt.Done (abort transaction.key work)
-prepare phase.Asking peer connection transaction work = Attempt.Done work
-prepare phase.Prepared peer connection transaction work = Attempt.Done work
-prepare phase.Committed peer connection transaction work = Attempt.Done work
 prepare phase.Aborted peer connection transaction work = Attempt.Done (abort transaction.key work)
+prepare other peer connection transaction work = never_asked work
 
 -- COMMIT: asks, or ends the doubt; where the store refuses, we stay in doubt and hang up (section 13)
 abbrev pub decide_commit : Phase → Connection → Transaction → Work → Attempt
 decide_commit phase.Active connection transaction work = ask transaction work
-decide_commit phase.Asking connection transaction work = Attempt.Done work
 decide_commit phase.Prepared connection transaction work = Attempt.Asks (Put transaction.key (row_committed transaction)) (commit transaction.key work) (closed connection work)
-decide_commit phase.Committed connection transaction work = Attempt.Done work
 decide_commit phase.Aborted connection transaction work = Attempt.Done (abort transaction.key work)
+decide_commit other connection transaction work = never_asked work
 
 -- ABORT: aborts; in doubt, not before the row is gone (section 13)
 abbrev pub decide_abort : Phase → Connection → Transaction → Work → Attempt
 decide_abort phase.Active connection transaction work = Attempt.Done (abort transaction.key work)
-decide_abort phase.Asking connection transaction work = Attempt.Done work
 decide_abort phase.Prepared connection transaction work = Attempt.Asks (Remove transaction.key) (abort transaction.key work) (closed connection work)
-decide_abort phase.Committed connection transaction work = Attempt.Done work
 decide_abort phase.Aborted connection transaction work = Attempt.Done (abort transaction.key work)
+decide_abort other connection transaction work = never_asked work
 
 -- the transaction whose superior is on the connection
 abbrev pub superior_role : Option Role → Option Key

@@ -17,7 +17,7 @@ use Rattle.tip_machine.specs.declared.connection.Purpose.TheVariants as purpose
 -- a branch is late: it asks to be told again, and the realm is resumed (section 13, COMMIT)
 abbrev pub late : Example
 late = record {
-  world = north;
+  head = north;
   lines =
       connects (at 1 1) None (late_box 11 ∷ []) ++ (
       hears (at 1 1) command.Begin ∷
@@ -43,7 +43,7 @@ late = record {
 -- the second branch says no: the first is aborted, the third was never asked
 abbrev pub a_no : Example
 a_no = record {
-  world = north_with (record { connections = 8; transactions = 8; boxes = 9; entries = 100 }) ((1, codes "b1") ∷ (2, codes "b2") ∷ (3, codes "b3") ∷ []);
+  head = north_with (record { connections = 8; transactions = 8; boxes = 9; entries = 100 }) ((1, codes "b1") ∷ (2, codes "b2") ∷ (3, codes "b3") ∷ []);
   lines =
       connects (at 1 1) None (yes 11 ∷ no 12 ∷ yes 13 ∷ []) ++ (
       hears (at 1 1) command.Begin ∷
@@ -65,7 +65,7 @@ a_no = record {
 -- a row names the branches by the labels of the realm
 abbrev pub labelled : Example
 labelled = record {
-  world = north_with (record { connections = 8; transactions = 8; boxes = 8; entries = 100 }) ((1, codes "ledger") ∷ (2, codes "queue") ∷ []);
+  head = north_with (record { connections = 8; transactions = 8; boxes = 8; entries = 100 }) ((1, codes "ledger") ∷ (2, codes "queue") ∷ []);
   lines =
       connects (at 1 1) None (yes 11 ∷ yes 12 ∷ []) ++ (
       hears (at 1 1) command.Begin ∷
@@ -85,7 +85,7 @@ labelled = record {
 -- PREPARE aborts where the superior could not be reached again; a part without changes is read-only
 abbrev pub push_and_prepare : Example
 push_and_prepare = record {
-  world = north;
+  head = north;
   lines =
       connects (at 1 1) None (yes 11 ∷ []) ++ (
       hears (at 1 1) (command.Push (codes "s1")) ∷
@@ -109,7 +109,7 @@ push_and_prepare = record {
 -- one of two parts says no while our own party is out
 abbrev pub one_part_says_no : Example
 one_part_says_no = record {
-  world = north;
+  head = north;
   lines =
       connects (at 1 1) None (yes 11 ∷ []) ++ (
       hears (at 1 1) command.Begin ∷
@@ -143,7 +143,7 @@ one_part_says_no = record {
 -- a transaction with two remote parts is forgotten once both have acknowledged
 abbrev pub two_parts : Example
 two_parts = record {
-  world = north;
+  head = north;
   lines =
       connects (at 1 1) None (read_only 11 ∷ []) ++ (
       hears (at 1 1) command.Begin ∷
@@ -182,7 +182,7 @@ two_parts = record {
 -- a transaction of another manager is pulled here
 abbrev pub pulled : Example
 pulled = record {
-  world = north;
+  head = north;
   lines =
       dials (codes "m.x") purpose.Plain (yes 11 ∷ []) ∷
       hears_back (at 1 1) (response.Identified 3) ∷
@@ -209,7 +209,7 @@ pulled = record {
 -- our transaction is pushed to another manager, which has nothing to commit
 abbrev pub pushed : Example
 pushed = record {
-  world = north;
+  head = north;
   lines =
       connects (at 1 1) None (yes 11 ∷ []) ++ (
       hears (at 1 1) command.Begin ∷
@@ -240,7 +240,7 @@ pushed = record {
 -- a transaction that is here already is not pulled again
 abbrev pub known_or_not_pulled : Example
 known_or_not_pulled = record {
-  world = north;
+  head = north;
   lines =
       connects (at 1 1) (Some (codes "m.x")) (yes 11 ∷ []) ++ (
       hears (at 1 1) (command.Push (codes "m5")) ∷
@@ -262,7 +262,7 @@ known_or_not_pulled = record {
 -- we are a superior and a subordinate at once
 abbrev pub in_doubt_and_committed : Example
 in_doubt_and_committed = record {
-  world = north;
+  head = north;
   lines =
       connects (at 1 1) (Some (codes "a.x")) (yes 11 ∷ []) ++ (
       hears (at 1 1) (command.Push (codes "s1")) ∷
@@ -295,7 +295,7 @@ in_doubt_and_committed = record {
 -- a line that comes before its turn is refused, Busy, and taken when it comes again (section 12)
 abbrev pub out_of_turn : Example
 out_of_turn = record {
-  world = north;
+  head = north;
   lines =
       connects (at 1 1) None (read_only 11 ∷ []) ++ (
       hears (at 1 1) command.Begin ∷

@@ -19,7 +19,7 @@ use Rattle.tip_machine.specs.declared.event.Heard.TheVariants as heard
 -- one of two parts is lost before it answers: the other is told as soon as it has answered
 abbrev pub part_lost : Example
 part_lost = record {
-  world = north;
+  head = north;
   lines =
       connects (at 1 1) None (yes 11 ∷ []) ++ (
       hears (at 1 1) command.Begin ∷
@@ -53,7 +53,7 @@ part_lost = record {
 -- a part says what is no line: the superior is answered before the part is closed
 abbrev pub part_not_valid : Example
 part_not_valid = record {
-  world = north;
+  head = north;
   lines =
       connects (at 1 1) None (yes 11 ∷ []) ++ (
       hears (at 1 1) command.Begin ∷
@@ -76,7 +76,7 @@ part_not_valid = record {
 -- a line that is not valid: ERROR, and a closing
 abbrev pub not_valid : Example
 not_valid = record {
-  world = north;
+  head = north;
   lines =
       connects (at 1 1) None (yes 11 ∷ []) ++ (
       hears (at 1 1) command.Begin ∷
@@ -101,7 +101,7 @@ not_valid = record {
 -- a party that was asked for its vote does not come back
 abbrev pub lost_vote : Example
 lost_vote = record {
-  world = north;
+  head = north;
   lines =
       connects (at 1 1) None (yes 11 ∷ []) ++ (
       hears (at 1 1) command.Begin ∷
@@ -118,7 +118,7 @@ lost_vote = record {
 -- a transaction in doubt is reached again after a restart, and aborted
 abbrev pub restarted_in_doubt : Example
 restarted_in_doubt = record {
-  world = north;
+  head = north;
   lines =
       connects (at 1 1) (Some (codes "a.x")) (yes 11 ∷ []) ++ (
       hears (at 1 1) (command.Push (codes "s1")) ∷
@@ -151,7 +151,7 @@ restarted_in_doubt = record {
 -- the store refuses to remove a row: nobody is told, and after a restart the superior may still commit
 abbrev pub refused_removal : Example
 refused_removal = record {
-  world = north;
+  head = north;
   lines =
       connects (at 1 1) (Some (codes "a.x")) (yes 11 ∷ []) ++ (
       hears (at 1 1) (command.Push (codes "s1")) ∷
@@ -184,7 +184,7 @@ refused_removal = record {
 -- the superior of a transaction in doubt has forgotten it
 abbrev pub presumed_abort : Example
 presumed_abort = record {
-  world = north;
+  head = north;
   lines =
       connects (at 1 1) (Some (codes "a.x")) (yes 11 ∷ []) ++ (
       hears (at 1 1) (command.Push (codes "s1")) ∷
@@ -213,7 +213,7 @@ presumed_abort = record {
 -- a part is lost after it voted: the outcome is brought to it by RECONNECT
 abbrev pub part_reached_again : Example
 part_reached_again = record {
-  world = north;
+  head = north;
   lines =
       connects (at 1 1) None (read_only 11 ∷ []) ++ (
       hears (at 1 1) command.Begin ∷
@@ -252,7 +252,7 @@ part_reached_again = record {
 -- a superior reconnects while its earlier connection is still there
 abbrev pub taken_over : Example
 taken_over = record {
-  world = north;
+  head = north;
   lines =
       connects (at 1 1) (Some (codes "a.x")) (yes 11 ∷ []) ++ (
       hears (at 1 1) (command.Push (codes "s1")) ∷
@@ -282,7 +282,7 @@ taken_over = record {
 -- the store refuses to forget a committed transaction
 abbrev pub resumed : Example
 resumed = record {
-  world = north;
+  head = north;
   lines =
       connects (at 1 1) None (yes 11 ∷ []) ++ (
       hears (at 1 1) command.Begin ∷
@@ -308,7 +308,7 @@ resumed = record {
 -- a realm whose journal is full takes no event; renewed, it starts anew
 abbrev pub frozen_and_renewed : Example
 frozen_and_renewed = record {
-  world = north_with (record { connections = 8; transactions = 8; boxes = 8; entries = 2 }) ((1, codes "b1") ∷ []);
+  head = north_with (record { connections = 8; transactions = 8; boxes = 8; entries = 2 }) ((1, codes "b1") ∷ []);
   lines =
       connects (at 1 1) None (yes 11 ∷ []) ++ (
       hears (at 1 1) command.Begin ∷
@@ -325,7 +325,7 @@ frozen_and_renewed = record {
 -- a party that comes back after a renewal is a stranger
 abbrev pub stranger : Example
 stranger = record {
-  world = north;
+  head = north;
   lines =
       connects (at 1 1) None (yes 11 ∷ []) ++ (
       hears (at 1 1) command.Begin ∷

@@ -24,11 +24,11 @@ use Rattle.tip_machine.specs.Agreement.{IsAgreed}
 use Rattle.tip_machine.specs.Answers.{identifier}
 use Rattle.tip_machine.specs.Honest.{is_run}
 use Rattle.tip_machine.specs.Invariants.{IsSound}
-use Rattle.tip_machine.specs.Moves.{Move, World, moved}
+use Rattle.tip_machine.specs.Moves.{Move, World, fresh, moved}
 use Rattle.tip_machine.specs.Outputs.{Output}
 use Rattle.tip_machine.specs.Returns.{Back, event_of}
 use Rattle.tip_machine.specs.Served.{everything}
-use Rattle.tip_machine.specs.States.{started}
+use Rattle.tip_machine.specs.Starting.{IsStart}
 use Rattle.tip_machine.specs.Steps.{wants_serving}
 use Rattle.tip_machine.specs.Traces.{Moment, traced}
 use Rattle.tip_machine.specs.declared.answer.Asked.{Asked}
@@ -43,6 +43,7 @@ use Rattle.tip_machine.specs.declared.event.Heard.TheVariants as heard
 use Rattle.tip_machine.specs.declared.event.Outcome.{Outcome}
 use Rattle.tip_machine.specs.declared.event.Outcome.TheVariants.{NoChange, Stored, Refused}
 use Rattle.tip_machine.specs.declared.event.Seat.{Seat}
+use Rattle.tip_machine.specs.declared.head.Head.{Head}
 use Rattle.tip_machine.specs.declared.head.Limits.{Limits}
 
 -- Transactions of the realm north
@@ -138,9 +139,9 @@ played world (line ∷ lines) =
     let went = moved everything (move_of line world) world in
     went.shown ++ played went.world lines
 
--- an example: what there is at first, what happens, and what it shows
+-- an example: the realm as it starts, what happens, and what it shows
 pub record Example : Type 0 where
-  pub world : World
+  pub head : Head
   pub lines : List Line
   pub shown : List Output
 
@@ -149,8 +150,9 @@ abbrev pub Each : (Example → Type 0) → List Example → Type 0
 Each P [] = Unit {0}
 Each P (example ∷ examples) = P example × Each P examples
 
-abbrev pub Shows : Example → Type 0
-Shows example = played example.world example.lines ≡ example.shown
+-- what the definitions make it show
+abbrev pub play : Example → List Output
+play example = played (fresh example.head) example.lines
 
 -- the moves of a script
 abbrev pub moves_of : World → List Line → List Move
@@ -158,15 +160,15 @@ moves_of world [] = []
 moves_of world (line ∷ lines) = move_of line world ∷ moves_of (moved everything (move_of line world) world).world lines
 
 abbrev pub trace_of : Example → List Moment
-trace_of example = traced everything example.world (moves_of example.world example.lines)
+trace_of example = traced everything (fresh example.head) (moves_of (fresh example.head) example.lines)
 
 -- its first transaction is not half committed
 abbrev pub Agrees : Example → Type 0
-Agrees example = IsAgreed example.world (trace_of example) id
+Agrees example = IsAgreed (fresh example.head) (trace_of example) id
 
--- it is an honest run
+-- it is an honest run from a start
 abbrev pub IsHonestRun : Example → Type 0
-IsHonestRun example = is_run everything example.world (moves_of example.world example.lines) ≡ true
+IsHonestRun example = IsStart (fresh example.head) × (is_run everything (fresh example.head) (moves_of (fresh example.head) example.lines) ≡ true)
 
 -- the invariants hold at first, and in each state that is reached
 abbrev pub Reaches : World → List Line → Type 0
@@ -174,7 +176,7 @@ Reaches world [] = IsSound world
 Reaches world (line ∷ lines) = IsSound world × Reaches (moved everything (move_of line world) world).world lines
 
 abbrev pub StaysSound : Example → Type 0
-StaysSound example = Reaches example.world example.lines
+StaysSound example = Reaches (fresh example.head) example.lines
 
 -- Words for lines
 
@@ -237,12 +239,8 @@ not_removed key = Output.Changed (Remove key) Refused
 
 -- The realm north
 
-abbrev pub north_with : Limits → List (ℕ × List ℕ) → World
-north_with limits branches = record {
-  state = started (record { name = codes "north"; address = codes "n.x"; limits = limits; branches = branches; epoch = 1; given = 0; entries = 0 });
-  rows = [];
-  errands = [];
-}
+abbrev pub north_with : Limits → List (ℕ × List ℕ) → Head
+north_with limits branches = record { name = codes "north"; address = codes "n.x"; limits = limits; branches = branches; epoch = 1; given = 0; entries = 0 }
 
-abbrev pub north : World
+abbrev pub north : Head
 north = north_with (record { connections = 8; transactions = 8; boxes = 8; entries = 100 }) ((1, codes "b1") ∷ [])

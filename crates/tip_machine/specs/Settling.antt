@@ -1,6 +1,26 @@
 -- Two-phase commit (RFC 2371, section 13). The rules of commands, responses and failures say what was asked and answered;
 -- `settle` alone says what follows, by the transaction's phase. It may be called again and again: what was said is not said
--- twice.
+-- twice. In one table, where a row is stored or removed before anything goes out:
+--
+-- phase      what happened                             next phase   row               what goes out
+-- active     PREPARE from an address, or COMMIT        asking                         the party to vote; PREPARE
+-- active     PREPARE from no address, ABORT,           aborted                        ABORTED to who asked; ABORT; the party
+--            NOTPULLED, or a superior or a part lost
+-- asking     an answer is missing                      asking                         PREPARE to who can be asked now
+-- asking     a no, or a superior or a part lost        aborted                        ABORTED; ABORT; the party
+-- asking     all read-only                             over                           READONLY to PREPARE, COMMITTED to COMMIT
+-- asking     all agree, and PREPARE was asked          prepared     put, in doubt     PREPARED
+-- asking     all agree, and COMMIT was asked           committed    put, committed    COMMITTED; COMMIT; the party
+-- asking     all agree, and the store refuses          aborted                        ABORTED; ABORT; the party
+-- prepared   COMMIT                                    committed    put, committed    COMMITTED; COMMIT; the party
+-- prepared   ABORT, or QUERIEDNOTFOUND                 aborted      removed           ABORTED to who asked; ABORT; the party
+-- prepared   the same, and the store refuses           prepared                       a closing, to who asked or answered
+-- prepared   a superior or a part lost                 prepared
+-- committed  a part is reached again                   committed                      COMMIT
+-- committed  all have acknowledged, and the party too  over         removed
+-- committed  the same, and the store refuses           committed                      (until it is resumed)
+-- aborted    anything, and the party is spent and      over
+--            no connection is left
 use Rattle.std.specs.Prelude.{◌&&◌, not, Option, Some, find, if◌then◌else◌}
 use Rattle.std.specs.List.{list_any}
 use Rattle.std.specs.Option.{option_and_then}

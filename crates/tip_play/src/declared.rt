@@ -1,5 +1,5 @@
 //! The realms of a script, before they start.
-ghost use Rattle.std.specs.Prelude.{◌≡◌, ◌++◌, ◌&&◌, true, false, List, [], IfOk, OnOk, IsErrOf, string_bytes};
+ghost use Rattle.std.specs.Prelude.{◌≡◌, ◌≤◌, ◌++◌, ◌&&◌, true, false, List, [], IfOk, OnOk, IsErrOf, string_bytes};
 ghost use Rattle.std.specs.List.{flat_map};
 ghost use Rattle.tip_machine.specs.declared.head.Start.{Start};
 ghost use Rattle.tip_play.specs.Printing.{start_text};
@@ -57,7 +57,7 @@ impl Declared<Core, HeldFresh> {
         ensures { (starts : List Start) → IsDeclared self starts → Declares (declared name.now address.now branches limits starts) result }
     {
         if self.starts.as_slice().len() >= MOST_REALMS
-            || !(1..=8).contains(&branches)
+            || !is_count(branches)
             || !limits.are_allowed()
         {
             return Err(LineFault::NotUnderstood);
@@ -83,6 +83,13 @@ impl Declared<Core, HeldFresh> {
         print_starts(printed, &actors)?;
         Ok(Playing::new(core, no_boxes, actors))
     }
+}
+
+/// Whether a transaction may have so many branches.
+fn is_count(branches: u32) -> bool
+    ensures { result ≡ is_count branches }
+{
+    (1..=8).contains(&branches)
 }
 
 /// What is known of a realm at its start that is declared so.

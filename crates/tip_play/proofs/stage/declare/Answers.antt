@@ -7,7 +7,7 @@ use Rattle.tip_play.proofs.stage.declare.Goals as goal
 
 pub returns-in-Realm : goal.returns-in-Realm
 returns-in-Realm g c = λ starts is.
-    let all = c.in_ok-add.ensures starts is in
+    let all = c.in_ok-declared.ensures starts is in
     rw c.in-Realm.is (Declaring all.0, ap (option_map Declaring) all.1, all.2, sym (append-nil (string_bytes c.args.printed.now)))
 
 pub returns : goal.returns

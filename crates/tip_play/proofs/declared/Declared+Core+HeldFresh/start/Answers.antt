@@ -15,5 +15,5 @@ returns-clause-text g c = λ starts is. c.in_ok-print_starts.ensures ∙ ap (λ 
 
 pub returns-clause-scene : goal.returns-clause-scene
 returns-clause-scene g c = λ starts is.
-    let began = starts_scene c.in_ok-core.core c.args.self.actors.items starts is.actors (λ place. c.in_ok-core.ensures place ∙ ap (λ l. option_map (λ s. started (starting s)) (slice_get l place)) is.starts_are) in
+    let began = starts_scene c.in_ok-core.core c.args.self.actors.items starts is.actors (λ place. c.in_ok-core.ensures.realms place ∙ ap (λ l. option_map (λ s. started (starting s)) (slice_get l place)) is.starts_are) in
     subst (λ core. IsScene core c.new.result.actors.items (scene_of starts)) (sym c.new.ensures.core) (subst (λ actors. IsScene c.in_ok-core.core actors (scene_of starts)) (sym c.new.ensures.actors) began)
