@@ -3,7 +3,7 @@ ghost use Rattle.std.specs.Prelude.{◌≡◌, ◌≢◌, ◌↔◌, ℕ, ◌+�
 ghost use Rattle.std.specs.List.{find};
 ghost use Rattle.tip_table.specs.Kept.{StandsAt, of};
 ghost use Rattle.tip_table.specs.Lists.{changed, without};
-ghost use Rattle.tip_machine.specs.Connections.{has_number, identified, moved};
+ghost use Rattle.tip_machine.specs.Connections.{has_number, identified, advanced};
 ghost use Rattle.tip_machine.specs.Requests.{may_take_on};
 ghost use Rattle.tip_machine.specs.States.{seated};
 ghost use Rattle.tip_machine.specs.Steps.{is_open};
@@ -150,7 +150,7 @@ impl Realms<Connection> {
         response: ResponseName,
     )
         requires { StandsAt self.old.connections realm (has_number number) place }
-        ensures { Becomes self.old self.new realm (record (state_at realm self.old) { connections = changed (has_number number) (moved command response) (state_at realm self.old).connections }) }
+        ensures { Becomes self.old self.new realm (record (state_at realm self.old) { connections = changed (has_number number) (advanced command response) (state_at realm self.old).connections }) }
     {
         let connection = self.connections.item_mut(place);
         connection.go(command, response);

@@ -14,7 +14,7 @@ use Rattle.tip_machine.specs.Commands.{make, identify, begin, push, pull, query,
 use Rattle.tip_machine.specs.Requests.{added, opened, dial, lost, line, ask_push, ask_pull, resume, voted, settled}
 use Rattle.tip_machine.specs.Order.{ordered}
 use Rattle.tip_machine.specs.Moves.{World, fresh, stepped}
-use Rattle.tip_machine.specs.Scripts.{Agrees, Each, Example, id, trace_of}
+use Rattle.tip_machine.specs.Scripts.{IsNeverHalf, Each, Example, id, trace_of}
 use Rattle.tip_machine.specs.Traces.{Moment, at_each}
 use Rattle.tip_machine.specs.Worked.{worked}
 use Rattle.tip_machine.proofs.Each.{each}
@@ -34,10 +34,10 @@ agrees start moments is =
 agrees_on : Example → Bool
 agrees_on example = is_agreed example.head.name (fresh example.head) (trace_of example)
 
-agrees_so : (example : Example) → agrees_on example ≡ true → Agrees example
+agrees_so : (example : Example) → agrees_on example ≡ true → IsNeverHalf example
 unfolding agrees_on
 agrees_so example is = agrees (fresh example.head) (trace_of example) is
 
-pub agreed : Each Agrees worked
+pub agreed : Each IsNeverHalf worked
 unfolding is_agreed agrees_on reply send react dispatch release abort commit promise leave finish settle ask gone fail closed wrong make identify begin push pull query reconnect commanded added opened dial lost line ask_push ask_pull resume voted settled ordered stepped is_valid next_of digits
-agreed = each agrees_on Agrees agrees_so worked refl
+agreed = each agrees_on IsNeverHalf agrees_so worked refl

@@ -28,7 +28,7 @@ use Rattle.tip_conn.specs.declared.state.Turn.TheVariants.{Keep, Reverse, Origin
 use Rattle.tip_table.specs.Lists.{changed, without}
 use Rattle.tip_machine.specs.Types.{Connection, Event, Transaction}
 use Rattle.tip_machine.specs.Answers.{response_name}
-use Rattle.tip_machine.specs.Connections.{first_side, has_number, identified, is_free, may_take, moved, moved_to, role_in, turned}
+use Rattle.tip_machine.specs.Connections.{first_side, has_number, identified, is_free, may_take, advanced, advanced_to, role_in, turned}
 use Rattle.tip_machine.specs.Transactions.{has_id}
 use Rattle.tip_machine.specs.States.{Attempt, State, Work, connection_of, has_place, identified_by, seated}
 use Rattle.tip_machine.specs.Changes.{change, refuse, reply, tell}
@@ -116,11 +116,11 @@ turned_secondary Keep c keeps alone = alone.side
 turned_secondary Reverse c keeps alone = absurd (cc)
 turned_secondary Original c keeps alone = ap first_side alone.dialled
 
-moved_to_alone : (place : Option (ConnectionState × Turn)) (c : Connection) → IsEarly place → IsAlone c → IsAlone (moved_to place c)
+moved_to_alone : (place : Option (ConnectionState × Turn)) (c : Connection) → IsEarly place → IsAlone c → IsAlone (advanced_to place c)
 moved_to_alone None c early alone = alone
 moved_to_alone (Some place) c early alone = record { dialled = alone.dialled; side = turned_secondary place.1 c early.1 alone; early = early.0; owed = refl; awaited = refl; role = role_in_none place.0 c.role alone.role }
 
-moved_alone : (command : CommandName) (response : ResponseName) → StaysEarly command response → (c : Connection) → IsAlone c → IsAlone (moved command response c)
+moved_alone : (command : CommandName) (response : ResponseName) → StaysEarly command response → (c : Connection) → IsAlone c → IsAlone (advanced command response c)
 moved_alone command response early c alone = moved_to_alone (next_of command c.state response) c (next_early command response c.state early alone.early) alone
 
 identified_alone : (peer : Option (List ℕ)) (c : Connection) → IsAlone c → IsAlone (identified peer c)
@@ -174,7 +174,7 @@ wrong_plain c w alone plain = closed_plain c (tell c.number (Say said.Error) w) 
 
 reply_plain : (n : ℕ) (command : CommandName) (said : Said) (w : Work) → StaysEarly command (response_name said) → IsPlain w → IsPlain (reply n command said w)
 unfolding reply
-reply_plain n command said w early plain = record { alone = changed_alone (has_number n) (moved command (response_name said)) w.state.connections (moved_alone command (response_name said) early) plain.alone; none = plain.none; work = plain.work }
+reply_plain n command said w early plain = record { alone = changed_alone (has_number n) (advanced command (response_name said)) w.state.connections (moved_alone command (response_name said) early) plain.alone; none = plain.none; work = plain.work }
 
 identify_plain : (lowest highest : ℕ) (peer : Option (List ℕ)) (c : Connection) (w : Work) → IsAlone c → IsPlain w → IsPlain (identify lowest highest peer c w)
 unfolding identify

@@ -11,7 +11,7 @@ use Rattle.tip_rows.specs.Keys.{Place as Key}
 use Rattle.tip_txn.specs.Parts.{answered}
 use Rattle.tip_machine.specs.Types.{Connection, Event, PartyPlace, Transaction}
 use Rattle.tip_machine.specs.Connections.{is_free, may_take}
-use Rattle.tip_machine.specs.Transactions.{has_ready, is_active, is_committed, is_done, is_known, next_key, standing_at, verdict}
+use Rattle.tip_machine.specs.Transactions.{has_ready, is_active, is_committed, is_done, is_known, next_key, standing_at, party_answer}
 use Rattle.tip_machine.specs.States.{Attempt, State, Work, connection_of, has_room, identified_by, seated}
 use Rattle.tip_machine.specs.Changes.{alter, refuse}
 use Rattle.tip_machine.specs.Settling.{dispatch, finish, settle}
@@ -105,7 +105,7 @@ module _ (R : Key → Work → Work → Type 0) (May : ℕ → Type 0) (k : (key
     settles_from v r = kept_each t.key _ (settle-keeps (R t.key) May (Is t.key) (k t.key) w t.key v refl r)
 
     voted_for-goes : (place : PartyPlace) (party : PartyNotes) → Q (voted_for place party t w)
-    voted_for-goes (Out errand.Vote) party = settles_from _ ((k t.key).then w _ _ (returns party) (noting-keeps (R t.key) May (Is t.key) (k t.key) 0 (answered (verdict party)) t.key _ refl))
+    voted_for-goes (Out errand.Vote) party = settles_from _ ((k t.key).then w _ _ (returns party) (noting-keeps (R t.key) May (Is t.key) (k t.key) 0 (answered (party_answer party)) t.key _ refl))
     voted_for-goes place party = strangers party
 
     settled_for-goes : (place : PartyPlace) (party : PartyNotes) → Q (settled_for place party t w)

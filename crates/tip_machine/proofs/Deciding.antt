@@ -9,7 +9,7 @@ use Rattle.tip_txn.specs.declared.answer.Answer.{Answer}
 use Rattle.tip_txn.specs.declared.answer.Answer.TheVariants as answers
 use Rattle.tip_txn.specs.declared.answer.Decision.TheVariants as decisions
 use Rattle.tip_txn.specs.declared.part.Participant.{Participant}
-use Rattle.tip_machine.specs.Transactions.{agrees, decision, refuses}
+use Rattle.tip_machine.specs.Transactions.{is_yes, decision, refuses}
 
 -- what the parts answer
 abbrev said_by : List Participant → List (Option Answer)
@@ -64,7 +64,7 @@ missing : (said : Option Answer) → is_none said ≡ true → said ≡ None
 missing None is = refl
 missing (Some said) is = absurd (cc)
 
-agreeing : (said : Option Answer) → agrees said ≡ true → said ≡ Some answers.Yes
+agreeing : (said : Option Answer) → is_yes said ≡ true → said ≡ Some answers.Yes
 agreeing None is = absurd (cc)
 agreeing (Some answers.Yes) is = refl
 agreeing (Some answers.No) is = absurd (cc)
@@ -83,15 +83,15 @@ not_refused : (parts : List Participant) → list_any refuses (said_by parts) �
 not_refused parts none (inl says) = silent refuses (Some answers.No) parts refl none says
 not_refused parts none (inr says) = silent refuses (Some answers.Lost) parts refl none says
 
-third : (parts : List Participant) (b : Bool) → list_any agrees (said_by parts) ≡ b → ¬ Refuses (answers_of parts) → ¬ Says (answers_of parts) None → Decides (answers_of parts) (cond b decisions.Commit decisions.ReadOnly)
-third parts true is none all = (none, all, let one = passes agrees parts is in subst (Says (answers_of parts)) (agreeing one.said one.so) one.says)
-third parts false is none all = (none, all, silent agrees (Some answers.Yes) parts refl is)
+third : (parts : List Participant) (b : Bool) → list_any is_yes (said_by parts) ≡ b → ¬ Refuses (answers_of parts) → ¬ Says (answers_of parts) None → Decides (answers_of parts) (cond b decisions.Commit decisions.ReadOnly)
+third parts true is none all = (none, all, let one = passes is_yes parts is in subst (Says (answers_of parts)) (agreeing one.said one.so) one.says)
+third parts false is none all = (none, all, silent is_yes (Some answers.Yes) parts refl is)
 
-second : (parts : List Participant) (b : Bool) → list_any is_none (said_by parts) ≡ b → ¬ Refuses (answers_of parts) → Decides (answers_of parts) (cond b decisions.Wait (cond (list_any agrees (said_by parts)) decisions.Commit decisions.ReadOnly))
+second : (parts : List Participant) (b : Bool) → list_any is_none (said_by parts) ≡ b → ¬ Refuses (answers_of parts) → Decides (answers_of parts) (cond b decisions.Wait (cond (list_any is_yes (said_by parts)) decisions.Commit decisions.ReadOnly))
 second parts true is none = (none, let one = passes is_none parts is in subst (Says (answers_of parts)) (missing one.said one.so) one.says)
-second parts false is none = third parts (list_any agrees (said_by parts)) refl none (silent is_none None parts refl is)
+second parts false is none = third parts (list_any is_yes (said_by parts)) refl none (silent is_none None parts refl is)
 
-first : (parts : List Participant) (b : Bool) → list_any refuses (said_by parts) ≡ b → Decides (answers_of parts) (cond b decisions.Abort (cond (list_any is_none (said_by parts)) decisions.Wait (cond (list_any agrees (said_by parts)) decisions.Commit decisions.ReadOnly)))
+first : (parts : List Participant) (b : Bool) → list_any refuses (said_by parts) ≡ b → Decides (answers_of parts) (cond b decisions.Abort (cond (list_any is_none (said_by parts)) decisions.Wait (cond (list_any is_yes (said_by parts)) decisions.Commit decisions.ReadOnly)))
 first parts true is = refused parts is
 first parts false is = second parts (list_any is_none (said_by parts)) refl (not_refused parts is)
 

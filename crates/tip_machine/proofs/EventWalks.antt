@@ -14,7 +14,7 @@ use Rattle.tip_conn.specs.declared.state.Side.TheVariants.{Primary, Secondary}
 use Rattle.tip_rows.specs.Keys.{Place as Key}
 use Rattle.tip_txn.specs.declared.part.Participant.{Participant}
 use Rattle.tip_machine.specs.Types.{Connection, Transaction}
-use Rattle.tip_machine.specs.Connections.{moved}
+use Rattle.tip_machine.specs.Connections.{advanced}
 use Rattle.tip_machine.specs.Transactions.{is_committed, is_decided_at, noting, subordinate_of}
 use Rattle.tip_machine.specs.States.{Work, connection_of, identified_by, transaction_of}
 use Rattle.tip_machine.specs.Changes.{alter, change}
@@ -33,7 +33,7 @@ use Rattle.tip_machine.specs.declared.event.Heard.TheVariants.{Command as AComma
 use Rattle.tip_machine.specs.declared.transaction.Origin.{Origin}
 use Rattle.tip_machine.specs.declared.transaction.Origin.TheVariants as origin
 use Rattle.tip_machine.proofs.Walks.{AtOne, Closed, Ends, Is, at_one, attempt_on_each, either, either_ends, is_or_any, key_of, or_any}
-use Rattle.tip_machine.proofs.RuleWalks.{abort-keeps, closed-keeps, closes, goes_wrong, is_commanded, moved-made, moved-number, noting-keeps, send-keeps, settle-keeps, taking-keeps, wrong-keeps}
+use Rattle.tip_machine.proofs.RuleWalks.{abort-keeps, closed-keeps, closes, goes_wrong, is_commanded, advanced-made, advanced-number, noting-keeps, send-keeps, settle-keeps, taking-keeps, wrong-keeps}
 
 module _ (R : Work → Work → Type 0) (May : ℕ → Type 0) (On : Key → Type 0) (k : Closed R May On) where
   note_as-keeps : (v : Work) (role : Option Role) (note : Participant → Participant) (w : Work) → IfSome (key_of role) On → R v w → Ends (R v) (note_as role note w)
@@ -52,7 +52,7 @@ module _ (R : Work → Work → Type 0) (May : ℕ → Type 0) (On : Key → Typ
   abort_as-keeps (Some (Subordinate key part)) w on = abort-keeps R May On k key w on
 
   go_on-keeps : (command : CommandName) (response : ResponseName) (c : Connection) (w : Work) → May c.number → R w (go_on command response c w)
-  go_on-keeps command response c w may = k.changes c.number (moved command response) w may (moved-number command response) (moved-made command response)
+  go_on-keeps command response c w may = k.changes c.number (advanced command response) w may (advanced-number command response) (advanced-made command response)
 
   module _ (c : Connection) (may : May c.number) (on : IfSome (key_of c.role) On) where
     hang_up-keeps : (w : Work) → R w (closed c w)
@@ -85,7 +85,7 @@ module _ (R : Work → Work → Type 0) (May : ℕ → Type 0) (On : Key → Typ
 
     greeted-keeps : (version : ℕ) (purpose : Purpose) (w : Work) → R w (greeted version purpose c w)
     greeted-keeps version purpose w =
-        let gone_on = change c.number (moved command.Identify response.Identified) w in
+        let gone_on = change c.number (advanced command.Identify response.Identified) w in
         either (R w) (nat_le 3 version) (pursue purpose c gone_on) (wrong c w) (k.then w gone_on _ (go_on-keeps command.Identify response.Identified c w may) (pursue-keeps purpose gone_on)) (wrong-keeps R May On k c w may on)
 
 -- Any response and any line, where what is touched is the transaction of some one key

@@ -26,7 +26,7 @@ use Rattle.tip_machine.specs.declared.connection.Purpose.{Purpose}
 use Rattle.tip_machine.specs.declared.event.Outcome.{Outcome}
 use Rattle.tip_machine.specs.declared.transaction.Origin.{Origin}
 use Rattle.tip_machine.proofs.Walks.{AtOne, Closed, Ends, Is, chosen_ends, either, more_ends, or_any}
-use Rattle.tip_machine.proofs.RuleWalks.{moved-made}
+use Rattle.tip_machine.proofs.RuleWalks.{advanced-made}
 use Rattle.tip_machine.proofs.AttemptWalks.{attempt-goes, each_event, is_opening}
 use Rattle.tip_machine.proofs.Keeping.{any, each}
 use Rattle.tip_machine.proofs.Lists.{find_any, none-added, none-changed, none-found, none-map, none-without}
@@ -56,7 +56,7 @@ made_there key f (d ∷ cs) c last is rising counted = let parts = and_parts _ _
 
 -- a reaction makes no transaction
 made-reacted : (key : Key) (reaction : Reaction) (c : Connection) → (reacted reaction key c).connection.made ≡ c.made
-made-reacted key reaction c = reacted-keeps (λ d. d.made ≡ c.made) c refl reaction key (λ command response. moved-made command response c) (λ awaited. refl)
+made-reacted key reaction c = reacted-keeps (λ d. d.made ≡ c.made) c refl reaction key (λ command response. advanced-made command response c) (λ awaited. refl)
 
 -- Rules
 

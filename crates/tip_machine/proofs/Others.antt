@@ -14,7 +14,7 @@ use Rattle.tip_rows.proofs.OrderLemmas.{same_place}
 use Rattle.tip_table.specs.Lists.{changed, without}
 use Rattle.tip_machine.specs.Types.{Answer, Connection, Event, Transaction}
 use Rattle.tip_machine.specs.Answers.{response_name}
-use Rattle.tip_machine.specs.Connections.{accepted, asks_for, awaiting, dialled, has_number, is_on, is_superior_of, moved, names}
+use Rattle.tip_machine.specs.Connections.{accepted, asks_for, awaiting, dialled, has_number, is_on, is_superior_of, advanced, names}
 use Rattle.tip_machine.specs.Transactions.{begun, has_key, next_key}
 use Rattle.tip_machine.specs.States.{State, Work, connection_of, has_place, seated, transaction_of}
 use Rattle.tip_machine.specs.Changes.{alter, change, end}
@@ -34,7 +34,7 @@ use Rattle.tip_machine.specs.declared.event.Seat.{Seat}
 use Rattle.tip_machine.specs.declared.transaction.Origin.{Origin}
 use Rattle.tip_machine.proofs.Walks.{AtOne, Closed, Ends, Is, chosen_ends, either, more_ends, or_any, seated-number}
 use Rattle.tip_machine.proofs.Lists.{find-added, find-changed, find-without, none-changed, none-map, none-without}
-use Rattle.tip_machine.proofs.RuleWalks.{moved-number}
+use Rattle.tip_machine.proofs.RuleWalks.{advanced-number}
 use Rattle.tip_machine.proofs.AttemptWalks.{attempt-goes, each_event, is_opening}
 
 -- Keys and numbers
@@ -56,7 +56,7 @@ module _ (P : Connection → Type 0) (c : Connection) (same : P c) where
   either-keeps f None each = same
   either-keeps f (Some x) each = each x
 
-  pub reacted-keeps : (reaction : Reaction) (key : Key) → ((command : CommandName) (response : ResponseName) → P (moved command response c)) → ((awaited : Awaited) → P (awaiting awaited c)) → P (reacted reaction key c).connection
+  pub reacted-keeps : (reaction : Reaction) (key : Key) → ((command : CommandName) (response : ResponseName) → P (advanced command response c)) → ((awaited : Awaited) → P (awaiting awaited c)) → P (reacted reaction key c).connection
   reacted-keeps reaction key moves awaits = step (is_on key c) (went c.owed) where
     went : (owed : Option CommandName) → P (reacts reaction key owed c).connection
     went (Some command) = either-keeps (answers command c) (reaction.owed command) (λ said. moves command (response_name said))
@@ -67,7 +67,7 @@ module _ (P : Connection → Type 0) (c : Connection) (same : P c) where
     step false p = same
 
 pub number-reacted : (key : Key) (reaction : Reaction) (c : Connection) → (reacted reaction key c).connection.number ≡ c.number
-number-reacted key reaction c = reacted-keeps (λ d. d.number ≡ c.number) c refl reaction key (λ command response. moved-number command response c) (λ awaited. refl)
+number-reacted key reaction c = reacted-keeps (λ d. d.number ≡ c.number) c refl reaction key (λ command response. advanced-number command response c) (λ awaited. refl)
 
 stays_off : (b : Bool) (this : Reacted) (c : Connection) → b ≡ false → (cond b this (stays c)).connection ≡ c
 stays_off true this c off = absurd (cc)

@@ -28,7 +28,7 @@ use Rattle.tip_txn.specs.declared.answer.Phase.TheVariants as phase
 use Rattle.tip_txn.specs.declared.part.Participant.{Participant}
 use Rattle.tip_machine.specs.Types.{Connection, PartyPlace, Transaction}
 use Rattle.tip_machine.specs.Answers.{response_name}
-use Rattle.tip_machine.specs.Connections.{is_on, is_superior_of, moved, moved_to, identified, awaiting, owing, taking}
+use Rattle.tip_machine.specs.Connections.{is_on, is_superior_of, advanced, advanced_to, identified, awaiting, owing, taking}
 use Rattle.tip_machine.specs.Transactions.{decision_of, enlisting, entering, has_ready, is_active, is_done, is_known, is_prepared, is_spent, next_key, noting, standing_at}
 use Rattle.tip_machine.specs.States.{Attempt, State, Work, connection_of, has_room, identified_by, transaction_of}
 use Rattle.tip_machine.specs.Changes.{alter, change, end, reply, send, tell}
@@ -49,26 +49,26 @@ use Rattle.tip_machine.specs.declared.transaction.Origin.TheVariants as origin
 use Rattle.tip_machine.specs.declared.transaction.PartyPlace.TheVariants.{Here, Out, Spent}
 use Rattle.tip_machine.proofs.Walks.{AtOne, Closed, Ends, Is, at_one, attempt_on_each, either, either_ends, found_passes, is_or_any, key_of, more_ends, on_asked, on_each, on_found, or_any}
 
-moved_to-number : (place : Option (ConnectionState × Turn)) (c : Connection) → (moved_to place c).number ≡ c.number
-moved_to-number None c = refl
-moved_to-number (Some place) c = refl
+advanced_to-number : (place : Option (ConnectionState × Turn)) (c : Connection) → (advanced_to place c).number ≡ c.number
+advanced_to-number None c = refl
+advanced_to-number (Some place) c = refl
 
-pub moved-number : (command : CommandName) (response : ResponseName) (c : Connection) → (moved command response c).number ≡ c.number
-moved-number command response c = moved_to-number (next_of command c.state response) c
+pub advanced-number : (command : CommandName) (response : ResponseName) (c : Connection) → (advanced command response c).number ≡ c.number
+advanced-number command response c = advanced_to-number (next_of command c.state response) c
 
-moved_to-made : (place : Option (ConnectionState × Turn)) (c : Connection) → (moved_to place c).made ≡ c.made
-moved_to-made None c = refl
-moved_to-made (Some place) c = refl
+advanced_to-made : (place : Option (ConnectionState × Turn)) (c : Connection) → (advanced_to place c).made ≡ c.made
+advanced_to-made None c = refl
+advanced_to-made (Some place) c = refl
 
-pub moved-made : (command : CommandName) (response : ResponseName) (c : Connection) → (moved command response c).made ≡ c.made
-moved-made command response c = moved_to-made (next_of command c.state response) c
+pub advanced-made : (command : CommandName) (response : ResponseName) (c : Connection) → (advanced command response c).made ≡ c.made
+advanced-made command response c = advanced_to-made (next_of command c.state response) c
 
 module _ (R : Work → Work → Type 0) (May : ℕ → Type 0) (On : Key → Type 0) (k : Closed R May On) where
   -- Steps of work
 
   reply-keeps : (n : ℕ) (command : CommandName) (said : Said) (w : Work) → May n → R w (reply n command said w)
   unfolding reply
-  reply-keeps n command said w may = k.then w _ _ (k.tells w _) (k.changes n (moved command (response_name said)) _ may (moved-number command (response_name said)) (moved-made command (response_name said)))
+  reply-keeps n command said w may = k.then w _ _ (k.tells w _) (k.changes n (advanced command (response_name said)) _ may (advanced-number command (response_name said)) (advanced-made command (response_name said)))
 
   pub send-keeps : (n : ℕ) (awaited : Awaited) (asked : Asked) (w : Work) → May n → R w (send n awaited asked w)
   unfolding send
@@ -243,7 +243,7 @@ module _ (R : Work → Work → Type 0) (May : ℕ → Type 0) (On : Key → Typ
 
   identify-keeps : (lowest highest : ℕ) (peer : Option (List ℕ)) (c : Connection) (w : Work) → May c.number → IfSome (key_of c.role) On → R w (identify lowest highest peer c w)
   unfolding identify
-  identify-keeps lowest highest peer c w may on = either (R w) (nat_le lowest 3 && nat_le 3 highest) _ (wrong c w) (k.then w _ _ (k.tells w _) (k.changes c.number (identified peer) _ may (moved-number _ _) (moved-made _ _))) (wrong-keeps c w may on)
+  identify-keeps lowest highest peer c w may on = either (R w) (nat_le lowest 3 && nat_le 3 highest) _ (wrong c w) (k.then w _ _ (k.tells w _) (k.changes c.number (identified peer) _ may (advanced-number _ _) (advanced-made _ _))) (wrong-keeps c w may on)
 
   begin-keeps : (c : Connection) (w : Work) → May c.number → On (next_key w.state.head c) → connection_of c.number w.state ≡ Some c → R w (begin c w)
   unfolding begin

@@ -27,7 +27,7 @@ use Rattle.tip_machine.specs.States.{State, identified_by}
 use Rattle.tip_machine.specs.Returns.{is_nil}
 use Rattle.tip_machine.specs.Transactions.{has_id}
 use Rattle.tip_machine.specs.Traces.{Came, Moment, at_each, heard_in, shown_in}
-use Rattle.tip_machine.specs.Verdicts.{agrees, is_commit, told}
+use Rattle.tip_machine.specs.Verdicts.{is_unanimous, is_commit, told}
 use Rattle.tip_machine.specs.declared.answer.Item.{Item}
 use Rattle.tip_machine.specs.declared.answer.Item.TheVariants.{Say}
 use Rattle.tip_machine.specs.declared.answer.Said.TheVariants as said
@@ -161,7 +161,7 @@ module _ (realm : List ℕ) (id : List ℕ) where
   -- ONE: no branch is told to commit where a branch is told to abort
 
   abbrev pub is_one : List Moment → Bool
-  is_one moments = agrees (told realm id (shown_in moments))
+  is_one moments = is_unanimous (told realm id (shown_in moments))
 
   -- BACKED: where a commit is told, the committed row was stored by then, or stood at the start
 

@@ -6,7 +6,7 @@ use Rattle.tip_rows.specs.Keys.{Place as Key}
 use Rattle.tip_table.specs.Lists.{changed, without}
 use Rattle.tip_machine.specs.Types.{Connection, Transaction}
 use Rattle.tip_machine.specs.Answers.{response_name}
-use Rattle.tip_machine.specs.Connections.{awaiting, has_number, moved}
+use Rattle.tip_machine.specs.Connections.{awaiting, has_number, advanced}
 use Rattle.tip_machine.specs.Transactions.{has_key}
 use Rattle.tip_machine.specs.States.{Attempt, Work, transaction_of}
 use Rattle.tip_machine.specs.declared.connection.Awaited.{Awaited}
@@ -36,7 +36,7 @@ end key work = record work { state = record work.state { transactions = without 
 
 -- a command is answered, and its connection goes by the connection table (section 13)
 unfoldable pub reply : ℕ → CommandName → Said → Work → Work
-reply number command said work = change number (moved command (response_name said)) (tell number (Say said) work)
+reply number command said work = change number (advanced command (response_name said)) (tell number (Say said) work)
 
 -- a command is said, and its response awaited (section 13)
 unfoldable pub send : ℕ → Awaited → Asked → Work → Work

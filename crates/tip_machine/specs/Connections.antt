@@ -58,17 +58,17 @@ role_in Enlisted role = role
 role_in Prepared role = role
 role_in Error role = role
 
-abbrev pub moved_to : Option (State × Turn) → Connection → Connection
-moved_to None connection = connection
-moved_to (Some place) connection = record connection { state = place.0; side = turned place.1 connection; owed = None; awaited = None; role = role_in place.0 connection.role }
+abbrev pub advanced_to : Option (State × Turn) → Connection → Connection
+advanced_to None connection = connection
+advanced_to (Some place) connection = record connection { state = place.0; side = turned place.1 connection; owed = None; awaited = None; role = role_in place.0 connection.role }
 
 -- the connection after this command was answered so, by the connection table: nothing is owed or awaited any more
-abbrev pub moved : CommandName → ResponseName → Connection → Connection
-moved command response connection = moved_to (next_of command connection.state response) connection
+abbrev pub advanced : CommandName → ResponseName → Connection → Connection
+advanced command response connection = advanced_to (next_of command connection.state response) connection
 
 -- the connection after IDENTIFY, whose primary is there if it said where (section 13)
 abbrev pub identified : Option (List ℕ) → Connection → Connection
-identified peer connection = record (moved command.Identify response.Identified connection) { peer = peer }
+identified peer connection = record (advanced command.Identify response.Identified connection) { peer = peer }
 
 -- Whose turn it is
 

@@ -19,7 +19,7 @@ use Rattle.tip_machine.specs.Links.{Link, link}
 use Rattle.tip_machine.specs.Links.Link.{Gone, Owes, Awaits}
 use Rattle.tip_machine.specs.Parties.{are_unasked, has_left, has_promised, is_its_own}
 use Rattle.tip_machine.specs.States.{State}
-use Rattle.tip_machine.specs.Transactions.{agrees, decision_of, is_spent}
+use Rattle.tip_machine.specs.Transactions.{is_yes, decision_of, is_spent}
 use Rattle.tip_machine.specs.declared.connection.Awaited.TheVariants as awaited
 use Rattle.tip_machine.specs.declared.transaction.Origin.{Origin}
 use Rattle.tip_machine.specs.declared.transaction.Origin.TheVariants as origin
@@ -121,7 +121,7 @@ has_pair part = is_some part.address && is_some part.id
 -- a part that can be asked, or has said yes, is known by its address and its identifier; one that is pushed says its identifier later
 abbrev pub is_named : Link → Participant → Bool
 is_named (Awaits state.Idle (Some awaited.Push)) part = is_some part.address
-is_named Gone part = not (agrees part.answer) || has_pair part
+is_named Gone part = not (is_yes part.answer) || has_pair part
 is_named link part = has_pair part
 
 abbrev pub is_part_in : Phase → Link → Participant → Bool

@@ -8,7 +8,7 @@ use Rattle.tip_conn.specs.declared.state.State.TheVariants.{Initial, Idle, Begun
 use Rattle.tip_rows.specs.Keys.{Place as Key}
 use Rattle.tip_machine.specs.Types.{Connection}
 use Rattle.tip_machine.specs.Answers.{response_name}
-use Rattle.tip_machine.specs.Connections.{awaiting, is_on, moved}
+use Rattle.tip_machine.specs.Connections.{awaiting, is_on, advanced}
 use Rattle.tip_machine.specs.States.{Work}
 use Rattle.tip_machine.specs.declared.answer.Asked.{Asked}
 use Rattle.tip_machine.specs.declared.answer.Asked.TheVariants as asked
@@ -27,14 +27,14 @@ pub record Demand : Type 0 where
   pub asked : Key → Asked
   pub awaited : Awaited
 
-abbrev pub prepare : Demand
-prepare = record { asked = asked.Prepare; awaited = awaited.Prepare }
+abbrev pub prepare_demand : Demand
+prepare_demand = record { asked = asked.Prepare; awaited = awaited.Prepare }
 
-abbrev pub commit : Demand
-commit = record { asked = asked.Commit; awaited = awaited.Commit }
+abbrev pub commit_demand : Demand
+commit_demand = record { asked = asked.Commit; awaited = awaited.Commit }
 
-abbrev pub abort : Demand
-abort = record { asked = asked.Abort; awaited = awaited.Abort }
+abbrev pub abort_demand : Demand
+abort_demand = record { asked = asked.Abort; awaited = awaited.Abort }
 
 -- A reaction: what is answered to the command that a connection is owed a response to; and what a subordinate is asked, by
 -- the state of its connection, where nothing is awaited there. Where nothing is said here, a connection stays as it is.
@@ -55,7 +55,7 @@ read_only other = None
 
 -- THE TABLE
 abbrev pub asks : Reaction
-asks = record { owed = silent; enlisted = Some prepare; prepared = None }
+asks = record { owed = silent; enlisted = Some prepare_demand; prepared = None }
 
 abbrev pub promises : Reaction
 promises = record { owed = λ command. Some said.Prepared; enlisted = None; prepared = None }
@@ -64,10 +64,10 @@ abbrev pub needs_nothing : Reaction
 needs_nothing = record { owed = read_only; enlisted = None; prepared = None }
 
 abbrev pub commits : Reaction
-commits = record { owed = λ command. Some said.Committed; enlisted = None; prepared = Some commit }
+commits = record { owed = λ command. Some said.Committed; enlisted = None; prepared = Some commit_demand }
 
 abbrev pub aborts : Reaction
-aborts = record { owed = λ command. Some said.Aborted; enlisted = Some abort; prepared = Some abort }
+aborts = record { owed = λ command. Some said.Aborted; enlisted = Some abort_demand; prepared = Some abort_demand }
 
 -- what a subordinate is asked in this state
 abbrev pub demanded : Reaction → ConnectionState → Option Demand
@@ -92,7 +92,7 @@ abbrev pub stays : Connection → Reacted
 stays connection = record { connection = connection; items = [] }
 
 abbrev pub answers : CommandName → Connection → Said → Reacted
-answers command connection said = record { connection = moved command (response_name said) connection; items = Say said ∷ [] }
+answers command connection said = record { connection = advanced command (response_name said) connection; items = Say said ∷ [] }
 
 abbrev pub demands : Key → Connection → Demand → Reacted
 demands key connection demand = record { connection = awaiting demand.awaited connection; items = Ask (demand.asked key) ∷ [] }

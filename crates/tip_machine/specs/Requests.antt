@@ -11,7 +11,7 @@ use Rattle.tip_conn.specs.declared.state.Side.TheVariants.{Primary, Secondary}
 use Rattle.tip_txn.specs.Parts.{answered, enlisted}
 use Rattle.tip_machine.specs.Types.{Connection, PartyPlace, Transaction}
 use Rattle.tip_machine.specs.Connections.{accepted, dialled, is_free, may_take, taking}
-use Rattle.tip_machine.specs.Transactions.{enlisting, has_ready, is_active, is_committed, is_done, is_known, next_key, noting, standing_at, verdict}
+use Rattle.tip_machine.specs.Transactions.{enlisting, has_ready, is_active, is_committed, is_done, is_known, next_key, noting, standing_at, party_answer}
 use Rattle.tip_machine.specs.States.{Attempt, State, Work, has_place, has_room, identified_by}
 use Rattle.tip_machine.specs.Changes.{alter, change, refuse, send, tell}
 use Rattle.tip_machine.specs.Settling.{dispatch, finish, settle}
@@ -140,7 +140,7 @@ strange party work = Attempt.Done (record work { answer = record work.answer { r
 abbrev pub voted_for : PartyPlace → PartyNotes → Transaction → Work → Attempt
 voted_for (Out errand.Vote) party transaction work =
     let key = transaction.key in
-    settle key (alter key (noting 0 (answered (verdict party))) (alter key (standing_at (Here party)) work))
+    settle key (alter key (noting 0 (answered (party_answer party))) (alter key (standing_at (Here party)) work))
 voted_for place party transaction work = strange party work
 
 -- a party comes back from a vote (ours)

@@ -12,7 +12,7 @@ use Rattle.tip_txn.specs.Parts.{acknowledged, answered, is_text, named}
 use Rattle.tip_txn.specs.declared.answer.Answer.TheVariants as answer
 use Rattle.tip_txn.specs.declared.part.Participant.{Participant}
 use Rattle.tip_machine.specs.Types.{Connection, Transaction}
-use Rattle.tip_machine.specs.Connections.{is_part_of, is_superior_of, moved, taking}
+use Rattle.tip_machine.specs.Connections.{is_part_of, is_superior_of, advanced, taking}
 use Rattle.tip_machine.specs.Transactions.{is_committed, is_decided_at, is_prepared, noting, subordinate_of}
 use Rattle.tip_machine.specs.States.{Attempt, State, Work, identified_by}
 use Rattle.tip_machine.specs.Changes.{alter, attempt_on_key, change, send}
@@ -99,7 +99,7 @@ pursue (purpose.Reconnect id place) connection work = reconnect_for (identified_
 
 -- IDENTIFIED: the version is 3 or one above, of which we speak 3 (section 13)
 abbrev pub greeted : ℕ → Purpose → Connection → Work → Work
-greeted version purpose connection work = if nat_le 3 version then pursue purpose connection (change connection.number (moved command.Identify response.Identified) work) else wrong connection work
+greeted version purpose connection work = if nat_le 3 version then pursue purpose connection (change connection.number (advanced command.Identify response.Identified) work) else wrong connection work
 
 -- QUERIEDNOTFOUND: the superior has forgotten, so it has aborted; the row goes before anybody is told (section 13, QUERY)
 abbrev pub presume_abort : Connection → Transaction → Work → Attempt
@@ -112,7 +112,7 @@ presume_abort connection transaction work =
 
 -- a connection goes on by the connection table (section 13)
 abbrev pub go_on : CommandName → ResponseName → Connection → Work → Work
-go_on command response connection work = change connection.number (moved command response) work
+go_on command response connection work = change connection.number (advanced command response) work
 
 -- a response to the command that awaits one: each line of this table first goes on by the connection table (section 13)
 abbrev pub responded : Awaited → Response → Connection → Work → Attempt

@@ -163,8 +163,8 @@ abbrev pub trace_of : Example → List Moment
 trace_of example = traced everything (fresh example.head) (moves_of (fresh example.head) example.lines)
 
 -- its first transaction is not half committed
-abbrev pub Agrees : Example → Type 0
-Agrees example = IsAgreed (fresh example.head) (trace_of example) id
+abbrev pub IsNeverHalf : Example → Type 0
+IsNeverHalf example = IsAgreed (fresh example.head) (trace_of example) id
 
 -- it is an honest run from a start
 abbrev pub IsHonestRun : Example → Type 0

@@ -130,18 +130,18 @@ refuses (Some answer.No) = true
 refuses (Some answer.ReadOnly) = false
 refuses (Some answer.Lost) = true
 
-abbrev pub agrees : Option Answer → Bool
-agrees None = false
-agrees (Some answer.Yes) = true
-agrees (Some answer.No) = false
-agrees (Some answer.ReadOnly) = false
-agrees (Some answer.Lost) = false
+abbrev pub is_yes : Option Answer → Bool
+is_yes None = false
+is_yes (Some answer.Yes) = true
+is_yes (Some answer.No) = false
+is_yes (Some answer.ReadOnly) = false
+is_yes (Some answer.Lost) = false
 
 abbrev pub decision : List (Option Answer) → Decision
 decision answers =
     if list_any refuses answers then decisions.Abort
     else if list_any is_none answers then decisions.Wait
-    else if list_any agrees answers then decisions.Commit
+    else if list_any is_yes answers then decisions.Commit
     else decisions.ReadOnly
 
 -- what the parts of a transaction decide, its local party among them (section 13, PREPARE and COMMIT)
@@ -156,8 +156,8 @@ as_answer decisions.Abort = answer.No
 as_answer decisions.ReadOnly = answer.ReadOnly
 
 -- what a party answers that was asked: the decision over its members, in which one left active is a no (ours)
-abbrev pub verdict : PartyNotes → Answer
-verdict party = as_answer (decision (filter is_some (map ballot party.members)))
+abbrev pub party_answer : PartyNotes → Answer
+party_answer party = as_answer (decision (filter is_some (map ballot party.members)))
 
 -- Its parts
 
@@ -172,7 +172,7 @@ enlisting part transaction = record transaction { parts = transaction.parts ++ p
 -- the subordinates of these parts that said yes, each with its place as a part
 abbrev pub willing_from : ℕ → List Participant → List (ℕ × Participant)
 willing_from part [] = []
-willing_from part (p ∷ parts) = if agrees p.answer then (part, p) ∷ willing_from (part + 1) parts else willing_from (part + 1) parts
+willing_from part (p ∷ parts) = if is_yes p.answer then (part, p) ∷ willing_from (part + 1) parts else willing_from (part + 1) parts
 
 -- its subordinates that said yes, in the order enlisted; the local party stands before all parts
 abbrev pub subordinates : Transaction → List (ℕ × Participant)

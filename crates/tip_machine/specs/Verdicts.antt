@@ -47,5 +47,5 @@ is_abort Verdict.Commit = false
 is_abort Verdict.Abort = true
 
 -- no branch is told to commit where a branch is told to abort
-abbrev pub agrees : List Verdict → Bool
-agrees told = not (list_any is_commit told && list_any is_abort told)
+abbrev pub is_unanimous : List Verdict → Bool
+is_unanimous told = not (list_any is_commit told && list_any is_abort told)

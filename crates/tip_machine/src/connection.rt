@@ -1,6 +1,6 @@
 //! A connection of a realm.
 ghost use Rattle.std.specs.Prelude.{◌≡◌};
-ghost use Rattle.tip_machine.specs.Connections.{accepted, identified, may_take, moved, turned};
+ghost use Rattle.tip_machine.specs.Connections.{accepted, identified, may_take, advanced, turned};
 
 use tip_branch::HeldFresh;
 use tip_conn::{Side, State, Turn, after_named};
@@ -94,7 +94,7 @@ impl Connection<HeldFresh> {
 
     /// Goes on by the connection table, now that this command was answered so.
     pub fn go(&mut self, command: CommandName, response: ResponseName)
-        ensures { self.new ≡ moved command response self.old }
+        ensures { self.new ≡ advanced command response self.old }
     {
         if let Some((state, turn)) = after_named(self.state, command, response) {
             self.side = self.turned(turn);

@@ -4,7 +4,7 @@ ghost use Rattle.tip_machine.specs.Agreement.{is_asked, is_backed, is_kept, is_o
 ghost use Rattle.tip_machine.specs.Commits.{late, one_part_says_no, two_parts};
 ghost use Rattle.tip_machine.specs.Failures.{part_lost};
 ghost use Rattle.tip_machine.specs.Moves.{fresh};
-ghost use Rattle.tip_machine.specs.Scripts.{Agrees, Each, IsHonestRun, StaysSound, id, play, trace_of};
+ghost use Rattle.tip_machine.specs.Scripts.{IsNeverHalf, Each, IsHonestRun, StaysSound, id, play, trace_of};
 ghost use Rattle.tip_machine.specs.Traces.{at_each};
 ghost use Rattle.tip_machine.specs.Twins.{committed, denied, forged, never_asked, never_done, never_stored, told_both, unheard_at};
 ghost use Rattle.tip_machine.specs.Worked.{worked};
@@ -26,7 +26,7 @@ pub fn invariants_hold()
 
 /// The first transaction of no example is half committed.
 pub fn nothing_is_half_committed()
-    ensures { Each Agrees worked }
+    ensures { Each IsNeverHalf worked }
 {}
 
 /// Each sentence of agreement refuses the runs that it is there to refuse.
