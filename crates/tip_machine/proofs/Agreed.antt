@@ -14,9 +14,9 @@ use Rattle.tip_machine.specs.Commands.{make, identify, begin, push, pull, query,
 use Rattle.tip_machine.specs.Requests.{added, opened, dial, lost, line, ask_push, ask_pull, resume, voted, settled}
 use Rattle.tip_machine.specs.Order.{ordered}
 use Rattle.tip_machine.specs.Moves.{World, fresh, stepped}
-use Rattle.tip_machine.specs.Scripts.{IsNeverHalf, Each, Example, id, trace_of}
-use Rattle.tip_machine.specs.Traces.{Moment, at_each}
-use Rattle.tip_machine.specs.Worked.{worked}
+use Rattle.tip_machine.specs.Examples.Scripts.{IsNeverHalf, Each, Example, id, trace_of}
+use Rattle.tip_machine.specs.Agreement.Traces.{Moment, at_each}
+use Rattle.tip_machine.specs.Examples.{worked}
 use Rattle.tip_machine.proofs.Each.{each}
 
 -- the four sentences as one test

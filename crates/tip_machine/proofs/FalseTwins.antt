@@ -11,11 +11,11 @@ use Rattle.tip_machine.specs.Commands.{make, identify, begin, push, pull, query,
 use Rattle.tip_machine.specs.Requests.{added, opened, dial, lost, line, ask_push, ask_pull, resume, voted, settled}
 use Rattle.tip_machine.specs.Order.{ordered}
 use Rattle.tip_machine.specs.Moves.{fresh, stepped}
-use Rattle.tip_machine.specs.Commits.{late, one_part_says_no, two_parts}
-use Rattle.tip_machine.specs.Failures.{part_lost}
-use Rattle.tip_machine.specs.Scripts.{id, trace_of}
-use Rattle.tip_machine.specs.Traces.{at_each}
-use Rattle.tip_machine.specs.Twins.{committed, denied, forged, never_asked, never_done, never_stored, told_both, unheard_at}
+use Rattle.tip_machine.specs.Examples.Commits.{late, one_part_says_no, two_parts}
+use Rattle.tip_machine.specs.Examples.Failures.{part_lost}
+use Rattle.tip_machine.specs.Examples.Scripts.{id, trace_of}
+use Rattle.tip_machine.specs.Agreement.Traces.{at_each}
+use Rattle.tip_machine.specs.Examples.Twins.{committed, denied, forged, never_asked, never_done, never_stored, told_both, unheard_at}
 
 pub one : is_one (codes "north") id (forged told_both (trace_of late)) ≡ false
 unfolding reply send react dispatch release abort commit promise leave finish settle ask gone fail closed wrong make identify begin push pull query reconnect commanded added opened dial lost line ask_push ask_pull resume voted settled ordered stepped is_valid next_of digits

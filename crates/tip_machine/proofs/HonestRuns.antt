@@ -13,10 +13,10 @@ use Rattle.tip_machine.specs.Requests.{added, opened, dial, lost, line, ask_push
 use Rattle.tip_machine.specs.Order.{ordered}
 use Rattle.tip_machine.specs.Honest.{is_run}
 use Rattle.tip_machine.specs.Moves.{fresh, stepped}
-use Rattle.tip_machine.specs.Scripts.{Each, Example, IsHonestRun, moves_of}
+use Rattle.tip_machine.specs.Examples.Scripts.{Each, Example, IsHonestRun, moves_of}
 use Rattle.tip_machine.specs.Served.{everything}
 use Rattle.tip_machine.specs.Starting.{is_starting}
-use Rattle.tip_machine.specs.Worked.{worked}
+use Rattle.tip_machine.specs.Examples.{worked}
 use Rattle.tip_machine.proofs.Begun.{fresh_starts}
 use Rattle.tip_machine.proofs.Each.{each}
 

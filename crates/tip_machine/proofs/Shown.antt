@@ -10,8 +10,8 @@ use Rattle.tip_machine.specs.Commands.{make, identify, begin, push, pull, query,
 use Rattle.tip_machine.specs.Requests.{added, opened, dial, lost, line, ask_push, ask_pull, resume, voted, settled}
 use Rattle.tip_machine.specs.Order.{ordered}
 use Rattle.tip_machine.specs.Moves.{stepped}
-use Rattle.tip_machine.specs.Scripts.{Example, play}
-use Rattle.tip_machine.specs.Worked.{worked}
+use Rattle.tip_machine.specs.Examples.Scripts.{Example, play}
+use Rattle.tip_machine.specs.Examples.{worked}
 
 pub shown : map play worked ≡ map (λ (example : Example). example.shown) worked
 unfolding reply send react dispatch release abort commit promise leave finish settle ask gone fail closed wrong make identify begin push pull query reconnect commanded added opened dial lost line ask_push ask_pull resume voted settled ordered stepped is_valid next_of digits

@@ -14,14 +14,14 @@ use Rattle.tip_machine.specs.Requests.{added, opened, dial, lost, line, ask_push
 use Rattle.tip_machine.specs.Order.{ordered}
 use Rattle.tip_machine.specs.Given.{are_numbered}
 use Rattle.tip_machine.specs.Invariants.{IsSound, are_keyed, are_known_once}
-use Rattle.tip_machine.specs.Links.{have_roles, is_connected}
-use Rattle.tip_machine.specs.Parties.{are_out}
-use Rattle.tip_machine.specs.Phases.{is_transaction}
-use Rattle.tip_machine.specs.Stored.{are_stored}
+use Rattle.tip_machine.specs.Invariants.Links.{have_roles, is_connected}
+use Rattle.tip_machine.specs.Invariants.Parties.{are_out}
+use Rattle.tip_machine.specs.Invariants.Phases.{is_transaction}
+use Rattle.tip_machine.specs.Invariants.Stored.{are_stored}
 use Rattle.tip_machine.specs.Moves.{World, fresh, moved, stepped}
-use Rattle.tip_machine.specs.Scripts.{Each, Example, Line, Reaches, StaysSound, move_of}
+use Rattle.tip_machine.specs.Examples.Scripts.{Each, Example, Line, Reaches, StaysSound, move_of}
 use Rattle.tip_machine.specs.Served.{everything}
-use Rattle.tip_machine.specs.Worked.{worked}
+use Rattle.tip_machine.specs.Examples.{worked}
 use Rattle.tip_machine.proofs.Each.{each}
 
 -- the invariants as one test

@@ -18,8 +18,8 @@ use Rattle.tip_machine.specs.Alone.{AreAlone, IsAlone, is_early}
 use Rattle.tip_machine.specs.Connections.{first_side}
 use Rattle.tip_machine.specs.Given.{are_numbered}
 use Rattle.tip_machine.specs.Invariants.{IsSound}
-use Rattle.tip_machine.specs.Links.{is_connected, acts_as, is_on_none, is_same_side, link_on}
-use Rattle.tip_machine.specs.Links.Link.{Owes}
+use Rattle.tip_machine.specs.Invariants.Links.{is_connected, acts_as, is_on_none, is_same_side, link_on}
+use Rattle.tip_machine.specs.Invariants.Links.Link.{Owes}
 use Rattle.tip_machine.specs.Returns.{Back}
 use Rattle.tip_machine.specs.Moves.{Move, World, fresh, gone_for, led_to, lost_from, moved, renewed, restarted_from, rows_after, stepped}
 use Rattle.tip_machine.specs.Served.{today}

@@ -1,5 +1,7 @@
 -- AGREEMENT (ours, for RFC 2371, sections 10, 13 and 15): four sentences on the transaction of an identifier, over a run. They
 -- are read off what was shown, and off what was heard. They compute, so that the worked examples try them out.
+pub mod Verdicts
+pub mod Traces
 use Rattle.std.specs.Prelude.{◌≡◌, ℕ, ◌==◌, ◌&&◌, ◌||◌, not, Bool, true, false, List, [], ◌∷◌, ◌++◌, filter, filter_map, find, slice_get, Option, Some, None, is_none, is_some, option_map, if◌then◌else◌}
 use Rattle.std.specs.List.{flat_map, list_all, list_any}
 use Rattle.std.specs.Option.{option_and_then, option_map_or}
@@ -26,8 +28,8 @@ use Rattle.tip_machine.specs.Outputs.{Output}
 use Rattle.tip_machine.specs.States.{State, identified_by}
 use Rattle.tip_machine.specs.Returns.{is_nil}
 use Rattle.tip_machine.specs.Transactions.{has_id}
-use Rattle.tip_machine.specs.Traces.{Came, Moment, at_each, heard_in, shown_in}
-use Rattle.tip_machine.specs.Verdicts.{is_unanimous, is_commit, told}
+use Rattle.tip_machine.specs.Agreement.Traces.{Came, Moment, at_each, heard_in, shown_in}
+use Rattle.tip_machine.specs.Agreement.Verdicts.{is_unanimous, is_commit, told}
 use Rattle.tip_machine.specs.declared.answer.Item.{Item}
 use Rattle.tip_machine.specs.declared.answer.Item.TheVariants.{Say}
 use Rattle.tip_machine.specs.declared.answer.Said.TheVariants as said

@@ -1,16 +1,20 @@
 -- THE INVARIANTS of what a realm reaches (ours): what every rule may rely on, and leaves. They compute, so that the worked
 -- examples try them out in each of their states.
+pub mod Links
+pub mod Parties
+pub mod Phases
+pub mod Stored
 use Rattle.std.specs.Prelude.{◌≡◌, ◌&&◌, Bool, true, false, map, filter}
 use Rattle.std.specs.List.{list_all}
 use Rattle.tip_rows.specs.Keys.{is_same}
 use Rattle.tip_machine.specs.Types.{Transaction}
 use Rattle.tip_machine.specs.Given.{are_numbered, was_given}
-use Rattle.tip_machine.specs.Links.{are_distinct, have_roles, is_connected}
+use Rattle.tip_machine.specs.Invariants.Links.{are_distinct, have_roles, is_connected}
 use Rattle.tip_machine.specs.Moves.{World}
-use Rattle.tip_machine.specs.Parties.{are_out}
-use Rattle.tip_machine.specs.Phases.{is_transaction}
+use Rattle.tip_machine.specs.Invariants.Parties.{are_out}
+use Rattle.tip_machine.specs.Invariants.Phases.{is_transaction}
 use Rattle.tip_machine.specs.States.{State}
-use Rattle.tip_machine.specs.Stored.{are_stored}
+use Rattle.tip_machine.specs.Invariants.Stored.{are_stored}
 use Rattle.tip_machine.specs.Transactions.{comes_from, is_undecided}
 use Rattle.tip_machine.specs.declared.transaction.Origin.{Origin}
 use Rattle.tip_machine.specs.declared.transaction.Origin.TheVariants as origin

@@ -1,13 +1,13 @@
 //! Worked examples of the machine, over its definitions alone: what short scripts show, and what holds of them.
 ghost use Rattle.std.specs.Prelude.{◌≡◌, codes, false, map};
 ghost use Rattle.tip_machine.specs.Agreement.{is_asked, is_backed, is_kept, is_one};
-ghost use Rattle.tip_machine.specs.Commits.{late, one_part_says_no, two_parts};
-ghost use Rattle.tip_machine.specs.Failures.{part_lost};
+ghost use Rattle.tip_machine.specs.Examples.Commits.{late, one_part_says_no, two_parts};
+ghost use Rattle.tip_machine.specs.Examples.Failures.{part_lost};
 ghost use Rattle.tip_machine.specs.Moves.{fresh};
-ghost use Rattle.tip_machine.specs.Scripts.{IsNeverHalf, Each, IsHonestRun, StaysSound, id, play, trace_of};
-ghost use Rattle.tip_machine.specs.Traces.{at_each};
-ghost use Rattle.tip_machine.specs.Twins.{committed, denied, forged, never_asked, never_done, never_stored, told_both, unheard_at};
-ghost use Rattle.tip_machine.specs.Worked.{worked};
+ghost use Rattle.tip_machine.specs.Examples.Scripts.{IsNeverHalf, Each, IsHonestRun, StaysSound, id, play, trace_of};
+ghost use Rattle.tip_machine.specs.Agreement.Traces.{at_each};
+ghost use Rattle.tip_machine.specs.Examples.Twins.{committed, denied, forged, never_asked, never_done, never_stored, told_both, unheard_at};
+ghost use Rattle.tip_machine.specs.Examples.{worked};
 
 /// What each script is said to show is what the definitions compute.
 pub fn each_shows_what_it_says()

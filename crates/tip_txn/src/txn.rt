@@ -54,11 +54,7 @@ impl<A: Allocator> Txn<A> {
     }
 
     /// The transaction of a stored row: each party said yes, and no subordinate has acknowledged.
-    pub fn of(
-        alloc: A,
-        phase: Phase,
-        subordinates: &[(Address, Id)],
-    ) -> Result<Txn<A>, AllocError>
+    pub fn of(alloc: A, phase: Phase, subordinates: &[(Address, Id)]) -> Result<Txn<A>, AllocError>
         ensures { IfOk result (λ txn. txn ≡ recovered phase subordinates.now) }
     {
         let mut others = Vec::with_capacity(alloc, subordinates.len())?;

@@ -15,9 +15,9 @@ use Rattle.tip_txn.specs.declared.answer.Phase.TheVariants.{Active, Asking, Prep
 use Rattle.tip_txn.specs.declared.part.Participant.{Participant}
 use Rattle.tip_machine.specs.Types.{Connection, PartyPlace, Transaction}
 use Rattle.tip_machine.specs.Connections.{is_on, is_part_of, is_superior_of}
-use Rattle.tip_machine.specs.Links.{Link, link}
-use Rattle.tip_machine.specs.Links.Link.{Gone, Owes, Awaits}
-use Rattle.tip_machine.specs.Parties.{are_unasked, has_left, has_promised, is_its_own}
+use Rattle.tip_machine.specs.Invariants.Links.{Link, link}
+use Rattle.tip_machine.specs.Invariants.Links.Link.{Gone, Owes, Awaits}
+use Rattle.tip_machine.specs.Invariants.Parties.{are_unasked, has_left, has_promised, is_its_own}
 use Rattle.tip_machine.specs.States.{State}
 use Rattle.tip_machine.specs.Transactions.{is_yes, decision_of, is_spent}
 use Rattle.tip_machine.specs.declared.connection.Awaited.TheVariants as awaited

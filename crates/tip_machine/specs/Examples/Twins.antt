@@ -5,8 +5,8 @@ use Rattle.tip_branch.specs.declared.branch.Settled.TheVariants.{Done, Later}
 use Rattle.tip_branch.specs.declared.member.Call.TheVariants as call
 use Rattle.tip_line.specs.declared.refusal.Refusal.TheVariants.{Busy}
 use Rattle.tip_machine.specs.Outputs.{Output}
-use Rattle.tip_machine.specs.Scripts.{ask, say}
-use Rattle.tip_machine.specs.Traces.{Moment}
+use Rattle.tip_machine.specs.Examples.Scripts.{ask, say}
+use Rattle.tip_machine.specs.Agreement.Traces.{Moment}
 use Rattle.tip_machine.specs.declared.answer.Asked.TheVariants as asked
 use Rattle.tip_machine.specs.declared.answer.Item.{Item}
 use Rattle.tip_machine.specs.declared.answer.Item.TheVariants.{Say, Ask}

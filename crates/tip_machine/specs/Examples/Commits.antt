@@ -9,7 +9,7 @@ use Rattle.tip_line.specs.declared.refusal.Refusal.TheVariants as refusal
 use Rattle.tip_line.specs.declared.response.Response.TheVariants as response
 use Rattle.tip_rows.specs.declared.row.Row.TheVariants as row
 use Rattle.tip_machine.specs.Outputs.{Output}
-use Rattle.tip_machine.specs.Scripts.{Example, Line, ask, at, connected, connects, dials, hears, hears_back, id, key, late_box, name, no, north, north_with, pulls, pushes, put, read_only, remove, resumes, say, t, yes}
+use Rattle.tip_machine.specs.Examples.Scripts.{Example, Line, ask, at, connected, connects, dials, hears, hears_back, id, key, late_box, name, no, north, north_with, pulls, pushes, put, read_only, remove, resumes, say, t, yes}
 use Rattle.tip_machine.specs.declared.answer.Asked.TheVariants as asked
 use Rattle.tip_machine.specs.declared.answer.Said.TheVariants as said
 use Rattle.tip_machine.specs.declared.connection.Purpose.TheVariants as purpose

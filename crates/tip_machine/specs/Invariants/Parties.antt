@@ -9,7 +9,7 @@ use Rattle.tip_branch.specs.declared.member.Errand.{Errand}
 use Rattle.tip_branch.specs.declared.member.Errand.TheVariants as errand
 use Rattle.tip_branch.specs.declared.member.Member.{Member}
 use Rattle.tip_machine.specs.Types.{PartyPlace, Transaction}
-use Rattle.tip_machine.specs.Links.{are_distinct}
+use Rattle.tip_machine.specs.Invariants.Links.{are_distinct}
 use Rattle.tip_machine.specs.Requests.{owner}
 use Rattle.tip_machine.specs.States.{State}
 use Rattle.tip_machine.specs.Transactions.{has_id, has_ready}

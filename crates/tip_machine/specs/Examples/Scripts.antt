@@ -30,7 +30,7 @@ use Rattle.tip_machine.specs.Returns.{Back, event_of}
 use Rattle.tip_machine.specs.Served.{everything}
 use Rattle.tip_machine.specs.Starting.{IsStart}
 use Rattle.tip_machine.specs.Steps.{wants_serving}
-use Rattle.tip_machine.specs.Traces.{Moment, traced}
+use Rattle.tip_machine.specs.Agreement.Traces.{Moment, traced}
 use Rattle.tip_machine.specs.declared.answer.Asked.{Asked}
 use Rattle.tip_machine.specs.declared.answer.Item.TheVariants.{Say, Ask, Close}
 use Rattle.tip_machine.specs.declared.answer.Said.{Said}
