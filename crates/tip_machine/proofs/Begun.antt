@@ -1,5 +1,5 @@
 -- A realm that has stored nothing starts.
-use Rattle.std.proofs.Common.{◌≡◌, true, ℕ, [], arith, refl}
+use Rattle.std.proofs.Common.{◌≡◌, true, [], arith, refl}
 use Rattle.tip_machine.specs.Moves.{fresh}
 use Rattle.tip_machine.specs.Starting.{IsStart, is_starting}
 use Rattle.tip_machine.specs.declared.head.Head.{Head}

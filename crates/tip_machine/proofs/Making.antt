@@ -1,7 +1,5 @@
 -- Keys that were given stay so over whole runs, so that none is made twice.
-use Rattle.std.proofs.Common.{◌≡◌, ◌<◌, ℕ, Bool, true, false, List, [], ◌∷◌, Option, None, refl, ap, arith, sym, ◌∙◌}
-use Rattle.std.specs.Prelude.{◌&&◌, ◌+◌}
-use Rattle.std.proofs.lemmas.Bool.{and_parts}
+use Rattle.std.proofs.Common.{◌≡◌, true, List, [], ◌∷◌, arith}
 use Rattle.tip_branch.specs.Notes.{PartyNotes}
 use Rattle.tip_branch.specs.declared.branch.Badge.{Badge}
 use Rattle.tip_rows.specs.Keys.{Place as Key}

@@ -1,6 +1,6 @@
 -- HONEST RUNS (ours): what is chosen from outside, and what the machine computes. Chosen are the other managers' lines, boxes
 -- and what their branches answer, what becomes of a change, and which errand is lost. All else follows.
-use Rattle.std.specs.Prelude.{◌&&◌, nat_lt, Bool, true, false, List, [], ◌∷◌, Option, Some, None}
+use Rattle.std.specs.Prelude.{◌&&◌, nat_lt, Bool, true, false, List, [], ◌∷◌}
 use Rattle.tip_branch.specs.Notes.{PartyNotes}
 use Rattle.tip_branch.specs.declared.branch.Badge.{Badge}
 use Rattle.tip_rows.specs.Keys.{Place as Key}

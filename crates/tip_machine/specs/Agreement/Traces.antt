@@ -1,7 +1,6 @@
 -- A run, move by move (ours): what agreement is read off.
-use Rattle.std.specs.Prelude.{ℕ, ◌==◌, ◌&&◌, not, Bool, true, false, List, [], ◌∷◌, ◌++◌, Option, Some, None, if◌then◌else◌}
+use Rattle.std.specs.Prelude.{◌&&◌, Bool, true, false, List, [], ◌∷◌, ◌++◌, Option, Some, None, if◌then◌else◌}
 use Rattle.std.specs.List.{flat_map, list_any}
-use Rattle.std.specs.Option.{option_and_then}
 use Rattle.tip_line.specs.declared.response.Response.{Response}
 use Rattle.tip_machine.specs.Moves.{Move, World, moved}
 use Rattle.tip_machine.specs.Outputs.{Output}

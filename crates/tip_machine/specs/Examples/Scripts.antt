@@ -1,6 +1,6 @@
 -- Scripts of one realm in short, by which the definitions are tried out (`Commits`, `Failures`). Branches do as their plans
 -- promise.
-use Rattle.std.specs.Prelude.{◌≡◌, ℕ, ◌&&◌, Bool, true, List, [], ◌∷◌, ◌++◌, length, map, filter, take, codes, Option, Some, None, unwrap_or, if◌then◌else◌}
+use Rattle.std.specs.Prelude.{◌≡◌, ℕ, true, List, [], ◌∷◌, ◌++◌, length, map, filter, take, codes, Option, Some, None, unwrap_or, if◌then◌else◌}
 use Rattle.tip_branch.specs.Members.{is_active, is_no, is_ready, promised_answer}
 use Rattle.tip_branch.specs.Notes.{PartyNotes}
 use Rattle.tip_branch.specs.Plans.{planned_vote}
