@@ -75,7 +75,7 @@ module _ (R : Key → Work → Work → Type 0) (May : ℕ → Type 0) (k : (key
   pull_if-goes : (found : Option Transaction) (superior : List ℕ) (c : Connection) → May c.number → connection_of c.number w.state ≡ Some c → Q (Attempt.Done (pull_if found superior c w))
   pull_if-goes None superior c may is =
       let key = next_key w.state.head c in
-      which (has_room c w.state) _ _ (done key _ ((k key).then w _ _ ((k key).makes (origin.Subordinate c.peer superior) c w may refl is) (send-keeps (R key) May (Is key) (k key) c.number _ _ _ may))) (refused Full)
+      which (has_room c w.state) _ _ (done key _ ((k key).then w _ _ ((k key).makes (origin.Subordinate c.peer superior) c w may refl is) (send-keeps (R key) May (Is key) (k key) c.number _ _ _ may refl))) (refused Full)
   pull_if-goes (Some t) superior c may is = refused Known
 
   ask_pull-goes : (found : Option Connection) (may : IfSome found (λ c. May c.number)) (superior : List ℕ) → IsThere found w.state → Q (Attempt.Done (ask_pull found superior w))
@@ -89,7 +89,7 @@ module _ (R : Key → Work → Work → Type 0) (May : ℕ → Type 0) (k : (key
     push_part-goes None n may = refused NotActive
     push_part-goes (Some address) n may =
         which (is_active t.phase) _ _
-        (done t.key _ ((k t.key).then w _ _ (send-keeps (R t.key) May (Is t.key) (k t.key) n _ _ w may) ((k t.key).then _ _ _ (enlisting-keeps (R t.key) May (Is t.key) (k t.key) _ t.key _ refl) (taking-keeps (R t.key) May (Is t.key) (k t.key) n _ _ may))))
+        (done t.key _ ((k t.key).then w _ _ (send-keeps (R t.key) May (Is t.key) (k t.key) n _ _ w may refl) ((k t.key).then _ _ _ (enlisting-keeps (R t.key) May (Is t.key) (k t.key) _ t.key _ refl) (taking-keeps (R t.key) May (Is t.key) (k t.key) n _ _ may))))
         (refused NotActive)
 
     resume_in-goes : (place : PartyPlace) → Q (resume_in place t w)

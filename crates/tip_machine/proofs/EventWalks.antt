@@ -60,7 +60,7 @@ module _ (R : Work → Work → Type 0) (May : ℕ → Type 0) (On : Key → Typ
 
     ask_superior-keeps : (from : Origin) (key : Key) (w : Work) → R w (ask_superior from key c w)
     ask_superior-keeps origin.Root key w = hang_up-keeps w
-    ask_superior-keeps (origin.Subordinate address superior) key w = send-keeps R May On k c.number _ _ w may
+    ask_superior-keeps (origin.Subordinate address superior) key w = send-keeps R May On k c.number _ _ w may tt
 
     query_for-keeps : (found : Option Transaction) (w : Work) → R w (query_for found c w)
     query_for-keeps None w = hang_up-keeps w
@@ -68,7 +68,7 @@ module _ (R : Work → Work → Type 0) (May : ℕ → Type 0) (On : Key → Typ
 
     reach_by-keeps : (id : Option (List ℕ)) (part : ℕ) (key : Key) (w : Work) → R w (reach_by id part key c w)
     reach_by-keeps None part key w = hang_up-keeps w
-    reach_by-keeps (Some id) part key w = k.then w _ _ (send-keeps R May On k c.number _ _ w may) (taking-keeps R May On k c.number _ _ may)
+    reach_by-keeps (Some id) part key w = k.then w _ _ (send-keeps R May On k c.number _ _ w may tt) (taking-keeps R May On k c.number _ _ may)
 
     reach-keeps : (s : Option (ℕ × Participant)) (key : Key) (w : Work) → R w (reach s key c w)
     reach-keeps None key w = hang_up-keeps w

@@ -183,7 +183,8 @@ module _ (key : Key) where
   closed_by_counts on = record {
     same = λ w. still key w.state;
     then = λ a b c f g. goes_on key a.state b.state c.state f g;
-    tells = λ w told. still key w.state;
+    tells = λ n item w may of. still key w.state;
+    dismisses = λ at c w v is found counts. goes_on key w.state v.state _ counts (still key v.state);
     works = λ w party. still key w.state;
     spends = λ w party. still key w.state;
     hands = λ w boxes. still key w.state;
@@ -191,7 +192,7 @@ module _ (key : Key) where
     ends = λ at w is. transacts key w.state (without (has_key at) w.state.transactions) (none-without (has_key key) (has_key at) w.state.transactions);
     makes = λ from c w may is found. has_made from c w found;
     changes = λ n f w may same made. changed_at key n f w.state same (to_make_alike key f same made);
-    reacts = λ reaction at w is. has_reacted key reaction at w.state;
+    reacts = λ reaction at w plain is. has_reacted key reaction at w.state;
     takes = λ n w may. taken key n w.state;
     displaces = λ at c w v is found counts. goes_on key w.state v.state _ counts (taken key c.number v.state);
   }

@@ -35,7 +35,8 @@ unfolding react make
 closed_by_keeps key = record {
   same = λ w. keeps_same w w refl refl refl;
   then = λ a b c f g. keeps_same a c (g.head ∙ f.head) (g.refusal ∙ f.refusal) (g.opened ∙ f.opened);
-  tells = λ w told. keeps_same w _ refl refl refl;
+  tells = λ n item w may of. keeps_same w _ refl refl refl;
+  dismisses = λ other c w v on found keeps. keeps_same w _ keeps.head keeps.refusal keeps.opened;
   works = λ w party. keeps_same w _ refl refl refl;
   spends = λ w party. keeps_same w _ refl refl refl;
   hands = λ w boxes. keeps_same w _ refl refl refl;
@@ -43,7 +44,7 @@ closed_by_keeps key = record {
   ends = λ other w on. keeps_same w _ refl refl refl;
   makes = λ from c w m on is. keeps_same w _ refl refl refl;
   changes = λ n f w m same made. keeps_same w _ refl refl refl;
-  reacts = λ reaction other w on. keeps_same w _ refl refl refl;
+  reacts = λ reaction other w plain on. keeps_same w _ refl refl refl;
   takes = λ n w m. keeps_same w _ refl refl refl;
   displaces = λ other c w v on found keeps. keeps_same w _ keeps.head keeps.refusal keeps.opened;
 }

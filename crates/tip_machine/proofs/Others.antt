@@ -1,29 +1,38 @@
 -- The transactions and the connections that a step leaves alone.
 use Rattle.std.proofs.Common.{◌≡◌, ◌≢◌, Bool, true, false, ℕ, ◌+◌, List, [], ◌∷◌, ◌++◌, Option, Some, None, cond, refl, ap, arith, sym, ◌∙◌, subst}
-use Rattle.std.specs.Prelude.{◌&&◌, ◌==◌, find, length, map, take}
-use Rattle.std.specs.List.{list_any}
+use Rattle.std.specs.Prelude.{◌&&◌, ◌==◌, find, is_none, length, map, nat_le, take}
+use Rattle.std.specs.List.{flat_map, list_any}
 use Rattle.std.specs.Option.{IfSome, option_map_or}
 use Rattle.std.proofs.lemmas.Bool.{and_left, or_parts}
 use Rattle.std.proofs.lemmas.Bool.Decides.{nat_tests}
 use Rattle.std.proofs.lemmas.Option.{same_Some, none-some}
 use Rattle.tip_branch.specs.declared.branch.Badge.{Badge}
+use Rattle.std.proofs.lemmas.List.{append-nil, append_assoc}
+use Rattle.tip_conn.specs.declared.state.State.{State as ConnectionState}
+use Rattle.tip_conn.specs.declared.state.State.TheVariants.{Initial, Idle, Begun, Enlisted, Prepared, Error}
 use Rattle.tip_line.specs.declared.command.CommandName.{CommandName}
+use Rattle.tip_line.specs.declared.refusal.Refusal.TheVariants.{Frozen}
 use Rattle.tip_line.specs.declared.response.ResponseName.{ResponseName}
 use Rattle.tip_rows.specs.Keys.{Place as Key, is_same}
 use Rattle.tip_rows.proofs.OrderLemmas.{same_place}
 use Rattle.tip_table.specs.Lists.{changed, without}
 use Rattle.tip_machine.specs.Types.{Answer, Connection, Event, Transaction}
-use Rattle.tip_machine.specs.Answers.{response_name}
+use Rattle.tip_machine.specs.Answers.{key_asked, key_in, key_said, response_name}
 use Rattle.tip_machine.specs.Connections.{accepted, asks_for, awaiting, dialled, has_number, is_on, is_superior_of, advanced, names}
 use Rattle.tip_machine.specs.Transactions.{begun, has_key, next_key}
 use Rattle.tip_machine.specs.States.{State, Work, connection_of, has_place, seated, transaction_of}
-use Rattle.tip_machine.specs.Changes.{alter, change, end}
+use Rattle.tip_machine.specs.Changes.{alter, change, end, tell}
 use Rattle.tip_machine.specs.Commands.{make, making}
-use Rattle.tip_machine.specs.Order.{ordered}
-use Rattle.tip_machine.specs.Reactions.{Reacted, Reaction, answers, demanded_as, demands, react, reacted, reacts, stays}
+use Rattle.tip_machine.specs.Order.{in_turn, ordered, put_in, turn}
+use Rattle.tip_machine.specs.Reactions.{Demand, Reacted, Reaction, answers, demanded, demanded_as, demands, react, reacted, reacts, stays, told_by}
 use Rattle.tip_machine.specs.Requests.{added, dial, opened}
 use Rattle.tip_machine.specs.Served.{Serving}
-use Rattle.tip_machine.specs.Steps.{attempt, chosen, entered, frozen, is_open, step_serving, IsOff, Names, TouchesOne}
+use Rattle.tip_machine.specs.Steps.{attempt, chosen, entered, frozen, is_for, is_open, step_serving, AreOf, IsOff, Names, TellsOfOne, TouchesOne}
+use Rattle.tip_machine.specs.declared.answer.Asked.TheVariants as asked
+use Rattle.tip_machine.specs.declared.answer.Item.{Item}
+use Rattle.tip_machine.specs.declared.answer.Item.TheVariants.{Ask, Close}
+use Rattle.tip_machine.specs.declared.answer.Said.{Said}
+use Rattle.tip_machine.specs.declared.answer.Told.{Told}
 use Rattle.tip_machine.specs.declared.connection.Awaited.{Awaited}
 use Rattle.tip_machine.specs.declared.connection.Purpose.{Purpose}
 use Rattle.tip_machine.specs.declared.connection.Role.{Role}
@@ -32,10 +41,11 @@ use Rattle.tip_machine.specs.declared.event.Event.TheVariants.{Open, Dial}
 use Rattle.tip_machine.specs.declared.event.Outcome.{Outcome}
 use Rattle.tip_machine.specs.declared.event.Seat.{Seat}
 use Rattle.tip_machine.specs.declared.transaction.Origin.{Origin}
-use Rattle.tip_machine.proofs.Walks.{AtOne, Closed, Ends, Is, chosen_ends, either, more_ends, or_any, seated-number}
+use Rattle.tip_machine.proofs.Walks.{AtOne, Closed, Ends, Is, IsPlain, chosen_ends, either, more_ends, or_any, seated-number}
 use Rattle.tip_machine.proofs.Lists.{find-added, find-changed, find-without, none-changed, none-map, none-without}
 use Rattle.tip_machine.proofs.RuleWalks.{advanced-number}
 use Rattle.tip_machine.proofs.AttemptWalks.{attempt-goes, each_event, is_opening}
+use Rattle.tip_machine.proofs.Stepping.{returned-silent}
 
 -- Keys and numbers
 
@@ -133,63 +143,157 @@ superior-other key n (d ∷ cs) c off is =
 
 -- Rules
 
--- connections that the event does not name, and that are off the transaction, stay so
+-- connections that the event does not name, and that are off the transaction, stay so and are told nothing
 record Leaves (event : Event) (key : Key) (w v : Work) : Type 0 where
   transactions : (other : Key) → is_same key other ≡ false → transaction_of other v.state ≡ transaction_of other w.state
   connections : (n : ℕ) → ¬ Names event n → IsOff key n w.state → (connection_of n v.state ≡ connection_of n w.state) × IsOff key n v.state
+  -- what is told
+  new : List Told
+  told : v.answer.told ≡ w.answer.told ++ new
+  named : AreOf key new
+  quiet : (n : ℕ) → ¬ Names event n → IsOff key n w.state → list_any (is_for n) new ≡ false
+
+-- Lines
+
+of_append : (key : Key) (xs ys : List Told) → AreOf key xs → AreOf key ys → AreOf key (xs ++ ys)
+of_append key [] ys these those = those
+of_append key (x ∷ xs) ys these those = (these.0, of_append key xs ys these.1 those)
+
+any_append : (n : ℕ) (xs ys : List Told) → list_any (is_for n) xs ≡ false → list_any (is_for n) ys ≡ false → list_any (is_for n) (xs ++ ys) ≡ false
+any_append n [] ys these those = those
+any_append n (x ∷ xs) ys these those = let parts = or_parts (is_for n x) (list_any (is_for n) xs) these in rw (parts.0, any_append n xs ys parts.1 those) refl
+
+-- one line on another connection
+one_apart : (n other : ℕ) (item : Item) → other ≢ n → list_any (is_for other) (record { connection = n; item = item } ∷ []) ≡ false
+one_apart n other item differ = grind (arith, nat_tests)
+
+none_of : (key : Key) (o : Option Key) → o ≡ None → IfSome o (λ named. named ≡ key)
+none_of key None is = tt
+none_of key (Some k) is = absurd (none-some k (sym is))
+
+some_of : (key : Key) (o : Option Key) → o ≡ Some key → IfSome o (λ named. named ≡ key)
+some_of key None is = tt
+some_of key (Some k) is = same_Some k key is
+
+abbrev lines_on : Connection → List Item → List Told
+lines_on c items = map (λ item. record { connection = c.number; item = item }) items
+
+lines_apart : (n : ℕ) (c : Connection) (items : List Item) → has_number n c ≡ false → list_any (is_for n) (lines_on c items) ≡ false
+lines_apart n c [] differ = refl
+lines_apart n c (item ∷ items) differ = rw (differ, lines_apart n c items differ) refl
+
+left_off : (test : Bool) → test && true ≡ false → test ≡ false
+left_off true off = absurd (cc)
+left_off false off = refl
+
+module _ (reaction : Reaction) (plain : IsPlain reaction) (key : Key) where
+  said_of : (command : CommandName) (c : Connection) (o : Option Said) → IfSome o (λ said. key_said said ≡ None) → AreOf key (lines_on c (option_map_or (answers command c) o (stays c)).items)
+  said_of command c None is = tt
+  said_of command c (Some said) is = (none_of key (key_said said) is, tt)
+
+  asked_of : (c : Connection) (o : Option Demand) → IfSome o (λ demand. key_asked (demand.asked key) ≡ Some key) → AreOf key (lines_on c (option_map_or (demands key c) o (stays c)).items)
+  asked_of c None is = tt
+  asked_of c (Some demand) is = (some_of key (key_asked (demand.asked key)) is, tt)
+
+  demanded_in : (state : ConnectionState) → IfSome (demanded reaction state) (λ demand. key_asked (demand.asked key) ≡ Some key)
+  demanded_in Initial = tt
+  demanded_in Idle = tt
+  demanded_in Begun = tt
+  demanded_in Enlisted = plain.enlisted key
+  demanded_in Prepared = plain.prepared key
+  demanded_in Error = tt
+
+  demanded_if : (b : Bool) (state : ConnectionState) → IfSome (cond b (demanded reaction state) None) (λ demand. key_asked (demand.asked key) ≡ Some key)
+  demanded_if true state = demanded_in state
+  demanded_if false state = tt
+
+  demanded_of : (role : Option Role) (c : Connection) → IfSome (demanded_as reaction role c) (λ demand. key_asked (demand.asked key) ≡ Some key)
+  demanded_of None c = tt
+  demanded_of (Some (Superior other)) c = tt
+  demanded_of (Some (Subordinate other part)) c = demanded_if (is_none c.awaited) c.state
+
+  reacts_of : (owed : Option CommandName) (c : Connection) → AreOf key (lines_on c (reacts reaction key owed c).items)
+  reacts_of (Some command) c = said_of command c (reaction.owed command) (plain.owed command)
+  reacts_of None c = asked_of c (demanded_as reaction c.role c) (demanded_of c.role c)
+
+  reacted_if : (b : Bool) (c : Connection) → AreOf key (lines_on c (cond b (reacts reaction key c.owed c) (stays c)).items)
+  reacted_if true c = reacts_of c.owed c
+  reacted_if false c = tt
+
+  reacted_of : (cs : List Connection) → AreOf key (flat_map (told_by reaction key) cs)
+  reacted_of [] = tt
+  reacted_of (c ∷ cs) = of_append key (told_by reaction key c) (flat_map (told_by reaction key) cs) (reacted_if (is_on key c) c) (reacted_of cs)
+
+  quiet_if : (n : ℕ) (b : Bool) (c : Connection) → has_number n c && b ≡ false → list_any (is_for n) (lines_on c (cond b (reacts reaction key c.owed c) (stays c)).items) ≡ false
+  quiet_if n true c off = lines_apart n c (reacts reaction key c.owed c).items (left_off (has_number n c) off)
+  quiet_if n false c off = refl
+
+  quiet_reacted : (n : ℕ) (cs : List Connection) → list_any (is_there key n) cs ≡ false → list_any (is_for n) (flat_map (told_by reaction key) cs) ≡ false
+  quiet_reacted n [] off = refl
+  quiet_reacted n (c ∷ cs) off =
+      let parts = or_parts (is_there key n c) (list_any (is_there key n) cs) off in
+      any_append n (told_by reaction key c) (flat_map (told_by reaction key) cs) (quiet_if n (is_on key c) c parts.0) (quiet_reacted n cs parts.1)
 
 module _ (event : Event) (key : Key) where
-  says : (w : Work) (answer : Answer) → Leaves event key w (record w { answer = answer })
-  says w answer = record { transactions = λ other differ. refl; connections = λ n unnamed off. (refl, off) }
+  -- where nothing is told
+  still : (w v : Work) → v.answer.told ≡ w.answer.told → ((other : Key) → is_same key other ≡ false → transaction_of other v.state ≡ transaction_of other w.state) → ((n : ℕ) → ¬ Names event n → IsOff key n w.state → (connection_of n v.state ≡ connection_of n w.state) × IsOff key n v.state) → Leaves event key w v
+  still w v same transactions connections = record {
+    transactions = transactions;
+    connections = connections;
+    new = [];
+    told = same ∙ sym (append-nil w.answer.told);
+    named = tt;
+    quiet = λ n unnamed off. refl;
+  }
+
+  says : (w : Work) (answer : Answer) → answer.told ≡ w.answer.told → Leaves event key w (record w { answer = answer })
+  says w answer same = still w _ same (λ other differ. refl) (λ n unnamed off. (refl, off))
 
   goes_on : (a b c : Work) → Leaves event key a b → Leaves event key b c → Leaves event key a c
   goes_on a b c f g = record {
     transactions = λ other differ. g.transactions other differ ∙ f.transactions other differ;
     connections = λ n unnamed off. let first = f.connections n unnamed off in let second = g.connections n unnamed first.1 in (second.0 ∙ first.0, second.1);
+    new = f.new ++ g.new;
+    told = g.told ∙ ap (λ ts. ts ++ g.new) f.told ∙ append_assoc a.answer.told f.new g.new;
+    named = of_append key f.new g.new f.named g.named;
+    quiet = λ n unnamed off. any_append n f.new g.new (f.quiet n unnamed off) (g.quiet n unnamed (f.connections n unnamed off).1);
   }
 
   altered : (f : Transaction → Transaction) (w : Work) → ((t : Transaction) → (f t).key ≡ t.key) → Leaves event key w (alter key f w)
-  altered f w same = record {
-    transactions = λ other differ. find-changed (has_key other) (has_key key) f w.state.transactions (λ t is. let at = sym (same_place key t.key is) in (key_apart key other t.key at differ, key_apart key other (f t).key (same t ∙ at) differ));
-    connections = λ n unnamed off. (refl, off);
-  }
+  altered f w same =
+      still w _ refl
+      (λ other differ. find-changed (has_key other) (has_key key) f w.state.transactions (λ t is. let at = sym (same_place key t.key is) in (key_apart key other t.key at differ, key_apart key other (f t).key (same t ∙ at) differ)))
+      (λ n unnamed off. (refl, off))
 
   ended : (w : Work) → Leaves event key w (end key w)
-  ended w = record {
-    transactions = λ other differ. find-without (has_key other) (has_key key) w.state.transactions (λ t is. key_apart key other t.key (sym (same_place key t.key is)) differ);
-    connections = λ n unnamed off. (refl, off);
-  }
+  ended w =
+      still w _ refl
+      (λ other differ. find-without (has_key other) (has_key key) w.state.transactions (λ t is. key_apart key other t.key (sym (same_place key t.key is)) differ))
+      (λ n unnamed off. (refl, off))
 
   added_to : (t : Transaction) (w : Work) → t.key ≡ key → Leaves event key w (record w { state = record w.state { transactions = w.state.transactions ++ t ∷ [] } })
-  added_to t w is = record {
-    transactions = λ other differ. find-added (has_key other) w.state.transactions t (key_apart key other t.key is differ);
-    connections = λ n unnamed off. (refl, off);
-  }
+  added_to t w is = still w _ refl (λ other differ. find-added (has_key other) w.state.transactions t (key_apart key other t.key is differ)) (λ n unnamed off. (refl, off))
 
   unnamed_other : (n other : ℕ) → Names event n → ¬ Names event other → other ≢ n
   unnamed_other n other named unnamed = λ same. unnamed (subst (Names event) (sym same) named)
 
   changed_at : (n : ℕ) (f : Connection → Connection) (w : Work) → Names event n → ((c : Connection) → (f c).number ≡ c.number) → Leaves event key w (record w { state = record w.state { connections = changed (has_number n) f w.state.connections } })
-  changed_at n f w named same = record {
-    transactions = λ other differ. refl;
-    connections = λ other unnamed off.
-        let differ = unnamed_other n other named unnamed in
-        let apart : (c : Connection) → has_number n c ≡ true → has_number other c ≡ false = λ c is. number_apart n other c differ is in
-        let after : (c : Connection) → has_number n c ≡ true → has_number other (f c) ≡ false = λ c is. ap (λ m. m == other) (same c) ∙ apart c is in (
-          find-changed (has_number other) (has_number n) f w.state.connections (λ c is. (apart c is, after c is)),
-          none-changed (is_there key other) (has_number n) f w.state.connections (λ c is none. and_left (has_number other (f c)) (is_on key (f c)) (after c is)) off,
-        );
-  }
+  changed_at n f w named same =
+      still w _ refl (λ other differ. refl)
+      (λ other unnamed off.
+          let differ = unnamed_other n other named unnamed in
+          let apart : (c : Connection) → has_number n c ≡ true → has_number other c ≡ false = λ c is. number_apart n other c differ is in
+          let after : (c : Connection) → has_number n c ≡ true → has_number other (f c) ≡ false = λ c is. ap (λ m. m == other) (same c) ∙ apart c is in (
+            find-changed (has_number other) (has_number n) f w.state.connections (λ c is. (apart c is, after c is)),
+            none-changed (is_there key other) (has_number n) f w.state.connections (λ c is none. and_left (has_number other (f c)) (is_on key (f c)) (after c is)) off,
+          ))
 
   -- taken out: one that others differ from
   taken_out : (n other : ℕ) (cs : List Connection) → other ≢ n → list_any (is_there key other) cs ≡ false → (find (has_number other) (without (has_number n) cs) ≡ find (has_number other) cs) × (list_any (is_there key other) (without (has_number n) cs) ≡ false)
   taken_out n other cs differ off = (find-without (has_number other) (has_number n) cs (λ c is. number_apart n other c differ is), none-without (is_there key other) (has_number n) cs off)
 
   taken : (n : ℕ) (w : Work) → Names event n → Leaves event key w (record w { state = record w.state { connections = without (has_number n) w.state.connections } })
-  taken n w named = record {
-    transactions = λ other differ. refl;
-    connections = λ other unnamed off. taken_out n other w.state.connections (unnamed_other n other named unnamed) off;
-  }
+  taken n w named = still w _ refl (λ other differ. refl) (λ other unnamed off. taken_out n other w.state.connections (unnamed_other n other named unnamed) off)
 
   displaced : (c : Connection) (w v : Work) → find (is_superior_of key) w.state.connections ≡ Some c → Leaves event key w v → Leaves event key w (record v { state = record v.state { connections = without (has_number c.number) v.state.connections } })
   displaced c w v is leaves = record {
@@ -198,13 +302,43 @@ module _ (event : Event) (key : Key) where
         let before = leaves.connections other unnamed off in
         let out = taken_out c.number other v.state.connections (superior-other key other w.state.connections c off is) before.1 in
         (out.0 ∙ before.0, out.1);
+    new = leaves.new;
+    told = leaves.told;
+    named = leaves.named;
+    quiet = leaves.quiet;
   }
 
-  has_reacted : (reaction : Reaction) (w : Work) → Leaves event key w (react reaction key w)
+  tells_one : (n : ℕ) (item : Item) (w : Work) → Names event n → IfSome (key_in item) (Is key) → Leaves event key w (tell n item w)
+  tells_one n item w named of = record {
+    transactions = λ other differ. refl;
+    connections = λ other unnamed off. (refl, off);
+    new = record { connection = n; item = item } ∷ [];
+    told = refl;
+    named = (of, tt);
+    quiet = λ other unnamed off. one_apart n other item (unnamed_other n other named unnamed);
+  }
+
+  dismissed : (c : Connection) (w v : Work) → find (is_superior_of key) w.state.connections ≡ Some c → Leaves event key w v → Leaves event key w (tell c.number Close v)
+  dismissed c w v is leaves =
+      let closing = record { connection = c.number; item = Close } ∷ [] in
+      record {
+        transactions = leaves.transactions;
+        connections = leaves.connections;
+        new = leaves.new ++ closing;
+        told = ap (λ ts. ts ++ closing) leaves.told ∙ append_assoc w.answer.told leaves.new closing;
+        named = of_append key leaves.new closing leaves.named (tt, tt);
+        quiet = λ other unnamed off. any_append other leaves.new closing (leaves.quiet other unnamed off) (one_apart c.number other Close (superior-other key other w.state.connections c off is));
+      }
+
+  has_reacted : (reaction : Reaction) → IsPlain reaction → (w : Work) → Leaves event key w (react reaction key w)
   unfolding react
-  has_reacted reaction w = record {
+  has_reacted reaction plain w = record {
     transactions = λ other differ. refl;
     connections = λ n unnamed off. (find-reacted key reaction n w.state.connections off, none-map (is_there key n) (λ c. (reacted reaction key c).connection) w.state.connections (become_off key reaction n) off);
+    new = flat_map (told_by reaction key) w.state.connections;
+    told = refl;
+    named = reacted_of reaction plain key w.state.connections;
+    quiet = λ n unnamed off. quiet_reacted reaction plain key n w.state.connections off;
   }
 
   has_made : (from : Origin) (c : Connection) (w : Work) → Names event c.number → next_key w.state.head c ≡ key → Leaves event key w (make from c w)
@@ -217,17 +351,18 @@ module _ (event : Event) (key : Key) where
 
   closed_by_leaves : Closed (Leaves event key) (Names event) (Is key)
   closed_by_leaves = record {
-    same = λ w. says w w.answer;
+    same = λ w. says w w.answer refl;
     then = goes_on;
-    tells = λ w told. says w _;
-    works = λ w party. says w _;
-    spends = λ w party. says w _;
-    hands = λ w boxes. says w _;
+    tells = tells_one;
+    dismisses = λ at c w v on is leaves. dismissed c w v (subst (λ p. find (is_superior_of p) w.state.connections ≡ Some c) on is) leaves;
+    works = λ w party. says w _ refl;
+    spends = λ w party. says w _ refl;
+    hands = λ w boxes. says w _ refl;
     alters = λ at f w on same. subst (λ p. Leaves event key w (alter p f w)) (sym on) (altered f w same);
     ends = λ at w on. subst (λ p. Leaves event key w (end p w)) (sym on) (ended w);
     makes = λ from c w named on is. has_made from c w named on;
     changes = λ n f w named same made. changed_at n f w named same;
-    reacts = λ reaction at w on. subst (λ p. Leaves event key w (react reaction p w)) (sym on) (has_reacted reaction w);
+    reacts = λ reaction at w plain on. subst (λ p. Leaves event key w (react reaction p w)) (sym on) (has_reacted reaction plain w);
     takes = taken;
     displaces = λ at c w v on is leaves. displaced c w v (subst (λ p. find (is_superior_of p) w.state.connections ≡ Some c) on is) leaves;
   }
@@ -235,46 +370,63 @@ module _ (event : Event) (key : Key) where
 -- Events
 
 abbrev Touches : Event → State → Work → Type 0
-Touches event state v = (key : Key) × TouchesOne key event state v.state
+Touches event state v = (key : Key) × TouchesOne key event state v.state × TellsOfOne key event state v.answer.told
 
-untouched : (event : Event) (old new : State) → new.connections ≡ old.connections → new.transactions ≡ old.transactions → (key : Key) × TouchesOne key event old new
-untouched event old new connections transactions = (
-  or_any None,
-  record {
-    transactions = λ other differ. ap (find (has_key other)) transactions;
-    connections = λ n le unnamed off. ap (find (has_number n)) connections;
-  },
-)
+nothing : (key : Key) (event : Event) (state : State) → TellsOfOne key event state []
+nothing key event state = record { named = tt; quiet = λ n le unnamed off. refl }
+
+untouched : (event : Event) (old new : State) → new.connections ≡ old.connections → new.transactions ≡ old.transactions → TouchesOne (or_any None) event old new
+untouched event old new connections transactions = record {
+  transactions = λ other differ. ap (find (has_key other)) transactions;
+  connections = λ n le unnamed off. ap (find (has_number n)) connections;
+}
+
+refused : (event : Event) (state : State) → Touches event state (entered state)
+refused event state = (or_any None, untouched event state (entered state).state refl refl, nothing (or_any None) event state)
 
 -- a connection more, with a number that was not given yet
-added-touches : (event : Event) (new : ℕ → Connection) (state : State) → ((n : ℕ) → (new n).number ≡ n) → Touches event state (added new (entered state))
+added-touches : (event : Event) (new : ℕ → Connection) (state : State) → ((n : ℕ) → (new n).number ≡ n) → TouchesOne (or_any None) event state (added new (entered state)).state
 unfolding added
-added-touches event new state numbered = (
-  or_any None,
-  record {
-    transactions = λ other differ. refl;
-    connections = λ n le unnamed off. let last = numbered (state.head.given + 1) in find-added (has_number n) state.connections (new (state.head.given + 1)) (grind (arith, nat_tests, last, le));
-  },
-)
+added-touches event new state numbered = record {
+  transactions = λ other differ. refl;
+  connections = λ n le unnamed off. let last = numbered (state.head.given + 1) in find-added (has_number n) state.connections (new (state.head.given + 1)) (grind (arith, nat_tests, last, le));
+}
 
 opened-touches : (event : Event) (boxes : List Badge) (state : State) → Touches event state (opened boxes (entered state))
-unfolding opened
-opened-touches event boxes state = either (Touches event state) (has_place (length boxes) (entered state).state) (added (accepted boxes) (entered state)) _ (added-touches event (accepted boxes) state (λ n. refl)) (untouched event state (entered state).state refl refl)
+unfolding opened added
+opened-touches event boxes state = either (Touches event state) (has_place (length boxes) (entered state).state) (added (accepted boxes) (entered state)) _ (or_any None, added-touches event (accepted boxes) state (λ n. refl), nothing (or_any None) event state) (refused event state)
+
+-- what we say on it is all that is told
+greets : (event : Event) (item : Item) (state : State) → key_in item ≡ None → TellsOfOne (or_any None) event state (record { connection = state.head.given + 1; item = item } ∷ [])
+greets event item state none = record {
+  named = (none_of (or_any None) (key_in item) none, tt);
+  quiet = λ n le unnamed off. one_apart (state.head.given + 1) n item (λ same. omega (arith, le, same));
+}
 
 dial-touches : (event : Event) (serves : Bool) (address : List ℕ) (purpose : Purpose) (boxes : List Badge) (state : State) → Touches event state (dial serves address purpose boxes (entered state))
-unfolding dial
-dial-touches event serves address purpose boxes state = either (Touches event state) (serves && has_place (length boxes) (entered state).state) _ _ (added-touches event (dialled address purpose boxes) state (λ n. refl)) (untouched event state (entered state).state refl refl)
+unfolding dial added
+dial-touches event serves address purpose boxes state = either (Touches event state) (serves && has_place (length boxes) (entered state).state) _ _ (or_any None, added-touches event (dialled address purpose boxes) state (λ n. refl), greets event (Ask (asked.Identify state.head.address address)) state refl) (refused event state)
 
 -- a connection that was found by a seat of the event is one that it names
 each : (event : Event) (state : State) (seat : Seat) → Names event seat.number → (found : Option Connection) → seated seat state ≡ found → IfSome found (λ c. Names event c.number)
 each event state seat names None is = tt
 each event state seat names (Some c) is = subst (Names event) (sym (seated-number seat state c is)) names
 
+left : (event : Event) (state : State) (key : Key) (v : Work) → Leaves event key (entered state) v → Touches event state v
+left event state key v leaves = (
+  key,
+  record { transactions = leaves.transactions; connections = λ n le unnamed off. (leaves.connections n unnamed off).0 },
+  record {
+    named = subst (AreOf key) (sym leaves.told) leaves.named;
+    quiet = λ n le unnamed off. ap (list_any (is_for n)) leaves.told ∙ leaves.quiet n unnamed off;
+  },
+)
+
 others : (serving : Serving) (event : Event) (state : State) → is_opening event ≡ false → Ends (Touches event state) (attempt serving event (entered state))
 others serving event state not =
     attempt-goes (Leaves event) (Names event) (closed_by_leaves event) (entered state) (Ends (Touches event state))
-    (more_ends (AtOne (Leaves event) (entered state)) (Touches event state) (λ v one. (one.0, record { transactions = one.1.transactions; connections = λ n le unnamed off. (one.1.connections n unnamed off).0 })))
-    (λ why. untouched event state (entered state).state refl refl) (λ party. untouched event state (entered state).state refl refl) serving event not
+    (more_ends (AtOne (Leaves event) (entered state)) (Touches event state) (λ v one. left event state one.0 v one.1))
+    (λ why. refused event state) (λ party. refused event state) serving event not
     (λ seat names. each event (entered state).state seat names (seated seat (entered state).state) refl)
 
 attempt-touches : (serving : Serving) (event : Event) (state : State) → Ends (Touches event state) (attempt serving event (entered state))
@@ -285,9 +437,47 @@ attempt-touches serving event state =
     (λ event not. others serving event state not)
     event
 
-went-touches : (serving : Serving) (state : State) (event : Event) (outcome : Outcome) → Touches event state (ordered state (chosen (attempt serving event (entered state)) outcome))
-unfolding ordered
-went-touches serving state event outcome = chosen_ends (Touches event state) (attempt serving event (entered state)) outcome (attempt-touches serving event state)
+-- The order of lines
 
-pub touches : (serving : Serving) (state : State) (event : Event) (outcome : Outcome) → (key : Key) × TouchesOne key event state (step_serving serving state event outcome).state
-touches serving state event outcome = either (Touches event state) (is_open state) _ (frozen event state) (went-touches serving state event outcome) (untouched event state state refl refl)
+module _ (turn : Told → ℕ) where
+  of_put : (key : Key) (t : Told) (ts : List Told) → IfSome (key_in t.item) (λ named. named ≡ key) → AreOf key ts → AreOf key (put_in turn t ts)
+  of_put key t [] of all = (of, tt)
+  of_put key t (other ∷ ts) of all = step (nat_le (turn t) (turn other)) (of_put key t ts of all.1) where
+    step : (b : Bool) → AreOf key (put_in turn t ts) → AreOf key (cond b (t ∷ other ∷ ts) (other ∷ put_in turn t ts))
+    step true rest = (of, all)
+    step false rest = (all.0, rest)
+
+  of_turn : (key : Key) (ts : List Told) → AreOf key ts → AreOf key (in_turn turn ts)
+  of_turn key [] all = tt
+  of_turn key (t ∷ ts) all = of_put key t (in_turn turn ts) all.0 (of_turn key ts all.1)
+
+  any_put : (n : ℕ) (t : Told) (ts : List Told) → is_for n t ≡ false → list_any (is_for n) ts ≡ false → list_any (is_for n) (put_in turn t ts) ≡ false
+  any_put n t [] first rest = rw first refl
+  any_put n t (other ∷ ts) first rest = let parts = or_parts (is_for n other) (list_any (is_for n) ts) rest in step (nat_le (turn t) (turn other)) parts.0 parts.1 (any_put n t ts first parts.1) where
+    step : (b : Bool) → is_for n other ≡ false → list_any (is_for n) ts ≡ false → list_any (is_for n) (put_in turn t ts) ≡ false → list_any (is_for n) (cond b (t ∷ other ∷ ts) (other ∷ put_in turn t ts)) ≡ false
+    step true one others later = rw (first, one, others) refl
+    step false one others later = rw (one, later) refl
+
+  any_turn : (n : ℕ) (ts : List Told) → list_any (is_for n) ts ≡ false → list_any (is_for n) (in_turn turn ts) ≡ false
+  any_turn n [] none = refl
+  any_turn n (t ∷ ts) none = let parts = or_parts (is_for n t) (list_any (is_for n) ts) none in any_put n t (in_turn turn ts) parts.0 (any_turn n ts parts.1)
+
+ordered-touches : (event : Event) (state : State) (v : Work) → Touches event state v → Touches event state (ordered state v)
+unfolding ordered
+ordered-touches event state v touches = (
+  touches.0,
+  touches.1,
+  record {
+    named = of_turn (turn state) touches.0 v.answer.told touches.2.named;
+    quiet = λ n le unnamed off. any_turn (turn state) n v.answer.told (touches.2.quiet n le unnamed off);
+  },
+)
+
+went-touches : (serving : Serving) (state : State) (event : Event) (outcome : Outcome) → Touches event state (ordered state (chosen (attempt serving event (entered state)) outcome))
+went-touches serving state event outcome = ordered-touches event state _ (chosen_ends (Touches event state) (attempt serving event (entered state)) outcome (attempt-touches serving event state))
+
+frozen-touches : (event : Event) (state : State) → Touches event state (frozen event state)
+frozen-touches event state = (or_any None, untouched event state state refl refl, subst (TellsOfOne (or_any None) event state) (sym (returned-silent Frozen event).0) (nothing (or_any None) event state))
+
+pub touches : (serving : Serving) (state : State) (event : Event) (outcome : Outcome) → (key : Key) × TouchesOne key event state (step_serving serving state event outcome).state × TellsOfOne key event state (step_serving serving state event outcome).answer.told
+touches serving state event outcome = either (Touches event state) (is_open state) _ (frozen event state) (went-touches serving state event outcome) (frozen-touches event state)

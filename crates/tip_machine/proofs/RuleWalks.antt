@@ -1,5 +1,5 @@
 -- Each rule keeps what each single change keeps.
-use Rattle.std.proofs.Common.{◌≡◌, ℕ, List, Option, Some, None, refl}
+use Rattle.std.proofs.Common.{◌≡◌, Bool, true, false, ℕ, List, Option, Some, None, cond, refl}
 use Rattle.std.specs.Prelude.{◌&&◌, nat_le, not, find, is_some}
 use Rattle.std.specs.List.{list_any}
 use Rattle.std.specs.Option.{IfSome, option_and_then, option_map_or}
@@ -27,7 +27,7 @@ use Rattle.tip_txn.specs.declared.answer.Phase.{Phase}
 use Rattle.tip_txn.specs.declared.answer.Phase.TheVariants as phase
 use Rattle.tip_txn.specs.declared.part.Participant.{Participant}
 use Rattle.tip_machine.specs.Types.{Connection, PartyPlace, Transaction}
-use Rattle.tip_machine.specs.Answers.{response_name}
+use Rattle.tip_machine.specs.Answers.{key_asked, key_said, response_name}
 use Rattle.tip_machine.specs.Connections.{is_on, is_superior_of, advanced, advanced_to, identified, awaiting, owing, taking}
 use Rattle.tip_machine.specs.Transactions.{decision_of, enlisting, entering, has_ready, is_active, is_done, is_known, is_prepared, is_spent, next_key, noting, standing_at}
 use Rattle.tip_machine.specs.States.{Attempt, State, Work, connection_of, has_room, identified_by, transaction_of}
@@ -35,10 +35,10 @@ use Rattle.tip_machine.specs.Changes.{alter, change, end, reply, send, tell}
 use Rattle.tip_machine.specs.Reactions.{aborts, asks, commits, needs_nothing, promises, react}
 use Rattle.tip_machine.specs.Settling.{abort, agree, ask, asked_for_votes, commit, conclude, dispatch, dispatched, enter, errand_in, finish, give_out, leave, let_go, owed_to_superior, promise, release, settle, settle_in, wait}
 use Rattle.tip_machine.specs.Failing.{closed, fail, gone, lost_unanswered, missed, part_lost, superior_lost, wrong}
-use Rattle.tip_machine.specs.Commands.{begin, commanded, decide_abort, decide_commit, identify, make, obey, prepare, pull, pull_into, push, push_new, query, reconnect, reconnect_to, serve, serve_if, superior_role, take_over}
+use Rattle.tip_machine.specs.Commands.{begin, commanded, decide_abort, decide_commit, exists, identify, make, obey, prepare, pull, pull_into, push, push_new, query, reconnect, reconnect_to, serve, serve_if, superior_role, take_over}
 use Rattle.tip_machine.specs.Served.{Serving}
 use Rattle.tip_machine.specs.declared.answer.Asked.{Asked}
-use Rattle.tip_machine.specs.declared.answer.Item.TheVariants.{Close}
+use Rattle.tip_machine.specs.declared.answer.Item.TheVariants.{Say, Ask, Close}
 use Rattle.tip_machine.specs.declared.answer.Said.{Said}
 use Rattle.tip_machine.specs.declared.answer.Said.TheVariants as said
 use Rattle.tip_machine.specs.declared.connection.Awaited.{Awaited}
@@ -47,7 +47,7 @@ use Rattle.tip_machine.specs.declared.connection.Role.TheVariants.{Superior, Sub
 use Rattle.tip_machine.specs.declared.transaction.Origin.{Origin}
 use Rattle.tip_machine.specs.declared.transaction.Origin.TheVariants as origin
 use Rattle.tip_machine.specs.declared.transaction.PartyPlace.TheVariants.{Here, Out, Spent}
-use Rattle.tip_machine.proofs.Walks.{AtOne, Closed, Ends, Is, at_one, attempt_on_each, either, either_ends, found_passes, is_or_any, key_of, more_ends, on_asked, on_each, on_found, or_any}
+use Rattle.tip_machine.proofs.Walks.{AtOne, Closed, Ends, Is, IsPlain, at_one, attempt_on_each, either, either_ends, found_passes, is_or_any, key_of, more_ends, on_asked, on_each, on_found, or_any}
 
 advanced_to-number : (place : Option (ConnectionState × Turn)) (c : Connection) → (advanced_to place c).number ≡ c.number
 advanced_to-number None c = refl
@@ -63,16 +63,38 @@ advanced_to-made (Some place) c = refl
 pub advanced-made : (command : CommandName) (response : ResponseName) (c : Connection) → (advanced command response c).made ≡ c.made
 advanced-made command response c = advanced_to-made (next_of command c.state response) c
 
+-- Each reaction is plain
+
+plain_asks : IsPlain asks
+plain_asks = record { owed = λ command. tt; enlisted = λ key. refl; prepared = λ key. tt }
+
+plain_promises : IsPlain promises
+plain_promises = record { owed = λ command. refl; enlisted = λ key. tt; prepared = λ key. tt }
+
+plain_leaves : (command : CommandName) → IfSome (needs_nothing.owed command) (λ said. key_said said ≡ None)
+plain_leaves command.Prepare = refl
+plain_leaves command.Commit = refl
+plain_leaves other = tt
+
+plain_needs_nothing : IsPlain needs_nothing
+plain_needs_nothing = record { owed = plain_leaves; enlisted = λ key. tt; prepared = λ key. tt }
+
+plain_commits : IsPlain commits
+plain_commits = record { owed = λ command. refl; enlisted = λ key. tt; prepared = λ key. refl }
+
+plain_aborts : IsPlain aborts
+plain_aborts = record { owed = λ command. refl; enlisted = λ key. refl; prepared = λ key. refl }
+
 module _ (R : Work → Work → Type 0) (May : ℕ → Type 0) (On : Key → Type 0) (k : Closed R May On) where
   -- Steps of work
 
-  reply-keeps : (n : ℕ) (command : CommandName) (said : Said) (w : Work) → May n → R w (reply n command said w)
+  reply-keeps : (n : ℕ) (command : CommandName) (said : Said) (w : Work) → May n → IfSome (key_said said) On → R w (reply n command said w)
   unfolding reply
-  reply-keeps n command said w may = k.then w _ _ (k.tells w _) (k.changes n (advanced command (response_name said)) _ may (advanced-number command (response_name said)) (advanced-made command (response_name said)))
+  reply-keeps n command said w may of = k.then w _ _ (k.tells n (Say said) w may of) (k.changes n (advanced command (response_name said)) _ may (advanced-number command (response_name said)) (advanced-made command (response_name said)))
 
-  pub send-keeps : (n : ℕ) (awaited : Awaited) (asked : Asked) (w : Work) → May n → R w (send n awaited asked w)
+  pub send-keeps : (n : ℕ) (awaited : Awaited) (asked : Asked) (w : Work) → May n → IfSome (key_asked asked) On → R w (send n awaited asked w)
   unfolding send
-  send-keeps n awaited asked w may = k.then w _ _ (k.tells w _) (k.changes n (awaiting awaited) _ may (λ c. refl) (λ c. refl))
+  send-keeps n awaited asked w may of = k.then w _ _ (k.tells n (Ask asked) w may of) (k.changes n (awaiting awaited) _ may (λ c. refl) (λ c. refl))
 
   pub taking-keeps : (n : ℕ) (role : Role) (w : Work) → May n → R w (change n (taking role) w)
   taking-keeps n role w may = k.changes n (taking role) w may (λ c. refl) (λ c. refl)
@@ -116,24 +138,24 @@ module _ (R : Work → Work → Type 0) (May : ℕ → Type 0) (On : Key → Typ
       let entered = enter phase.Aborted key w in
       let told = react aborts key entered in
       let sent = dispatch key told in
-      k.then w entered _ (enter-keeps phase.Aborted key w on) (k.then entered told _ (k.reacts aborts key entered on) (k.then told sent _ (dispatch-keeps key told on) (release-keeps key sent on)))
+      k.then w entered _ (enter-keeps phase.Aborted key w on) (k.then entered told _ (k.reacts aborts key entered plain_aborts on) (k.then told sent _ (dispatch-keeps key told on) (release-keeps key sent on)))
 
   commit-keeps : (key : Key) (w : Work) → On key → R w (commit key w)
   unfolding commit
   commit-keeps key w on =
       let entered = enter phase.Committed key w in
       let told = react commits key entered in
-      k.then w entered _ (enter-keeps phase.Committed key w on) (k.then entered told _ (k.reacts commits key entered on) (dispatch-keeps key told on))
+      k.then w entered _ (enter-keeps phase.Committed key w on) (k.then entered told _ (k.reacts commits key entered plain_commits on) (dispatch-keeps key told on))
 
   promise-keeps : (key : Key) (w : Work) → On key → R w (promise key w)
   unfolding promise
-  promise-keeps key w on = k.then w (enter phase.Prepared key w) _ (enter-keeps phase.Prepared key w on) (k.reacts promises key _ on)
+  promise-keeps key w on = k.then w (enter phase.Prepared key w) _ (enter-keeps phase.Prepared key w on) (k.reacts promises key _ plain_promises on)
 
   leave-keeps : (key : Key) (w : Work) → On key → R w (leave key w)
   unfolding leave
   leave-keeps key w on =
       let told = react needs_nothing key w in
-      k.then w told _ (k.reacts needs_nothing key w on) (k.then told (dispatch key told) _ (dispatch-keeps key told on) (k.ends key _ on))
+      k.then w told _ (k.reacts needs_nothing key w plain_needs_nothing on) (k.then told (dispatch key told) _ (dispatch-keeps key told on) (k.ends key _ on))
 
   agree-keeps : (owed : Option CommandName) (from : Origin) (t : Transaction) (w : Work) → On t.key → Ends (R w) (agree owed from t w)
   agree-keeps (Some command.Prepare) (origin.Subordinate (Some address) superior) t w on = (promise-keeps t.key w on, abort-keeps t.key w on)
@@ -141,7 +163,7 @@ module _ (R : Work → Work → Type 0) (May : ℕ → Type 0) (On : Key → Typ
   agree-keeps other from t w on = k.same w
 
   wait-keeps : (phase : Phase) (key : Key) (w : Work) → On key → R w (wait phase key w)
-  wait-keeps phase.Asking key w on = k.reacts asks key w on
+  wait-keeps phase.Asking key w on = k.reacts asks key w plain_asks on
   wait-keeps other key w on = k.same w
 
   conclude-keeps : (decision : Decision) (t : Transaction) (w : Work) → On t.key → Ends (R w) (conclude decision t w)
@@ -158,7 +180,7 @@ module _ (R : Work → Work → Type 0) (May : ℕ → Type 0) (On : Key → Typ
   settle_in-keeps phase.Active t w on = conclude-keeps (decision_of t) t w on
   settle_in-keeps phase.Asking t w on = conclude-keeps (decision_of t) t w on
   settle_in-keeps phase.Prepared t w on = k.same w
-  settle_in-keeps phase.Committed t w on = finish-keeps w t (react commits t.key w) on (k.reacts commits t.key w on)
+  settle_in-keeps phase.Committed t w on = finish-keeps w t (react commits t.key w) on (k.reacts commits t.key w plain_commits on)
   settle_in-keeps phase.Aborted t w on = abort-keeps t.key w on
 
   settle-here : (key : Key) (w : Work) → On key → Ends (R w) (settle key w)
@@ -227,61 +249,60 @@ module _ (R : Work → Work → Type 0) (May : ℕ → Type 0) (On : Key → Typ
 
   pub closed-keeps : (c : Connection) (w : Work) → May c.number → IfSome (key_of c.role) On → R w (closed c w)
   unfolding closed
-  closed-keeps c w may on = k.then w _ _ (k.tells w _) (fail-keeps c _ may on)
+  closed-keeps c w may on = k.then w _ _ (k.tells c.number Close w may tt) (fail-keeps c _ may on)
 
   closed_earlier : (key : Key) (c : Connection) (w v : Work) → On key → find (is_superior_of key) w.state.connections ≡ Some c → R w v → R w (closed c v)
   unfolding closed
   closed_earlier key c w v on is r =
       let told = tell c.number Close v in
-      fail_from c w told (on_asked On key c.role (found_passes (is_superior_of key) w.state.connections c is) on) (displaced-keeps key c w told on is (k.then w v told r (k.tells v _)))
+      fail_from c w told (on_asked On key c.role (found_passes (is_superior_of key) w.state.connections c is) on) (displaced-keeps key c w told on is (k.dismisses key c w v on is r))
 
   pub wrong-keeps : (c : Connection) (w : Work) → May c.number → IfSome (key_of c.role) On → R w (wrong c w)
   unfolding wrong
-  wrong-keeps c w may on = k.then w _ _ (k.tells w _) (closed-keeps c _ may on)
+  wrong-keeps c w may on = k.then w _ _ (k.tells c.number (Say said.Error) w may tt) (closed-keeps c _ may on)
 
   -- Commands
 
   identify-keeps : (lowest highest : ℕ) (peer : Option (List ℕ)) (c : Connection) (w : Work) → May c.number → IfSome (key_of c.role) On → R w (identify lowest highest peer c w)
   unfolding identify
-  identify-keeps lowest highest peer c w may on = either (R w) (nat_le lowest 3 && nat_le 3 highest) _ (wrong c w) (k.then w _ _ (k.tells w _) (k.changes c.number (identified peer) _ may (advanced-number _ _) (advanced-made _ _))) (wrong-keeps c w may on)
+  identify-keeps lowest highest peer c w may on = either (R w) (nat_le lowest 3 && nat_le 3 highest) _ (wrong c w) (k.then w _ _ (k.tells c.number (Say said.Identified) w may tt) (k.changes c.number (identified peer) _ may (advanced-number _ _) (advanced-made _ _))) (wrong-keeps c w may on)
 
   begin-keeps : (c : Connection) (w : Work) → May c.number → On (next_key w.state.head c) → connection_of c.number w.state ≡ Some c → R w (begin c w)
   unfolding begin
-  begin-keeps c w may on is = either (R w) (has_room c w.state) _ _ (k.then w (make origin.Root c w) _ (k.makes origin.Root c w may on is) (reply-keeps c.number _ _ _ may)) (reply-keeps c.number _ _ w may)
+  begin-keeps c w may on is = either (R w) (has_room c w.state) _ _ (k.then w (make origin.Root c w) _ (k.makes origin.Root c w may on is) (reply-keeps c.number _ _ _ may on)) (reply-keeps c.number _ _ w may tt)
 
   push_new-keeps : (superior : List ℕ) (c : Connection) (w : Work) → May c.number → On (next_key w.state.head c) → connection_of c.number w.state ≡ Some c → R w (push_new superior c w)
-  push_new-keeps superior c w may on is = either (R w) (has_room c w.state) _ _ (k.then w (make (origin.Subordinate c.peer superior) c w) _ (k.makes _ c w may on is) (reply-keeps c.number _ _ _ may)) (reply-keeps c.number _ _ w may)
+  push_new-keeps superior c w may on is = either (R w) (has_room c w.state) _ _ (k.then w (make (origin.Subordinate c.peer superior) c w) _ (k.makes _ c w may on is) (reply-keeps c.number _ _ _ may on)) (reply-keeps c.number _ _ w may tt)
 
-  known-keeps : (found : Option Transaction) (superior : List ℕ) (c : Connection) (w : Work) → May c.number → On (next_key w.state.head c) → connection_of c.number w.state ≡ Some c → R w (option_map_or (λ t. reply c.number command.Push (said.AlreadyPushed t.key) w) found (push_new superior c w))
-  known-keeps None superior c w may on is = push_new-keeps superior c w may on is
-  known-keeps (Some t) superior c w may on is = reply-keeps c.number _ _ w may
-
-  push-keeps : (superior : List ℕ) (c : Connection) (w : Work) → May c.number → On (next_key w.state.head c) → connection_of c.number w.state ≡ Some c → R w (push superior c w)
-  unfolding push
-  push-keeps superior c w may on is = known-keeps (find (is_known c.peer superior) w.state.transactions) superior c w may on is
+  known-keeps : (t : Transaction) (c : Connection) (w : Work) → May c.number → On t.key → R w (reply c.number command.Push (said.AlreadyPushed t.key) w)
+  known-keeps t c w may on = reply-keeps c.number command.Push (said.AlreadyPushed t.key) w may on
 
   pull_into-keeps : (found : Option Transaction) (peer : Option (List ℕ)) (subordinate : List ℕ) (n : ℕ) (w : Work) → May n → IfSome found (λ t. On t.key) → R w (pull_into found peer subordinate n w)
   pull_into-keeps (Some t) (Some address) subordinate n w may on =
       either (R w) (is_active t.phase && not (is_enlisted t.parts address (Some subordinate))) _ _
-      (k.then w _ _ (reply-keeps n _ _ w may) (k.then _ _ _ (enlisting-keeps _ t.key _ on) (taking-keeps n _ _ may)))
-      (reply-keeps n _ _ w may)
-  pull_into-keeps None peer subordinate n w may on = reply-keeps n _ _ w may
-  pull_into-keeps (Some t) None subordinate n w may on = reply-keeps n _ _ w may
+      (k.then w _ _ (reply-keeps n _ _ w may tt) (k.then _ _ _ (enlisting-keeps _ t.key _ on) (taking-keeps n _ _ may)))
+      (reply-keeps n _ _ w may tt)
+  pull_into-keeps None peer subordinate n w may on = reply-keeps n _ _ w may tt
+  pull_into-keeps (Some t) None subordinate n w may on = reply-keeps n _ _ w may tt
+
+  either_said : (b : Bool) → IfSome (key_said (cond b said.QueriedExists said.QueriedNotFound)) On
+  either_said true = tt
+  either_said false = tt
 
   query-keeps : (superior : List ℕ) (c : Connection) (w : Work) → May c.number → R w (query superior c w)
   unfolding query
-  query-keeps superior c w may = reply-keeps c.number _ _ w may
+  query-keeps superior c w may = reply-keeps c.number _ _ w may (either_said (option_map_or exists (identified_by superior w.state) false))
 
   reconnected-keeps : (key : Key) (n : ℕ) (w : Work) → May n → R w (change n (taking (Superior key)) (reply n command.Reconnect said.Reconnected w))
-  reconnected-keeps key n w may = k.then w _ _ (reply-keeps n _ _ w may) (taking-keeps n _ _ may)
+  reconnected-keeps key n w may = k.then w _ _ (reply-keeps n _ _ w may tt) (taking-keeps n _ _ may)
 
   take_over-keeps : (key : Key) (n : ℕ) (earlier : Option Connection) (w : Work) → find (is_superior_of key) w.state.connections ≡ earlier → May n → On key → R w (take_over key n earlier w)
   take_over-keeps key n None w is may on = reconnected-keeps key n w may
   take_over-keeps key n (Some c) w is may on = closed_earlier key c w _ on is (reconnected-keeps key n w may)
 
   reconnect_to-keeps : (found : Option Transaction) (n : ℕ) (w : Work) → May n → IfSome found (λ t. On t.key) → R w (reconnect_to found n w)
-  reconnect_to-keeps None n w may on = reply-keeps n _ _ w may
-  reconnect_to-keeps (Some t) n w may on = either (R w) (is_prepared t.phase) (take_over t.key n (find (is_superior_of t.key) w.state.connections) w) _ (take_over-keeps t.key n _ w refl may on) (reply-keeps n _ _ w may)
+  reconnect_to-keeps None n w may on = reply-keeps n _ _ w may tt
+  reconnect_to-keeps (Some t) n w may on = either (R w) (is_prepared t.phase) (take_over t.key n (find (is_superior_of t.key) w.state.connections) w) _ (take_over-keeps t.key n _ w refl may on) (reply-keeps n _ _ w may tt)
 
   prepare-keeps : (phase : Phase) (peer : Option (List ℕ)) (c : Connection) (t : Transaction) (w : Work) → On t.key → Ends (R w) (prepare phase peer c t w)
   prepare-keeps phase.Active (Some address) c t w on = ask-keeps t w on
@@ -317,8 +338,8 @@ module _ (R : Work → Work → Type 0) (May : ℕ → Type 0) (On : Key → Typ
 
 -- Any command, where what is touched is the transaction of some one key
 module _ (R : Key → Work → Work → Type 0) (May : ℕ → Type 0) (k : (key : Key) → Closed (R key) May (Is key)) where
-  replied : (c : Connection) (command : CommandName) (said : Said) (w : Work) → May c.number → AtOne R w (reply c.number command said w)
-  replied c command said w may = let key = or_any None in (key, reply-keeps (R key) May (Is key) (k key) c.number command said w may)
+  replied : (c : Connection) (command : CommandName) (said : Said) (w : Work) → May c.number → IfSome (key_said said) (Is (or_any None)) → AtOne R w (reply c.number command said w)
+  replied c command said w may of = let key = or_any None in (key, reply-keeps (R key) May (Is key) (k key) c.number command said w may of)
 
   pub closes : (c : Connection) (w : Work) → May c.number → AtOne R w (closed c w)
   closes c w may = let key = or_any (key_of c.role) in (key, closed-keeps (R key) May (Is key) (k key) c w may (is_or_any (key_of c.role)))
@@ -332,8 +353,13 @@ module _ (R : Key → Work → Work → Type 0) (May : ℕ → Type 0) (k : (key
   begins : (c : Connection) (w : Work) → May c.number → connection_of c.number w.state ≡ Some c → AtOne R w (begin c w)
   begins c w may is = let key = next_key w.state.head c in (key, begin-keeps (R key) May (Is key) (k key) c w may refl is)
 
+  pushes_to : (found : Option Transaction) (superior : List ℕ) (c : Connection) (w : Work) → May c.number → connection_of c.number w.state ≡ Some c → AtOne R w (option_map_or (λ t. reply c.number command.Push (said.AlreadyPushed t.key) w) found (push_new superior c w))
+  pushes_to None superior c w may is = let key = next_key w.state.head c in (key, push_new-keeps (R key) May (Is key) (k key) superior c w may refl is)
+  pushes_to (Some t) superior c w may is = (t.key, known-keeps (R t.key) May (Is t.key) (k t.key) t c w may refl)
+
   pushes : (superior : List ℕ) (c : Connection) (w : Work) → May c.number → connection_of c.number w.state ≡ Some c → AtOne R w (push superior c w)
-  pushes superior c w may is = let key = next_key w.state.head c in (key, push-keeps (R key) May (Is key) (k key) superior c w may refl is)
+  unfolding push
+  pushes superior c w may is = pushes_to (find (is_known c.peer superior) w.state.transactions) superior c w may is
 
   -- what is done with the transaction that was found
   for_found : (found : Option Transaction) (w v : Work) → ((key : Key) → IfSome found (λ t. t.key ≡ key) → R key w v) → AtOne R w v
@@ -365,8 +391,8 @@ module _ (R : Key → Work → Work → Type 0) (May : ℕ → Type 0) (k : (key
   serves Abort c w may is = obeys command.Abort _ c w may (λ key role t v on. decide_abort-keeps (R key) May (Is key) (k key) t.phase c t v may role on)
   serves (Query superior) c w may is = let key = or_any None in (key, query-keeps (R key) May (Is key) (k key) superior c w may)
   serves (Reconnect subordinate) c w may is = reconnects subordinate c w may
-  serves (Multiplex protocol) c w may is = replied c _ _ w may
-  serves Tls c w may is = replied c _ _ w may
+  serves (Multiplex protocol) c w may is = replied c _ _ w may tt
+  serves Tls c w may is = replied c _ _ w may tt
   serves Error c w may is = closes c w may
 
   serves_if : (serving : Serving) (admit : Admit) (command : Command) (c : Connection) (w : Work) → May c.number → connection_of c.number w.state ≡ Some c → Ends (AtOne R w) (serve_if serving admit command c w)

@@ -106,7 +106,7 @@ quiet serving state event outcome = quiet_step serving state event outcome
 
 -- and it tells nothing, and sends no party out
 
-returned-silent : (why : Refusal) (event : Event) → ((returned why event).told ≡ []) × ((returned why event).work ≡ None)
+pub returned-silent : (why : Refusal) (event : Event) → ((returned why event).told ≡ []) × ((returned why event).work ≡ None)
 returned-silent why (Open boxes) = (refl, refl)
 returned-silent why (Dial address purpose boxes) = (refl, refl)
 returned-silent why (Voted party) = (refl, refl)

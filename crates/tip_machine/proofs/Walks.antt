@@ -13,11 +13,14 @@ use Rattle.tip_machine.specs.Types.{Connection, Transaction}
 use Rattle.tip_machine.specs.Connections.{asks_for, has_number, is_superior_of}
 use Rattle.tip_machine.specs.Transactions.{has_key, next_key}
 use Rattle.tip_machine.specs.States.{Attempt, State, Work, connection_of, seated}
-use Rattle.tip_machine.specs.Changes.{alter, attempt_on, change, end, on}
+use Rattle.tip_line.specs.declared.command.CommandName.{CommandName}
+use Rattle.tip_machine.specs.Answers.{key_asked, key_in, key_said}
+use Rattle.tip_machine.specs.Changes.{alter, attempt_on, change, end, on, tell}
 use Rattle.tip_machine.specs.Commands.{make}
 use Rattle.tip_machine.specs.Reactions.{Reaction, react}
 use Rattle.tip_machine.specs.Steps.{chosen}
-use Rattle.tip_machine.specs.declared.answer.Told.{Told}
+use Rattle.tip_machine.specs.declared.answer.Item.{Item}
+use Rattle.tip_machine.specs.declared.answer.Item.TheVariants.{Close}
 use Rattle.tip_machine.specs.declared.connection.Role.{Role}
 use Rattle.tip_machine.specs.declared.connection.Role.TheVariants.{Superior, Subordinate}
 use Rattle.tip_machine.specs.declared.event.Seat.{Seat}
@@ -25,11 +28,19 @@ use Rattle.tip_machine.specs.declared.transaction.Origin.{Origin}
 use Rattle.tip_machine.specs.declared.event.Outcome.{Outcome}
 use Rattle.tip_machine.specs.declared.event.Outcome.TheVariants.{NoChange, Stored, Refused}
 
+-- a reaction says nothing of a transaction but what it demands for its own
+pub record IsPlain (reaction : Reaction) : Type 0 where
+  pub owed : (command : CommandName) → IfSome (reaction.owed command) (λ said. key_said said ≡ None)
+  pub enlisted : (key : Key) → IfSome reaction.enlisted (λ demand. key_asked (demand.asked key) ≡ Some key)
+  pub prepared : (key : Key) → IfSome reaction.prepared (λ demand. key_asked (demand.asked key) ≡ Some key)
+
 -- May n: the connection of number n may be changed. On key: the transaction of that key may be, and connections on it
 pub record Closed (R : Work → Work → Type 0) (May : ℕ → Type 0) (On : Key → Type 0) : Type 0 where
   pub same : (w : Work) → R w w
   pub then : (a b c : Work) → R a b → R b c → R a c
-  pub tells : (w : Work) (told : List Told) → R w (record w { answer = record w.answer { told = told } })
+  pub tells : (n : ℕ) (item : Item) (w : Work) → May n → IfSome (key_in item) On → R w (tell n item w)
+  -- the connection of a superior is closed, as it was found before
+  pub dismisses : (key : Key) (c : Connection) (w v : Work) → On key → find (is_superior_of key) w.state.connections ≡ Some c → R w v → R w (tell c.number Close v)
   pub works : (w : Work) (party : Option PartyNotes) → R w (record w { answer = record w.answer { work = party } })
   pub spends : (w : Work) (party : Option PartyNotes) → R w (record w { answer = record w.answer { spent = party } })
   pub hands : (w : Work) (boxes : Option (List Badge)) → R w (record w { answer = record w.answer { unused = boxes } })
@@ -37,7 +48,7 @@ pub record Closed (R : Work → Work → Type 0) (May : ℕ → Type 0) (On : Ke
   pub ends : (key : Key) (w : Work) → On key → R w (end key w)
   pub makes : (from : Origin) (c : Connection) (w : Work) → May c.number → On (next_key w.state.head c) → connection_of c.number w.state ≡ Some c → R w (make from c w)
   pub changes : (n : ℕ) (f : Connection → Connection) (w : Work) → May n → ((c : Connection) → (f c).number ≡ c.number) → ((c : Connection) → (f c).made ≡ c.made) → R w (change n f w)
-  pub reacts : (reaction : Reaction) (key : Key) (w : Work) → On key → R w (react reaction key w)
+  pub reacts : (reaction : Reaction) (key : Key) (w : Work) → IsPlain reaction → On key → R w (react reaction key w)
   pub takes : (n : ℕ) (w : Work) → May n → R w (record w { state = record w.state { connections = without (has_number n) w.state.connections } })
   -- the connection of a superior is taken out, as it was found before
   pub displaces : (key : Key) (c : Connection) (w v : Work) → On key → find (is_superior_of key) w.state.connections ≡ Some c → R w v → R w (record v { state = record v.state { connections = without (has_number c.number) v.state.connections } })

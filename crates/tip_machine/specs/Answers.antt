@@ -1,5 +1,5 @@
 -- What a realm says.
-use Rattle.std.specs.Prelude.{ℕ, ◌==◌, ◌&&◌, Bool, true, false, List, [], Some, None}
+use Rattle.std.specs.Prelude.{ℕ, ◌==◌, ◌&&◌, Bool, true, false, List, [], Option, Some, None}
 use Rattle.tip_line.specs.Ids.{id_of}
 use Rattle.tip_line.specs.Response.{name_of}
 use Rattle.tip_line.specs.declared.command.Command.{Command}
@@ -57,6 +57,26 @@ command_of realm (asked.Commit key) = command.Commit
 command_of realm (asked.Abort key) = command.Abort
 command_of realm (asked.Query superior) = command.Query superior
 command_of realm (asked.Reconnect subordinate) = command.Reconnect subordinate
+
+-- the transaction of ours that a response, or a command, names
+abbrev pub key_said : Said → Option Key
+key_said (said.Begun key) = Some key
+key_said (said.Pushed key) = Some key
+key_said (said.AlreadyPushed key) = Some key
+key_said other = None
+
+abbrev pub key_asked : Asked → Option Key
+key_asked (asked.Push key) = Some key
+key_asked (asked.Pull superior key) = Some key
+key_asked (asked.Prepare key) = Some key
+key_asked (asked.Commit key) = Some key
+key_asked (asked.Abort key) = Some key
+key_asked other = None
+
+abbrev pub key_in : Item → Option Key
+key_in (Say said) = key_said said
+key_in (Ask asked) = key_asked asked
+key_in Close = None
 
 -- an answer with nothing in it
 abbrev pub silence : Answer

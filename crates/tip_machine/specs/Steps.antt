@@ -1,17 +1,19 @@
 -- The step of one realm: what it answers to an event, and what it is afterwards.
-use Rattle.std.specs.Prelude.{◌≡◌, ◌≤◌, ℕ, ◌+◌, ◌&&◌, nat_lt, Bool, true, false, not, List, Option, Some, None, if◌then◌else◌}
+use Rattle.std.specs.Prelude.{◌≡◌, ◌≤◌, ℕ, ◌+◌, ◌&&◌, nat_lt, Bool, true, false, not, List, [], ◌∷◌, ◌==◌, Option, Some, None, if◌then◌else◌}
 use Rattle.std.specs.List.{list_any}
+use Rattle.std.specs.Option.{IfSome}
 use Rattle.tip_line.specs.declared.refusal.Refusal.{Refusal}
 use Rattle.tip_txn.specs.declared.answer.Phase.TheVariants.{Aborted}
 use Rattle.tip_line.specs.declared.refusal.Refusal.TheVariants.{NoRealm, Frozen}
 use Rattle.tip_rows.specs.Keys.{Place as Key, is_same}
 use Rattle.tip_machine.specs.Types.{Answer, Event, Transaction}
-use Rattle.tip_machine.specs.Answers.{silence}
+use Rattle.tip_machine.specs.Answers.{key_in, silence}
 use Rattle.tip_machine.specs.Connections.{has_number, is_on}
 use Rattle.tip_machine.specs.States.{State, Work, Attempt, connection_of, identified_by, seated, transaction_of}
 use Rattle.tip_machine.specs.Order.{ordered}
 use Rattle.tip_machine.specs.Requests.{ask_pull, ask_push, dial, line, lost, opened, owner, resume, settled, voted}
 use Rattle.tip_machine.specs.Served.{Serving, today}
+use Rattle.tip_machine.specs.declared.answer.Told.{Told}
 use Rattle.tip_machine.specs.declared.event.Change.{Change}
 use Rattle.tip_machine.specs.declared.event.Seat.{Seat}
 use Rattle.tip_machine.specs.declared.event.Outcome.{Outcome}
@@ -111,6 +113,20 @@ IsOff key number state = list_any (λ connection. has_number number connection &
 pub record TouchesOne (key : Key) (event : Event) (old new : State) : Type 0 where
   pub transactions : (other : Key) → is_same key other ≡ false → transaction_of other new ≡ transaction_of other old
   pub connections : (number : ℕ) → number ≤ old.head.given → ¬ Names event number → IsOff key number old → connection_of number new ≡ connection_of number old
+
+-- none of these names another transaction of ours
+abbrev pub AreOf : Key → List Told → Type 0
+AreOf key [] = Unit {0}
+AreOf key (told ∷ others) = IfSome (key_in told.item) (λ named. named ≡ key) × AreOf key others
+
+abbrev pub is_for : ℕ → Told → Bool
+is_for number told = told.connection == number
+
+-- what goes out names the transaction of this key alone, and goes to connections on it, to the one that the event names, and to
+-- a new one
+pub record TellsOfOne (key : Key) (event : Event) (old : State) (told : List Told) : Type 0 where
+  pub named : AreOf key told
+  pub quiet : (number : ℕ) → number ≤ old.head.given → ¬ Names event number → IsOff key number old → list_any (is_for number) told ≡ false
 
 -- no transaction of this identifier is open, or it is aborted
 abbrev pub IsForgotten : List ℕ → State → Type 0
