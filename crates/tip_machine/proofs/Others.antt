@@ -281,12 +281,12 @@ module _ (event : Event) (key : Key) where
   changed_at n f w named same =
       still w _ refl (λ other differ. refl)
       (λ other unnamed off.
-          let differ = unnamed_other n other named unnamed in
-          let apart : (c : Connection) → has_number n c ≡ true → has_number other c ≡ false = λ c is. number_apart n other c differ is in
-          let after : (c : Connection) → has_number n c ≡ true → has_number other (f c) ≡ false = λ c is. ap (λ m. m == other) (same c) ∙ apart c is in (
-            find-changed (has_number other) (has_number n) f w.state.connections (λ c is. (apart c is, after c is)),
-            none-changed (is_there key other) (has_number n) f w.state.connections (λ c is none. and_left (has_number other (f c)) (is_on key (f c)) (after c is)) off,
-          ))
+      let differ = unnamed_other n other named unnamed in
+      let apart : (c : Connection) → has_number n c ≡ true → has_number other c ≡ false = λ c is. number_apart n other c differ is in
+      let after : (c : Connection) → has_number n c ≡ true → has_number other (f c) ≡ false = λ c is. ap (λ m. m == other) (same c) ∙ apart c is in (
+        find-changed (has_number other) (has_number n) f w.state.connections (λ c is. (apart c is, after c is)),
+        none-changed (is_there key other) (has_number n) f w.state.connections (λ c is none. and_left (has_number other (f c)) (is_on key (f c)) (after c is)) off,
+      ))
 
   -- taken out: one that others differ from
   taken_out : (n other : ℕ) (cs : List Connection) → other ≢ n → list_any (is_there key other) cs ≡ false → (find (has_number other) (without (has_number n) cs) ≡ find (has_number other) cs) × (list_any (is_there key other) (without (has_number n) cs) ≡ false)
