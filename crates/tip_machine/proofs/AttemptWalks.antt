@@ -24,7 +24,7 @@ use Rattle.tip_machine.specs.declared.event.Heard.{Heard}
 use Rattle.tip_machine.specs.declared.event.Seat.{Seat}
 use Rattle.tip_machine.specs.declared.transaction.PartyPlace.TheVariants.{Here, Out, Spent}
 use Rattle.tip_machine.specs.declared.transaction.Origin.TheVariants as origin
-use Rattle.tip_machine.proofs.Walks.{AtOne, Closed, Ends, Is, at_one, either, either_attempt, is_or_any, key_of, or_any, seated_there}
+use Rattle.tip_machine.proofs.Walks.{Closed, EndsAtOne, EndsOn, Is, at_one, either, either_attempt, is_or_any, key_of, or_any, seated_there}
 use Rattle.tip_machine.proofs.RuleWalks.{dispatch-keeps, enlisting-keeps, fail-keeps, finish-keeps, noting-keeps, send-keeps, settle-keeps, standing-keeps, taking-keeps}
 use Rattle.tip_machine.proofs.EventWalks.{is_heard}
 
@@ -51,8 +51,8 @@ abbrev IsThere : Option Connection → State → Type 0
 IsThere found state = (c : Connection) → found ≡ Some c → connection_of c.number state ≡ Some c
 
 -- what holds of an event that was refused, of one that brought a stranger, and of what was kept
-module _ (R : Key → Work → Work → Type 0) (May : ℕ → Type 0) (k : (key : Key) → Closed (R key) May (Is key)) (w : Work) (Q : Attempt → Type 0) (kept : (a : Attempt) → Ends (AtOne R w) a → Q a) (refused : (why : Refusal) → Q (Attempt.Done (refuse why w))) (strangers : (party : PartyNotes) → Q (strange party w)) where
-  kept_each : (key : Key) (a : Attempt) → Ends (R key w) a → Q a
+module _ (R : Key → Work → Work → Type 0) (May : ℕ → Type 0) (k : (key : Key) → Closed (R key) May (Is key)) (w : Work) (Q : Attempt → Type 0) (kept : (a : Attempt) → EndsAtOne R w a → Q a) (refused : (why : Refusal) → Q (Attempt.Done (refuse why w))) (strangers : (party : PartyNotes) → Q (strange party w)) where
+  kept_each : (key : Key) (a : Attempt) → EndsOn (Is key) (R key w) a → Q a
   kept_each key a keeps = kept a (at_one R w key a keeps)
 
   done : (key : Key) (v : Work) → R key w v → Q (Attempt.Done v)

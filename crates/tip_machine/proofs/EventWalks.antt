@@ -32,16 +32,16 @@ use Rattle.tip_machine.specs.declared.event.Heard.{Heard}
 use Rattle.tip_machine.specs.declared.event.Heard.TheVariants.{Command as ACommand, Response as AResponse}
 use Rattle.tip_machine.specs.declared.transaction.Origin.{Origin}
 use Rattle.tip_machine.specs.declared.transaction.Origin.TheVariants as origin
-use Rattle.tip_machine.proofs.Walks.{AtOne, Closed, Ends, Is, at_one, attempt_on_each, either, either_ends, is_or_any, key_of, or_any}
+use Rattle.tip_machine.proofs.Walks.{AtOne, Closed, EndsAtOne, EndsOn, Is, at_one, attempt_on_each, either, either_attempt, is_or_any, key_of, or_any}
 use Rattle.tip_machine.proofs.RuleWalks.{abort-keeps, closed-keeps, closes, goes_wrong, is_commanded, advanced-made, advanced-number, noting-keeps, send-keeps, settle-keeps, taking-keeps, wrong-keeps}
 
 module _ (R : Work → Work → Type 0) (May : ℕ → Type 0) (On : Key → Type 0) (k : Closed R May On) where
-  note_as-keeps : (v : Work) (role : Option Role) (note : Participant → Participant) (w : Work) → IfSome (key_of role) On → R v w → Ends (R v) (note_as role note w)
+  note_as-keeps : (v : Work) (role : Option Role) (note : Participant → Participant) (w : Work) → IfSome (key_of role) On → R v w → EndsOn On (R v) (note_as role note w)
   note_as-keeps v None note w on r = r
   note_as-keeps v (Some (Superior key)) note w on r = r
   note_as-keeps v (Some (Subordinate key part)) note w on r = settle-keeps R May On k v key (alter key (noting part note) w) on (k.then v w _ r (noting-keeps R May On k part note key w on))
 
-  settle_as-keeps : (v : Work) (role : Option Role) (w : Work) → IfSome (key_of role) On → R v w → Ends (R v) (settle_as role w)
+  settle_as-keeps : (v : Work) (role : Option Role) (w : Work) → IfSome (key_of role) On → R v w → EndsOn On (R v) (settle_as role w)
   settle_as-keeps v None w on r = r
   settle_as-keeps v (Some (Superior key)) w on r = settle-keeps R May On k v key w on r
   settle_as-keeps v (Some (Subordinate key part)) w on r = settle-keeps R May On k v key w on r
@@ -97,12 +97,12 @@ module _ (R : Key → Work → Work → Type 0) (May : ℕ → Type 0) (k : (key
     goes_on : (command : CommandName) (response : ResponseName) → AtOne R w (go_on command response c w)
     goes_on command response = let key = or_any None in (key, go_on-keeps (R key) May (Is key) (k key) command response c w may)
 
-    notes : (command : CommandName) (response : ResponseName) (note : Participant → Participant) → Ends (AtOne R w) (note_as c.role note (go_on command response c w))
+    notes : (command : CommandName) (response : ResponseName) (note : Participant → Participant) → EndsAtOne R w (note_as c.role note (go_on command response c w))
     notes command response note =
         let key = or_any (key_of c.role) in
         at_one R w key _ (note_as-keeps (R key) May (Is key) (k key) w c.role note _ (is_or_any (key_of c.role)) (go_on-keeps (R key) May (Is key) (k key) command response c w may))
 
-    settles : (command : CommandName) (response : ResponseName) → Ends (AtOne R w) (settle_as c.role (go_on command response c w))
+    settles : (command : CommandName) (response : ResponseName) → EndsAtOne R w (settle_as c.role (go_on command response c w))
     settles command response =
         let key = or_any (key_of c.role) in
         at_one R w key _ (settle_as-keeps (R key) May (Is key) (k key) w c.role _ (is_or_any (key_of c.role)) (go_on-keeps (R key) May (Is key) (k key) command response c w may))
@@ -113,17 +113,18 @@ module _ (R : Key → Work → Work → Type 0) (May : ℕ → Type 0) (k : (key
         (key, (k key).then w _ _ (go_on-keeps (R key) May (Is key) (k key) command response c w may) (abort_as-keeps (R key) May (Is key) (k key) c.role _ (is_or_any (key_of c.role))))
 
     -- the transaction in doubt where the removal is stored, and that of the connection where it is refused
-    presumes_abort : (t : Transaction) → Ends (AtOne R w) (presume_abort c t (go_on command.Query response.QueriedNotFound c w))
+    presumes_abort : (t : Transaction) → EndsAtOne R w (presume_abort c t (go_on command.Query response.QueriedNotFound c w))
     presumes_abort t =
         let gone_on = go_on command.Query response.QueriedNotFound c w in
         let on = or_any (key_of c.role) in
-        either_ends (AtOne R w) (is_in_doubt gone_on.state t) _ _ (
+        either_attempt (EndsAtOne R w) (is_in_doubt gone_on.state t) _ _ (
           (t.key, (k t.key).then w gone_on _ (go_on-keeps (R t.key) May (Is t.key) (k t.key) command.Query response.QueriedNotFound c w may) (abort-keeps (R t.key) May (Is t.key) (k t.key) t.key gone_on refl)),
+          refl,
           (on, (k on).then w gone_on _ (go_on-keeps (R on) May (Is on) (k on) command.Query response.QueriedNotFound c w may) (closed-keeps (R on) May (Is on) (k on) c gone_on may (is_or_any (key_of c.role)))),
         )
         (goes_on command.Query response.QueriedNotFound)
 
-    responds : (awaited : Awaited) (response : Response) → Ends (AtOne R w) (responded awaited response c w)
+    responds : (awaited : Awaited) (response : Response) → EndsAtOne R w (responded awaited response c w)
     responds (Identify purpose) (Identified version) = greets version purpose
     responds Push (Pushed id) = notes _ _ _
     responds Push (AlreadyPushed id) = notes _ _ _
@@ -138,18 +139,18 @@ module _ (R : Key → Work → Work → Type 0) (May : ℕ → Type 0) (k : (key
     responds (Query key) QueriedExists = goes_on _ _
     responds (Query key) QueriedNotFound =
         let gone_on = go_on command.Query response.QueriedNotFound c w in
-        attempt_on_each (AtOne R w) (transaction_of key gone_on.state) (presume_abort c) gone_on (goes_on _ _) (λ t is. presumes_abort t)
+        attempt_on_each (EndsAtOne R w) (transaction_of key gone_on.state) (presume_abort c) gone_on (goes_on _ _) (λ t is. presumes_abort t)
     responds Reconnect Reconnected = settles _ _
     responds Reconnect NotReconnected = notes _ _ _
     responds awaited NeedTls = closes R May k c w may
     responds awaited Error = closes R May k c w may
     responds awaited other = goes_wrong R May k c w may
 
-    is_answered : (awaited : Option Awaited) (response : Response) → Ends (AtOne R w) (answered_by awaited response c w)
+    is_answered : (awaited : Option Awaited) (response : Response) → EndsAtOne R w (answered_by awaited response c w)
     is_answered None response = let key = or_any None in (key, (k key).same w)
     is_answered (Some awaited) response = responds awaited response
 
-    pub is_heard : (serving : Serving) (side : Side) (heard : Heard) → connection_of c.number w.state ≡ Some c → Ends (AtOne R w) (hear serving side heard c w)
+    pub is_heard : (serving : Serving) (side : Side) (heard : Heard) → connection_of c.number w.state ≡ Some c → EndsAtOne R w (hear serving side heard c w)
     is_heard serving Secondary (ACommand command) is = is_commanded R May k serving command c w may is
     is_heard serving Primary (ACommand commands.Error) is = closes R May k c w may
     is_heard serving Primary (AResponse response) is = is_answered c.awaited response

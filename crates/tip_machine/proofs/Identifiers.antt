@@ -25,7 +25,7 @@ use Rattle.tip_machine.specs.Steps.{attempt, chosen, entered, frozen, is_open, s
 use Rattle.tip_machine.specs.declared.connection.Purpose.{Purpose}
 use Rattle.tip_machine.specs.declared.event.Outcome.{Outcome}
 use Rattle.tip_machine.specs.declared.transaction.Origin.{Origin}
-use Rattle.tip_machine.proofs.Walks.{AtOne, Closed, Ends, Is, chosen_ends, either, more_ends, or_any}
+use Rattle.tip_machine.proofs.Walks.{Closed, Ends, Is, chosen_ends, either, from_one, or_any}
 use Rattle.tip_machine.proofs.RuleWalks.{advanced-made}
 use Rattle.tip_machine.proofs.AttemptWalks.{attempt-goes, each_event, is_opening}
 use Rattle.tip_machine.proofs.Keeping.{any, each}
@@ -234,7 +234,7 @@ dial-counts key serves address purpose boxes state = either (CountsIn key state)
 
 others : (key : Key) (serving : Serving) (event : Event) (state : State) → is_opening event ≡ false → Ends (CountsIn key state) (attempt serving event (entered state))
 others key serving event state not =
-    attempt-goes (λ on w v. Counts key w.state v.state) any (closed_by_counts key) (entered state) (Ends (CountsIn key state)) (more_ends (AtOne (λ on w v. Counts key w.state v.state) (entered state)) (CountsIn key state) (λ v counts. went_in key state v counts.1))
+    attempt-goes (λ on w v. Counts key w.state v.state) any (closed_by_counts key) (entered state) (Ends (CountsIn key state)) (from_one (λ on w v. Counts key w.state v.state) (entered state) (CountsIn key state) (λ v counts. went_in key state v counts.1))
     (λ why. unchanged key state) (λ party. unchanged key state) serving event not
     (λ seat names. each (seated seat (entered state).state))
 

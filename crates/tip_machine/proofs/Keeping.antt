@@ -11,7 +11,7 @@ use Rattle.tip_machine.specs.Commands.{make}
 use Rattle.tip_machine.specs.Reactions.{react}
 use Rattle.tip_machine.specs.Served.{Serving}
 use Rattle.tip_machine.specs.Steps.{attempt}
-use Rattle.tip_machine.proofs.Walks.{AtOne, Closed, Ends, Is, more_ends}
+use Rattle.tip_machine.proofs.Walks.{Closed, Ends, EndsAtOne, Is, from_one}
 use Rattle.tip_machine.proofs.AttemptWalks.{attempt-goes, is_opening}
 
 -- the counts stay, and the answer says of refusals and of new connections what it said
@@ -76,16 +76,16 @@ each None = tt
 each (Some c) = may c.number
 
 pub event-goes : (serving : Serving) (event : Event) (w : Work) → is_opening event ≡ false → w.answer.refusal ≡ None → Ends (Goes w) (attempt serving event w)
-event-goes serving event w not none = attempt-goes (λ key. Keeps) any closed_by_keeps w (Ends (Goes w)) (more_ends (AtOne (λ key. Keeps) w) (Goes w) (λ v one. kept w v none one.1)) (refused w) (λ party. record { head = refl; opened = refl; quiet = λ some. record { state = refl; told = refl; work = refl } }) serving event not (λ seat names. each (seated seat w.state))
+event-goes serving event w not none = attempt-goes (λ key. Keeps) any closed_by_keeps w (Ends (Goes w)) (from_one (λ key. Keeps) w (Goes w) (λ v one. kept w v none one.1)) (refused w) (λ party. record { head = refl; opened = refl; quiet = λ some. record { state = refl; told = refl; work = refl } }) serving event not (λ seat names. each (seated seat w.state))
 
 -- a change is wanted only where nothing is refused
 abbrev pub IsCalm : Attempt → Type 0
 IsCalm (Attempt.Done work) = Unit {0}
 IsCalm (Attempt.Asks change stored refused) = (stored.answer.refusal ≡ None) × (refused.answer.refusal ≡ None)
 
-calm : (w : Work) → w.answer.refusal ≡ None → (a : Attempt) → Ends (AtOne (λ key. Keeps) w) a → IsCalm a
+calm : (w : Work) → w.answer.refusal ≡ None → (a : Attempt) → EndsAtOne (λ key. Keeps) w a → IsCalm a
 calm w none (Attempt.Done v) keeps = tt
-calm w none (Attempt.Asks change stored refused) keeps = (keeps.0.1.refusal ∙ none, keeps.1.1.refusal ∙ none)
+calm w none (Attempt.Asks change stored refused) keeps = (keeps.0.1.refusal ∙ none, keeps.2.1.refusal ∙ none)
 
 pub event-calm : (serving : Serving) (event : Event) (w : Work) → is_opening event ≡ false → w.answer.refusal ≡ None → IsCalm (attempt serving event w)
 event-calm serving event w not none = attempt-goes (λ key. Keeps) any closed_by_keeps w IsCalm (calm w none) (λ why. tt) (λ party. tt) serving event not (λ seat names. each (seated seat w.state))

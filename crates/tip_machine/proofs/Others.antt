@@ -20,14 +20,14 @@ use Rattle.tip_machine.specs.Types.{Answer, Connection, Event, Transaction}
 use Rattle.tip_machine.specs.Answers.{key_asked, key_in, key_said, response_name}
 use Rattle.tip_machine.specs.Connections.{accepted, asks_for, awaiting, dialled, has_number, is_on, is_superior_of, advanced, names}
 use Rattle.tip_machine.specs.Transactions.{begun, has_key, next_key}
-use Rattle.tip_machine.specs.States.{State, Work, connection_of, has_place, seated, transaction_of}
+use Rattle.tip_machine.specs.States.{Attempt, State, Work, connection_of, has_place, seated, transaction_of}
 use Rattle.tip_machine.specs.Changes.{alter, change, end, tell}
 use Rattle.tip_machine.specs.Commands.{make, making}
 use Rattle.tip_machine.specs.Order.{in_turn, ordered, put_in, turn}
 use Rattle.tip_machine.specs.Reactions.{Demand, Reacted, Reaction, answers, demanded, demanded_as, demands, react, reacted, reacts, stays, told_by}
 use Rattle.tip_machine.specs.Requests.{added, dial, opened}
 use Rattle.tip_machine.specs.Served.{Serving}
-use Rattle.tip_machine.specs.Steps.{attempt, chosen, entered, frozen, is_for, is_open, step_serving, AreOf, IsOff, Names, TellsOfOne, TouchesOne}
+use Rattle.tip_machine.specs.Steps.{attempt, chosen, entered, frozen, is_for, is_open, step_serving, wanted, wants_serving, AreOf, IsOff, IsOfKey, Names, TellsOfOne, TouchesOne}
 use Rattle.tip_machine.specs.declared.answer.Asked.TheVariants as asked
 use Rattle.tip_machine.specs.declared.answer.Item.{Item}
 use Rattle.tip_machine.specs.declared.answer.Item.TheVariants.{Ask, Close}
@@ -38,10 +38,12 @@ use Rattle.tip_machine.specs.declared.connection.Purpose.{Purpose}
 use Rattle.tip_machine.specs.declared.connection.Role.{Role}
 use Rattle.tip_machine.specs.declared.connection.Role.TheVariants.{Superior, Subordinate}
 use Rattle.tip_machine.specs.declared.event.Event.TheVariants.{Open, Dial}
+use Rattle.tip_machine.specs.declared.event.Change.{Change}
 use Rattle.tip_machine.specs.declared.event.Outcome.{Outcome}
+use Rattle.tip_machine.specs.declared.event.Outcome.TheVariants.{NoChange, Stored, Refused}
 use Rattle.tip_machine.specs.declared.event.Seat.{Seat}
 use Rattle.tip_machine.specs.declared.transaction.Origin.{Origin}
-use Rattle.tip_machine.proofs.Walks.{AtOne, Closed, Ends, Is, IsPlain, chosen_ends, either, more_ends, or_any, seated-number}
+use Rattle.tip_machine.proofs.Walks.{Closed, EndsAtOne, Is, IsPlain, either, or_any, seated-number}
 use Rattle.tip_machine.proofs.Lists.{find-added, find-changed, find-without, none-changed, none-map, none-without}
 use Rattle.tip_machine.proofs.RuleWalks.{advanced-number}
 use Rattle.tip_machine.proofs.AttemptWalks.{attempt-goes, each_event, is_opening}
@@ -422,19 +424,29 @@ left event state key v leaves = (
   },
 )
 
-others : (serving : Serving) (event : Event) (state : State) → is_opening event ≡ false → Ends (Touches event state) (attempt serving event (entered state))
-others serving event state not =
-    attempt-goes (Leaves event) (Names event) (closed_by_leaves event) (entered state) (Ends (Touches event state))
-    (more_ends (AtOne (Leaves event) (entered state)) (Touches event state) (λ v one. left event state one.0 v one.1))
-    (λ why. refused event state) (λ party. refused event state) serving event not
+-- and what is stored is of the same transaction
+abbrev TouchesSo : Event → State → Outcome → Attempt → Type 0
+TouchesSo event state outcome a = (touches : Touches event state (chosen a outcome)) × IsOfKey touches.0 (wanted a) outcome
+
+left_so : (event : Event) (state : State) (outcome : Outcome) (a : Attempt) → EndsAtOne (Leaves event) (entered state) a → TouchesSo event state outcome a
+unfolding left
+left_so event state outcome (Attempt.Done v) one = (left event state one.0 v one.1, tt)
+left_so event state Stored (Attempt.Asks change stored refused) one = (left event state one.0.0 stored one.0.1, one.1)
+left_so event state Refused (Attempt.Asks change stored refused) one = (left event state one.2.0 refused one.2.1, tt)
+left_so event state NoChange (Attempt.Asks change stored refused) one = (left event state one.2.0 refused one.2.1, tt)
+
+others : (serving : Serving) (event : Event) (state : State) (outcome : Outcome) → is_opening event ≡ false → TouchesSo event state outcome (attempt serving event (entered state))
+others serving event state outcome not =
+    attempt-goes (Leaves event) (Names event) (closed_by_leaves event) (entered state) (TouchesSo event state outcome) (left_so event state outcome)
+    (λ why. (refused event state, tt)) (λ party. (refused event state, tt)) serving event not
     (λ seat names. each event (entered state).state seat names (seated seat (entered state).state) refl)
 
-attempt-touches : (serving : Serving) (event : Event) (state : State) → Ends (Touches event state) (attempt serving event (entered state))
-attempt-touches serving event state =
-    each_event (λ event. Ends (Touches event state) (attempt serving event (entered state)))
-    (λ boxes. opened-touches (Open boxes) boxes state)
-    (λ address purpose boxes. dial-touches (Dial address purpose boxes) serving.dials address purpose boxes state)
-    (λ event not. others serving event state not)
+attempt-touches : (serving : Serving) (event : Event) (state : State) (outcome : Outcome) → TouchesSo event state outcome (attempt serving event (entered state))
+attempt-touches serving event state outcome =
+    each_event (λ event. TouchesSo event state outcome (attempt serving event (entered state)))
+    (λ boxes. (opened-touches (Open boxes) boxes state, tt))
+    (λ address purpose boxes. (dial-touches (Dial address purpose boxes) serving.dials address purpose boxes state, tt))
+    (λ event not. others serving event state outcome not)
     event
 
 -- The order of lines
@@ -473,11 +485,21 @@ ordered-touches event state v touches = (
   },
 )
 
-went-touches : (serving : Serving) (state : State) (event : Event) (outcome : Outcome) → Touches event state (ordered state (chosen (attempt serving event (entered state)) outcome))
-went-touches serving state event outcome = ordered-touches event state _ (chosen_ends (Touches event state) (attempt serving event (entered state)) outcome (attempt-touches serving event state))
-
 frozen-touches : (event : Event) (state : State) → Touches event state (frozen event state)
 frozen-touches event state = (or_any None, untouched event state state refl refl, subst (TellsOfOne (or_any None) event state) (sym (returned-silent Frozen event).0) (nothing (or_any None) event state))
 
-pub touches : (serving : Serving) (state : State) (event : Event) (outcome : Outcome) → (key : Key) × TouchesOne key event state (step_serving serving state event outcome).state × TellsOfOne key event state (step_serving serving state event outcome).answer.told
-touches serving state event outcome = either (Touches event state) (is_open state) _ (frozen event state) (went-touches serving state event outcome) (frozen-touches event state)
+-- what is touched, by the work that is done and the change that is wanted
+abbrev TouchesAll : Event → State → Outcome → Work → Option Change → Type 0
+TouchesAll event state outcome v change = (key : Key) × TouchesOne key event state v.state × TellsOfOne key event state v.answer.told × IsOfKey key change outcome
+
+went-touches : (event : Event) (state : State) (outcome : Outcome) (a : Attempt) → TouchesSo event state outcome a → TouchesAll event state outcome (ordered state (chosen a outcome)) (wanted a)
+unfolding ordered-touches ordered
+went-touches event state outcome a so = let touches = ordered-touches event state (chosen a outcome) so.0 in (so.0.0, touches.1, touches.2, so.1)
+
+step-touches : (b : Bool) (event : Event) (state : State) (outcome : Outcome) (a : Attempt) → TouchesSo event state outcome a → TouchesAll event state outcome (cond b (ordered state (chosen a outcome)) (frozen event state)) (cond b (wanted a) None)
+step-touches true event state outcome a so = went-touches event state outcome a so
+step-touches false event state outcome a so = let touches = frozen-touches event state in (touches.0, touches.1, touches.2, tt)
+
+pub touches : (serving : Serving) (state : State) (event : Event) (outcome : Outcome) →
+    (key : Key) × TouchesOne key event state (step_serving serving state event outcome).state × TellsOfOne key event state (step_serving serving state event outcome).answer.told × IsOfKey key (wants_serving serving state event) outcome
+touches serving state event outcome = step-touches (is_open state) event state outcome (attempt serving event (entered state)) (attempt-touches serving event state outcome)

@@ -47,7 +47,7 @@ use Rattle.tip_machine.specs.declared.connection.Role.TheVariants.{Superior, Sub
 use Rattle.tip_machine.specs.declared.transaction.Origin.{Origin}
 use Rattle.tip_machine.specs.declared.transaction.Origin.TheVariants as origin
 use Rattle.tip_machine.specs.declared.transaction.PartyPlace.TheVariants.{Here, Out, Spent}
-use Rattle.tip_machine.proofs.Walks.{AtOne, Closed, Ends, Is, IsPlain, at_one, attempt_on_each, either, either_ends, found_passes, is_or_any, key_of, more_ends, on_asked, on_each, on_found, or_any}
+use Rattle.tip_machine.proofs.Walks.{AtOne, Closed, EndsAtOne, EndsOn, Is, IsPlain, at_one, attempt_on_each, either, either_attempt, found_passes, is_or_any, key_of, more_on, on_asked, on_each, on_found, or_any}
 
 advanced_to-number : (place : Option (ConnectionState × Turn)) (c : Connection) → (advanced_to place c).number ≡ c.number
 advanced_to-number None c = refl
@@ -157,41 +157,41 @@ module _ (R : Work → Work → Type 0) (May : ℕ → Type 0) (On : Key → Typ
       let told = react needs_nothing key w in
       k.then w told _ (k.reacts needs_nothing key w plain_needs_nothing on) (k.then told (dispatch key told) _ (dispatch-keeps key told on) (k.ends key _ on))
 
-  agree-keeps : (owed : Option CommandName) (from : Origin) (t : Transaction) (w : Work) → On t.key → Ends (R w) (agree owed from t w)
-  agree-keeps (Some command.Prepare) (origin.Subordinate (Some address) superior) t w on = (promise-keeps t.key w on, abort-keeps t.key w on)
-  agree-keeps (Some command.Commit) from t w on = (commit-keeps t.key w on, abort-keeps t.key w on)
+  agree-keeps : (owed : Option CommandName) (from : Origin) (t : Transaction) (w : Work) → On t.key → EndsOn On (R w) (agree owed from t w)
+  agree-keeps (Some command.Prepare) (origin.Subordinate (Some address) superior) t w on = (on, promise-keeps t.key w on, abort-keeps t.key w on)
+  agree-keeps (Some command.Commit) from t w on = (on, commit-keeps t.key w on, abort-keeps t.key w on)
   agree-keeps other from t w on = k.same w
 
   wait-keeps : (phase : Phase) (key : Key) (w : Work) → On key → R w (wait phase key w)
   wait-keeps phase.Asking key w on = k.reacts asks key w plain_asks on
   wait-keeps other key w on = k.same w
 
-  conclude-keeps : (decision : Decision) (t : Transaction) (w : Work) → On t.key → Ends (R w) (conclude decision t w)
+  conclude-keeps : (decision : Decision) (t : Transaction) (w : Work) → On t.key → EndsOn On (R w) (conclude decision t w)
   conclude-keeps decision.Wait t w on = wait-keeps t.phase t.key w on
   conclude-keeps decision.Commit t w on = agree-keeps (owed_to_superior t.key w.state) t.origin t w on
   conclude-keeps decision.Abort t w on = abort-keeps t.key w on
   conclude-keeps decision.ReadOnly t w on = leave-keeps t.key w on
 
-  pub finish-keeps : (v : Work) (t : Transaction) (w : Work) → On t.key → R v w → Ends (R v) (finish t w)
+  pub finish-keeps : (v : Work) (t : Transaction) (w : Work) → On t.key → R v w → EndsOn On (R v) (finish t w)
   unfolding finish
-  finish-keeps v t w on r = either_ends (R v) (is_done t) _ _ (k.then v w _ r (k.ends t.key w on), r) r
+  finish-keeps v t w on r = either_attempt (EndsOn On (R v)) (is_done t) _ _ (on, k.then v w _ r (k.ends t.key w on), r) r
 
-  settle_in-keeps : (phase : Phase) (t : Transaction) (w : Work) → On t.key → Ends (R w) (settle_in phase t w)
+  settle_in-keeps : (phase : Phase) (t : Transaction) (w : Work) → On t.key → EndsOn On (R w) (settle_in phase t w)
   settle_in-keeps phase.Active t w on = conclude-keeps (decision_of t) t w on
   settle_in-keeps phase.Asking t w on = conclude-keeps (decision_of t) t w on
   settle_in-keeps phase.Prepared t w on = k.same w
   settle_in-keeps phase.Committed t w on = finish-keeps w t (react commits t.key w) on (k.reacts commits t.key w plain_commits on)
   settle_in-keeps phase.Aborted t w on = abort-keeps t.key w on
 
-  settle-here : (key : Key) (w : Work) → On key → Ends (R w) (settle key w)
+  settle-here : (key : Key) (w : Work) → On key → EndsOn On (R w) (settle key w)
   unfolding settle
-  settle-here key w on = attempt_on_each (R w) (transaction_of key w.state) (λ t. settle_in t.phase t) w (k.same w) (λ t is. settle_in-keeps t.phase t w (on_found On key w.state.transactions t is on))
+  settle-here key w on = attempt_on_each (EndsOn On (R w)) (transaction_of key w.state) (λ t. settle_in t.phase t) w (k.same w) (λ t is. settle_in-keeps t.phase t w (on_found On key w.state.transactions t is on))
 
   -- what keeps what was kept
-  more : (a : Attempt) (v w : Work) → R v w → Ends (R w) a → Ends (R v) a
-  more a v w r p = more_ends (R w) (R v) (λ u. k.then v w u r) a p
+  more : (a : Attempt) (v w : Work) → R v w → EndsOn On (R w) a → EndsOn On (R v) a
+  more a v w r p = more_on On (R w) (R v) (λ u. k.then v w u r) a p
 
-  pub settle-keeps : (v : Work) (key : Key) (w : Work) → On key → R v w → Ends (R v) (settle key w)
+  pub settle-keeps : (v : Work) (key : Key) (w : Work) → On key → R v w → EndsOn On (R v) (settle key w)
   settle-keeps v key w on r = more (settle key w) v w r (settle-here key w on)
 
   asked-keeps : (place : PartyPlace) (key : Key) (w : Work) → On key → R w (asked_for_votes place key w)
@@ -199,7 +199,7 @@ module _ (R : Work → Work → Type 0) (May : ℕ → Type 0) (On : Key → Typ
   asked-keeps (Out errand) key w on = k.same w
   asked-keeps Spent key w on = k.same w
 
-  ask-keeps : (t : Transaction) (w : Work) → On t.key → Ends (R w) (ask t w)
+  ask-keeps : (t : Transaction) (w : Work) → On t.key → EndsOn On (R w) (ask t w)
   unfolding ask
   ask-keeps t w on =
       let entered = enter phase.Asking t.key w in
@@ -304,7 +304,7 @@ module _ (R : Work → Work → Type 0) (May : ℕ → Type 0) (On : Key → Typ
   reconnect_to-keeps None n w may on = reply-keeps n _ _ w may tt
   reconnect_to-keeps (Some t) n w may on = either (R w) (is_prepared t.phase) (take_over t.key n (find (is_superior_of t.key) w.state.connections) w) _ (take_over-keeps t.key n _ w refl may on) (reply-keeps n _ _ w may tt)
 
-  prepare-keeps : (phase : Phase) (peer : Option (List ℕ)) (c : Connection) (t : Transaction) (w : Work) → On t.key → Ends (R w) (prepare phase peer c t w)
+  prepare-keeps : (phase : Phase) (peer : Option (List ℕ)) (c : Connection) (t : Transaction) (w : Work) → On t.key → EndsOn On (R w) (prepare phase peer c t w)
   prepare-keeps phase.Active (Some address) c t w on = ask-keeps t w on
   prepare-keeps phase.Active None c t w on = abort-keeps t.key w on
   prepare-keeps phase.Asking peer c t w on = k.same w
@@ -312,17 +312,17 @@ module _ (R : Work → Work → Type 0) (May : ℕ → Type 0) (On : Key → Typ
   prepare-keeps phase.Committed peer c t w on = k.same w
   prepare-keeps phase.Aborted peer c t w on = abort-keeps t.key w on
 
-  decide_commit-keeps : (phase : Phase) (c : Connection) (t : Transaction) (w : Work) → May c.number → IfSome (key_of c.role) On → On t.key → Ends (R w) (decide_commit phase c t w)
+  decide_commit-keeps : (phase : Phase) (c : Connection) (t : Transaction) (w : Work) → May c.number → IfSome (key_of c.role) On → On t.key → EndsOn On (R w) (decide_commit phase c t w)
   decide_commit-keeps phase.Active c t w may role on = ask-keeps t w on
   decide_commit-keeps phase.Asking c t w may role on = k.same w
-  decide_commit-keeps phase.Prepared c t w may role on = (commit-keeps t.key w on, closed-keeps c w may role)
+  decide_commit-keeps phase.Prepared c t w may role on = (on, commit-keeps t.key w on, closed-keeps c w may role)
   decide_commit-keeps phase.Committed c t w may role on = k.same w
   decide_commit-keeps phase.Aborted c t w may role on = abort-keeps t.key w on
 
-  decide_abort-keeps : (phase : Phase) (c : Connection) (t : Transaction) (w : Work) → May c.number → IfSome (key_of c.role) On → On t.key → Ends (R w) (decide_abort phase c t w)
+  decide_abort-keeps : (phase : Phase) (c : Connection) (t : Transaction) (w : Work) → May c.number → IfSome (key_of c.role) On → On t.key → EndsOn On (R w) (decide_abort phase c t w)
   decide_abort-keeps phase.Active c t w may role on = abort-keeps t.key w on
   decide_abort-keeps phase.Asking c t w may role on = k.same w
-  decide_abort-keeps phase.Prepared c t w may role on = (abort-keeps t.key w on, closed-keeps c w may role)
+  decide_abort-keeps phase.Prepared c t w may role on = (on, abort-keeps t.key w on, closed-keeps c w may role)
   decide_abort-keeps phase.Committed c t w may role on = k.same w
   decide_abort-keeps phase.Aborted c t w may role on = abort-keeps t.key w on
 
@@ -331,10 +331,10 @@ module _ (R : Work → Work → Type 0) (May : ℕ → Type 0) (On : Key → Typ
   on_obeyed (Some (Superior key)) state t is on = on_found On key state.transactions t is on
   on_obeyed (Some (Subordinate key part)) state t is on = absurd (none-some t is)
 
-  obey-keeps : (command : CommandName) (rule : Transaction → Work → Attempt) (c : Connection) (w : Work) → May c.number → IfSome (key_of c.role) On → ((t : Transaction) (v : Work) → On t.key → Ends (R v) (rule t v)) → Ends (R w) (obey command rule c w)
+  obey-keeps : (command : CommandName) (rule : Transaction → Work → Attempt) (c : Connection) (w : Work) → May c.number → IfSome (key_of c.role) On → ((t : Transaction) (v : Work) → On t.key → EndsOn On (R v) (rule t v)) → EndsOn On (R w) (obey command rule c w)
   obey-keeps command rule c w may on keeps =
       let owed = change c.number (owing command) w in
-      more (obey command rule c w) w owed (k.changes c.number (owing command) w may (λ c. refl) (λ c. refl)) (attempt_on_each (R owed) (option_and_then (λ key. transaction_of key owed.state) (superior_role c.role)) rule owed (k.same owed) (λ t is. keeps t owed (on_obeyed c.role owed.state t is on)))
+      more (obey command rule c w) w owed (k.changes c.number (owing command) w may (λ c. refl) (λ c. refl)) (attempt_on_each (EndsOn On (R owed)) (option_and_then (λ key. transaction_of key owed.state) (superior_role c.role)) rule owed (k.same owed) (λ t is. keeps t owed (on_obeyed c.role owed.state t is on)))
 
 -- Any command, where what is touched is the transaction of some one key
 module _ (R : Key → Work → Work → Type 0) (May : ℕ → Type 0) (k : (key : Key) → Closed (R key) May (Is key)) where
@@ -375,13 +375,13 @@ module _ (R : Key → Work → Work → Type 0) (May : ℕ → Type 0) (k : (key
   reconnects subordinate c w may = let found = identified_by subordinate w.state in for_found found w _ (λ key on. reconnect_to-keeps (R key) May (Is key) (k key) found c.number w may on)
 
   -- a rule of the superior's transaction
-  obeys : (command : CommandName) (rule : Transaction → Work → Attempt) (c : Connection) (w : Work) → May c.number → ((key : Key) → IfSome (key_of c.role) (Is key) → (t : Transaction) (v : Work) → t.key ≡ key → Ends (R key v) (rule t v)) → Ends (AtOne R w) (obey command rule c w)
+  obeys : (command : CommandName) (rule : Transaction → Work → Attempt) (c : Connection) (w : Work) → May c.number → ((key : Key) → IfSome (key_of c.role) (Is key) → (t : Transaction) (v : Work) → t.key ≡ key → EndsOn (Is key) (R key v) (rule t v)) → EndsAtOne R w (obey command rule c w)
   obeys command rule c w may keeps =
       let key = or_any (key_of c.role) in
       let on = is_or_any (key_of c.role) in
       at_one R w key (obey command rule c w) (obey-keeps (R key) May (Is key) (k key) command rule c w may on (keeps key on))
 
-  serves : (command : Command) (c : Connection) (w : Work) → May c.number → connection_of c.number w.state ≡ Some c → Ends (AtOne R w) (serve command c w)
+  serves : (command : Command) (c : Connection) (w : Work) → May c.number → connection_of c.number w.state ≡ Some c → EndsAtOne R w (serve command c w)
   serves (Identify lowest highest peer secondary) c w may is = identifies lowest highest peer c w may
   serves Begin c w may is = begins c w may is
   serves (Push superior) c w may is = pushes superior c w may is
@@ -395,10 +395,10 @@ module _ (R : Key → Work → Work → Type 0) (May : ℕ → Type 0) (k : (key
   serves Tls c w may is = replied c _ _ w may tt
   serves Error c w may is = closes c w may
 
-  serves_if : (serving : Serving) (admit : Admit) (command : Command) (c : Connection) (w : Work) → May c.number → connection_of c.number w.state ≡ Some c → Ends (AtOne R w) (serve_if serving admit command c w)
-  serves_if serving Serve command c w may is = either_ends (AtOne R w) (serving.commands (name_of command)) (serve command c w) _ (serves command c w may is) (goes_wrong c w may)
+  serves_if : (serving : Serving) (admit : Admit) (command : Command) (c : Connection) (w : Work) → May c.number → connection_of c.number w.state ≡ Some c → EndsAtOne R w (serve_if serving admit command c w)
+  serves_if serving Serve command c w may is = either_attempt (EndsAtOne R w) (serving.commands (name_of command)) (serve command c w) _ (serves command c w may is) (goes_wrong c w may)
   serves_if serving Wrong command c w may is = goes_wrong c w may
 
-  pub is_commanded : (serving : Serving) (command : Command) (c : Connection) (w : Work) → May c.number → connection_of c.number w.state ≡ Some c → Ends (AtOne R w) (commanded serving command c w)
+  pub is_commanded : (serving : Serving) (command : Command) (c : Connection) (w : Work) → May c.number → connection_of c.number w.state ≡ Some c → EndsAtOne R w (commanded serving command c w)
   unfolding commanded
   is_commanded serving command c w may is = serves_if serving (admit_of c.state c.side (name_of command)) command c w may is

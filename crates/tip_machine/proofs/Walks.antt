@@ -18,7 +18,7 @@ use Rattle.tip_machine.specs.Answers.{key_asked, key_in, key_said}
 use Rattle.tip_machine.specs.Changes.{alter, attempt_on, change, end, on, tell}
 use Rattle.tip_machine.specs.Commands.{make}
 use Rattle.tip_machine.specs.Reactions.{Reaction, react}
-use Rattle.tip_machine.specs.Steps.{chosen}
+use Rattle.tip_machine.specs.Steps.{chosen, key_changed}
 use Rattle.tip_machine.specs.declared.answer.Item.{Item}
 use Rattle.tip_machine.specs.declared.answer.Item.TheVariants.{Close}
 use Rattle.tip_machine.specs.declared.connection.Role.{Role}
@@ -63,6 +63,11 @@ abbrev pub Ends : (Work → Type 0) → Attempt → Type 0
 Ends P (Attempt.Done work) = P work
 Ends P (Attempt.Asks change stored refused) = P stored × P refused
 
+-- the same, where the change is of a transaction that may be changed
+abbrev pub EndsOn : (Key → Type 0) → (Work → Type 0) → Attempt → Type 0
+EndsOn On P (Attempt.Done work) = P work
+EndsOn On P (Attempt.Asks change stored refused) = On (key_changed change) × P stored × P refused
+
 pub chosen_ends : (P : Work → Type 0) (attempt : Attempt) (outcome : Outcome) → Ends P attempt → P (chosen attempt outcome)
 chosen_ends P (Attempt.Done work) outcome p = p
 chosen_ends P (Attempt.Asks change stored refused) Stored p = p.0
@@ -76,6 +81,10 @@ either_attempt P false this that e f = f
 pub either_ends : (P : Work → Type 0) (b : Bool) (this that : Attempt) → Ends P this → Ends P that → Ends P (cond b this that)
 either_ends P = either_attempt (Ends P)
 
+pub more_on : (On : Key → Type 0) (P Q : Work → Type 0) → ((w : Work) → P w → Q w) → (a : Attempt) → EndsOn On P a → EndsOn On Q a
+more_on On P Q goes (Attempt.Done w) p = goes w p
+more_on On P Q goes (Attempt.Asks change stored refused) p = (p.0, goes stored p.1, goes refused p.2)
+
 pub more_ends : (P Q : Work → Type 0) → ((w : Work) → P w → Q w) → (a : Attempt) → Ends P a → Ends Q a
 more_ends P Q goes (Attempt.Done w) p = goes w p
 more_ends P Q goes (Attempt.Asks change stored refused) p = (goes stored p.0, goes refused p.1)
@@ -84,7 +93,7 @@ pub on_each : (P : Work → Type 0) (found : Option Transaction) (rule : Transac
 on_each P None rule work none some = none
 on_each P (Some t) rule work none some = some t refl
 
-pub attempt_on_each : (P : Work → Type 0) (found : Option Transaction) (rule : Transaction → Work → Attempt) (work : Work) → P work → ((t : Transaction) → found ≡ Some t → Ends P (rule t work)) → Ends P (attempt_on found rule work)
+pub attempt_on_each : (P : Attempt → Type 0) (found : Option Transaction) (rule : Transaction → Work → Attempt) (work : Work) → P (Attempt.Done work) → ((t : Transaction) → found ≡ Some t → P (rule t work)) → P (attempt_on found rule work)
 attempt_on_each P None rule work none some = none
 attempt_on_each P (Some t) rule work none some = some t refl
 
@@ -146,5 +155,15 @@ is_or_any (Some key) = refl
 abbrev pub AtOne : (Key → Work → Work → Type 0) → Work → Work → Type 0
 AtOne R w v = (key : Key) × R key w v
 
-pub at_one : (R : Key → Work → Work → Type 0) (w : Work) (key : Key) (a : Attempt) → Ends (R key w) a → Ends (AtOne R w) a
-at_one R w key a p = more_ends (R key w) (AtOne R w) (λ v r. (key, r)) a p
+-- for each outcome, of some one key, which is that of a change that was stored
+abbrev pub EndsAtOne : (Key → Work → Work → Type 0) → Work → Attempt → Type 0
+EndsAtOne R w (Attempt.Done v) = AtOne R w v
+EndsAtOne R w (Attempt.Asks change stored refused) = (one : AtOne R w stored) × (key_changed change ≡ one.0) × AtOne R w refused
+
+pub at_one : (R : Key → Work → Work → Type 0) (w : Work) (key : Key) (a : Attempt) → EndsOn (Is key) (R key w) a → EndsAtOne R w a
+at_one R w key (Attempt.Done v) p = (key, p)
+at_one R w key (Attempt.Asks change stored refused) p = ((key, p.1), p.0, (key, p.2))
+
+pub from_one : (R : Key → Work → Work → Type 0) (w : Work) (Q : Work → Type 0) → ((v : Work) → AtOne R w v → Q v) → (a : Attempt) → EndsAtOne R w a → Ends Q a
+from_one R w Q goes (Attempt.Done v) one = goes v one
+from_one R w Q goes (Attempt.Asks change stored refused) one = (goes stored one.0, goes refused one.2)

@@ -15,6 +15,7 @@ use Rattle.tip_machine.specs.Requests.{ask_pull, ask_push, dial, line, lost, ope
 use Rattle.tip_machine.specs.Served.{Serving, today}
 use Rattle.tip_machine.specs.declared.answer.Told.{Told}
 use Rattle.tip_machine.specs.declared.event.Change.{Change}
+use Rattle.tip_machine.specs.declared.event.Change.TheVariants.{Put, Remove}
 use Rattle.tip_machine.specs.declared.event.Seat.{Seat}
 use Rattle.tip_machine.specs.declared.event.Outcome.{Outcome}
 use Rattle.tip_machine.specs.declared.event.Outcome.TheVariants.{NoChange, Stored, Refused}
@@ -127,6 +128,15 @@ is_for number told = told.connection == number
 pub record TellsOfOne (key : Key) (event : Event) (old : State) (told : List Told) : Type 0 where
   pub named : AreOf key told
   pub quiet : (number : ℕ) → number ≤ old.head.given → ¬ Names event number → IsOff key number old → list_any (is_for number) told ≡ false
+
+abbrev pub key_changed : Change → Key
+key_changed (Put key row) = key
+key_changed (Remove key) = key
+
+-- a change that was stored is of the transaction of this key
+abbrev pub IsOfKey : Key → Option Change → Outcome → Type 0
+IsOfKey key (Some change) Stored = key_changed change ≡ key
+IsOfKey key change outcome = Unit {0}
 
 -- no transaction of this identifier is open, or it is aborted
 abbrev pub IsForgotten : List ℕ → State → Type 0
