@@ -1,6 +1,7 @@
 -- Each event that opens no connection is refused, or keeps what each single change keeps.
 use Rattle.std.proofs.Common.{◌≡◌, Bool, true, false, ℕ, List, Option, Some, None, cond, refl}
-use Rattle.std.specs.Prelude.{find}
+use Rattle.std.specs.Prelude.{◌==◌, find}
+use Rattle.std.proofs.lemmas.Option.{none-some}
 use Rattle.std.specs.Option.{IfSome}
 use Rattle.tip_branch.specs.Notes.{PartyNotes}
 use Rattle.tip_branch.specs.declared.branch.Badge.{Badge}
@@ -11,7 +12,7 @@ use Rattle.tip_rows.specs.Keys.{Place as Key}
 use Rattle.tip_txn.specs.Parts.{answered}
 use Rattle.tip_machine.specs.Types.{Connection, Event, PartyPlace, Transaction}
 use Rattle.tip_machine.specs.Connections.{is_free, may_take}
-use Rattle.tip_machine.specs.Transactions.{has_ready, is_active, is_committed, is_done, is_known, next_key, standing_at, party_answer}
+use Rattle.tip_machine.specs.Transactions.{has_id, has_ready, is_active, is_committed, is_done, is_known, next_key, standing_at, party_answer}
 use Rattle.tip_machine.specs.States.{Attempt, State, Work, connection_of, has_room, identified_by, seated}
 use Rattle.tip_machine.specs.Changes.{alter, refuse}
 use Rattle.tip_machine.specs.Settling.{dispatch, finish, settle}
@@ -24,8 +25,8 @@ use Rattle.tip_machine.specs.declared.event.Heard.{Heard}
 use Rattle.tip_machine.specs.declared.event.Seat.{Seat}
 use Rattle.tip_machine.specs.declared.transaction.PartyPlace.TheVariants.{Here, Out, Spent}
 use Rattle.tip_machine.specs.declared.transaction.Origin.TheVariants as origin
-use Rattle.tip_machine.proofs.Walks.{Closed, EndsAtOne, EndsOn, Is, at_one, either, either_attempt, is_or_any, key_of, or_any, seated_there}
-use Rattle.tip_machine.proofs.RuleWalks.{dispatch-keeps, enlisting-keeps, fail-keeps, finish-keeps, noting-keeps, send-keeps, settle-keeps, standing-keeps, taking-keeps}
+use Rattle.tip_machine.proofs.Walks.{Closed, EndsAtOne, EndsOn, Is, at_one, either, either_attempt, found_passes, is_or_any, key_of, or_any, seated_there}
+use Rattle.tip_machine.proofs.RuleWalks.{dispatch-keeps, enlisting-keeps, fail-keeps, finish-keeps, noting-keeps, send-keeps, settle-keeps, taking-keeps}
 use Rattle.tip_machine.proofs.EventWalks.{is_heard}
 
 -- does it open a connection?
@@ -50,8 +51,20 @@ each_event P opens dials others (Resume id) = others (Resume id) refl
 abbrev IsThere : Option Connection → State → Type 0
 IsThere found state = (c : Connection) → found ≡ Some c → connection_of c.number state ≡ Some c
 
+-- the transaction of a party that came back has its identifier
+owner_if : (b : Bool) (test : Transaction → Bool) (ts : List Transaction) (t : Transaction) → cond b (find test ts) None ≡ Some t → test t ≡ true
+owner_if true test ts t is = found_passes test ts t is
+owner_if false test ts t is = absurd (none-some t is)
+
+owner_named : (party : PartyNotes) (state : State) (t : Transaction) → owner party state ≡ Some t → has_id state.head.name party.id t ≡ true
+owner_named party state t is = owner_if (party.epoch == state.head.epoch) (has_id state.head.name party.id) state.transactions t is
+
 -- what holds of an event that was refused, of one that brought a stranger, and of what was kept
 module _ (R : Key → Work → Work → Type 0) (May : ℕ → Type 0) (k : (key : Key) → Closed (R key) May (Is key)) (w : Work) (Q : Attempt → Type 0) (kept : (a : Attempt) → EndsAtOne R w a → Q a) (refused : (why : Refusal) → Q (Attempt.Done (refuse why w))) (strangers : (party : PartyNotes) → Q (strange party w)) where
+  -- a transaction that was found has the identifier that the party says
+  abbrev IsNamed : Option Transaction → PartyNotes → Type 0
+  IsNamed found party = (t : Transaction) → found ≡ Some t → has_id w.state.head.name party.id t ≡ true
+
   kept_each : (key : Key) (a : Attempt) → EndsOn (Is key) (R key w) a → Q a
   kept_each key a keeps = kept a (at_one R w key a keeps)
 
@@ -98,22 +111,22 @@ module _ (R : Key → Work → Work → Type 0) (May : ℕ → Type 0) (k : (key
     resume_in-goes Spent = either_attempt Q (is_done t) (finish t w) _ (kept_each t.key _ (finish-keeps (R t.key) May (Is t.key) (k t.key) w t w refl ((k t.key).same w))) (refused Busy)
 
     -- its party is here again
-    returns : (party : PartyNotes) → R t.key w (alter t.key (standing_at (Here party)) w)
-    returns party = standing-keeps (R t.key) May (Is t.key) (k t.key) (Here party) t.key w refl
+    returns : (party : PartyNotes) → has_id w.state.head.name party.id t ≡ true → R t.key w (alter t.key (standing_at (Here party)) w)
+    returns party own = (k t.key).returns party t w refl own
 
     settles_from : (v : Work) → R t.key w v → Q (settle t.key v)
     settles_from v r = kept_each t.key _ (settle-keeps (R t.key) May (Is t.key) (k t.key) w t.key v refl r)
 
-    voted_for-goes : (place : PartyPlace) (party : PartyNotes) → Q (voted_for place party t w)
-    voted_for-goes (Out errand.Vote) party = settles_from _ ((k t.key).then w _ _ (returns party) (noting-keeps (R t.key) May (Is t.key) (k t.key) 0 (answered (party_answer party)) t.key _ refl))
-    voted_for-goes place party = strangers party
+    voted_for-goes : (place : PartyPlace) (party : PartyNotes) → has_id w.state.head.name party.id t ≡ true → Q (voted_for place party t w)
+    voted_for-goes (Out errand.Vote) party own = settles_from _ ((k t.key).then w _ _ (returns party own) (noting-keeps (R t.key) May (Is t.key) (k t.key) 0 (answered (party_answer party)) t.key _ refl))
+    voted_for-goes place party own = strangers party
 
-    settled_for-goes : (place : PartyPlace) (party : PartyNotes) → Q (settled_for place party t w)
-    settled_for-goes (Out errand.Commit) party =
+    settled_for-goes : (place : PartyPlace) (party : PartyNotes) → has_id w.state.head.name party.id t ≡ true → Q (settled_for place party t w)
+    settled_for-goes (Out errand.Commit) party own =
         let here = alter t.key (standing_at (Here party)) w in
-        settles_from _ (either (R t.key w) (has_ready party) here (dispatch t.key here) (returns party) ((k t.key).then w here _ (returns party) (dispatch-keeps (R t.key) May (Is t.key) (k t.key) t.key here refl)))
-    settled_for-goes (Out errand.Abort) party = settles_from _ (returns party)
-    settled_for-goes place party = strangers party
+        settles_from _ (either (R t.key w) (has_ready party) here (dispatch t.key here) (returns party own) ((k t.key).then w here _ (returns party own) (dispatch-keeps (R t.key) May (Is t.key) (k t.key) t.key here refl)))
+    settled_for-goes (Out errand.Abort) party own = settles_from _ (returns party own)
+    settled_for-goes place party own = strangers party
 
   push_found-goes : (found : Option Transaction) (peer : Option (List ℕ)) (n : ℕ) → May n → Q (Attempt.Done (push_part found peer n w))
   push_found-goes None peer n may = refused NotActive
@@ -129,22 +142,22 @@ module _ (R : Key → Work → Work → Type 0) (May : ℕ → Type 0) (k : (key
   resume-goes None = refused NotActive
   resume-goes (Some t) = either_attempt Q (is_committed t.phase) (resume_in t.place t w) _ (resume_in-goes t t.place) (refused NotActive)
 
-  voted-goes : (found : Option Transaction) (party : PartyNotes) → Q (voted found party w)
+  voted-goes : (found : Option Transaction) (party : PartyNotes) → IsNamed found party → Q (voted found party w)
   unfolding voted
-  voted-goes None party = strangers party
-  voted-goes (Some t) party = voted_for-goes t t.place party
+  voted-goes None party own = strangers party
+  voted-goes (Some t) party own = voted_for-goes t t.place party (own t refl)
 
-  settled-goes : (found : Option Transaction) (party : PartyNotes) → Q (settled found party w)
+  settled-goes : (found : Option Transaction) (party : PartyNotes) → IsNamed found party → Q (settled found party w)
   unfolding settled
-  settled-goes None party = strangers party
-  settled-goes (Some t) party = settled_for-goes t t.place party
+  settled-goes None party own = strangers party
+  settled-goes (Some t) party own = settled_for-goes t t.place party (own t refl)
 
   pub attempt-goes : (serving : Serving) (event : Event) → is_opening event ≡ false → ((seat : Seat) → Names event seat.number → IfSome (seated seat w.state) (λ c. May c.number)) → Q (attempt serving event w)
   attempt-goes serving (Open boxes) not may = absurd (cc)
   attempt-goes serving (Dial address purpose boxes) not may = absurd (cc)
   attempt-goes serving (Line seat heard) not may = line-goes serving (seated seat w.state) (may seat refl) heard (seated_there seat w.state)
-  attempt-goes serving (Voted party) not may = voted-goes (owner party w.state) party
-  attempt-goes serving (Settled party) not may = settled-goes (owner party w.state) party
+  attempt-goes serving (Voted party) not may = voted-goes (owner party w.state) party (owner_named party w.state)
+  attempt-goes serving (Settled party) not may = settled-goes (owner party w.state) party (owner_named party w.state)
   attempt-goes serving (Lost seat) not may = lost-goes (seated seat w.state) (may seat refl)
   attempt-goes serving (AskPush seat id) not may = ask_push-goes (seated seat w.state) (may seat refl) id
   attempt-goes serving (AskPull seat superior) not may = ask_pull-goes (seated seat w.state) (may seat refl) superior (seated_there seat w.state)

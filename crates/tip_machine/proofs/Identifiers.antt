@@ -10,9 +10,9 @@ use Rattle.tip_line.specs.declared.refusal.Refusal.TheVariants.{Full}
 use Rattle.tip_rows.specs.Keys.{Place as Key, is_same}
 use Rattle.tip_rows.proofs.OrderLemmas.{same_place}
 use Rattle.tip_table.specs.Lists.{changed, without}
-use Rattle.tip_machine.specs.Types.{Connection, Event, Transaction}
+use Rattle.tip_machine.specs.Types.{Connection, Event, PartyPlace, Transaction}
 use Rattle.tip_machine.specs.Connections.{accepted, dialled, has_number}
-use Rattle.tip_machine.specs.Transactions.{begun, has_key, next_key}
+use Rattle.tip_machine.specs.Transactions.{begun, has_key, next_key, standing_at}
 use Rattle.tip_machine.specs.States.{State, Work, connection_of, has_place, seated, transaction_of}
 use Rattle.tip_machine.specs.Changes.{refuse}
 use Rattle.tip_machine.specs.Commands.{make, making}
@@ -25,6 +25,7 @@ use Rattle.tip_machine.specs.Steps.{attempt, chosen, entered, frozen, is_open, s
 use Rattle.tip_machine.specs.declared.connection.Purpose.{Purpose}
 use Rattle.tip_machine.specs.declared.event.Outcome.{Outcome}
 use Rattle.tip_machine.specs.declared.transaction.Origin.{Origin}
+use Rattle.tip_machine.specs.declared.transaction.PartyPlace.TheVariants.{Here, Out, Spent}
 use Rattle.tip_machine.proofs.Walks.{Closed, Ends, Is, chosen_ends, either, from_one, or_any}
 use Rattle.tip_machine.proofs.RuleWalks.{advanced-made}
 use Rattle.tip_machine.proofs.AttemptWalks.{attempt-goes, each_event, is_opening}
@@ -178,6 +179,9 @@ module _ (key : Key) where
     step true same absent = inr (subst (λ p. IsMade p w.state (make from c w).state) (sym (same_place key (next_key w.state.head c) same)) (not_given c w.state is, given_then (length w.state.head.branches) c w.state is))
     step false differ absent = inl (none-added (has_key key) w.state.transactions (begun w.state.head (next_key w.state.head c) from (take (length w.state.head.branches) c.boxes)) absent differ)
 
+  stands : (at : Key) (place : PartyPlace) (s : State) → Counts key s (record s { transactions = changed (has_key at) (standing_at place) s.transactions })
+  stands at place s = transacts key s (changed (has_key at) (standing_at place) s.transactions) (none-changed (has_key key) (has_key at) (standing_at place) s.transactions (λ t is none. none))
+
   closed_by_counts : (on : Key) → Closed (λ w v. Counts key w.state v.state) any (Is on)
   unfolding react
   closed_by_counts on = record {
@@ -185,10 +189,11 @@ module _ (key : Key) where
     then = λ a b c f g. goes_on key a.state b.state c.state f g;
     tells = λ n item w may of. still key w.state;
     dismisses = λ at c w v is found counts. goes_on key w.state v.state _ counts (still key v.state);
-    works = λ w party. still key w.state;
-    spends = λ w party. still key w.state;
+    gives = λ errand party at w is here. stands at (Out errand) w.state;
+    lets = λ party at w is here. stands at Spent w.state;
+    returns = λ party t w is own. stands t.key (Here party) w.state;
     hands = λ w boxes. still key w.state;
-    alters = λ at f w is same. transacts key w.state (changed (has_key at) f w.state.transactions) (none-changed (has_key key) (has_key at) f w.state.transactions (λ t is none. ap (is_same key) (same t) ∙ none));
+    alters = λ at f w is same stays. transacts key w.state (changed (has_key at) f w.state.transactions) (none-changed (has_key key) (has_key at) f w.state.transactions (λ t is none. ap (is_same key) (same t) ∙ none));
     ends = λ at w is. transacts key w.state (without (has_key at) w.state.transactions) (none-without (has_key key) (has_key at) w.state.transactions);
     makes = λ from c w may is found. has_made from c w found;
     changes = λ n f w may same made. changed_at key n f w.state same (to_make_alike key f same made);

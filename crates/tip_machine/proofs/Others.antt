@@ -1,33 +1,35 @@
 -- The transactions and the connections that a step leaves alone.
-use Rattle.std.proofs.Common.{◌≡◌, ◌≢◌, Bool, true, false, ℕ, ◌+◌, List, [], ◌∷◌, ◌++◌, Option, Some, None, cond, refl, ap, arith, sym, ◌∙◌, subst}
+use Rattle.std.proofs.Common.{◌≡◌, ◌≢◌, ◌⊎◌, inl, inr, Bool, true, false, ℕ, ◌+◌, List, [], ◌∷◌, ◌++◌, Option, Some, None, cond, refl, ap, arith, sym, ◌∙◌, subst}
 use Rattle.std.specs.Prelude.{◌&&◌, ◌==◌, find, is_none, length, map, nat_le, take}
 use Rattle.std.specs.List.{flat_map, list_any}
 use Rattle.std.specs.Option.{IfSome, option_map_or}
 use Rattle.std.proofs.lemmas.Bool.{and_left, or_parts}
 use Rattle.std.proofs.lemmas.Bool.Decides.{nat_tests}
 use Rattle.std.proofs.lemmas.Option.{same_Some, none-some}
+use Rattle.tip_branch.specs.Notes.{PartyNotes}
 use Rattle.tip_branch.specs.declared.branch.Badge.{Badge}
 use Rattle.std.proofs.lemmas.List.{append-nil, append_assoc}
 use Rattle.tip_conn.specs.declared.state.State.{State as ConnectionState}
 use Rattle.tip_conn.specs.declared.state.State.TheVariants.{Initial, Idle, Begun, Enlisted, Prepared, Error}
 use Rattle.tip_line.specs.declared.command.CommandName.{CommandName}
-use Rattle.tip_line.specs.declared.refusal.Refusal.TheVariants.{Frozen}
+use Rattle.tip_line.specs.declared.refusal.Refusal.{Refusal}
+use Rattle.tip_line.specs.declared.refusal.Refusal.TheVariants.{Frozen, Full, Stranger}
 use Rattle.tip_line.specs.declared.response.ResponseName.{ResponseName}
 use Rattle.tip_rows.specs.Keys.{Place as Key, is_same}
 use Rattle.tip_rows.proofs.OrderLemmas.{same_place}
 use Rattle.tip_table.specs.Lists.{changed, without}
-use Rattle.tip_machine.specs.Types.{Answer, Connection, Event, Transaction}
+use Rattle.tip_machine.specs.Types.{Answer, Connection, Event, PartyPlace, Transaction}
 use Rattle.tip_machine.specs.Answers.{key_asked, key_in, key_said, response_name}
 use Rattle.tip_machine.specs.Connections.{accepted, asks_for, awaiting, dialled, has_number, is_on, is_superior_of, advanced, names}
-use Rattle.tip_machine.specs.Transactions.{begun, has_key, next_key}
+use Rattle.tip_machine.specs.Transactions.{begun, has_key, next_key, standing_at}
 use Rattle.tip_machine.specs.States.{Attempt, State, Work, connection_of, has_place, seated, transaction_of}
-use Rattle.tip_machine.specs.Changes.{alter, change, end, tell}
+use Rattle.tip_machine.specs.Changes.{alter, change, end, refuse, tell}
 use Rattle.tip_machine.specs.Commands.{make, making}
 use Rattle.tip_machine.specs.Order.{in_turn, ordered, put_in, turn}
 use Rattle.tip_machine.specs.Reactions.{Demand, Reacted, Reaction, answers, demanded, demanded_as, demands, react, reacted, reacts, stays, told_by}
-use Rattle.tip_machine.specs.Requests.{added, dial, opened}
+use Rattle.tip_machine.specs.Requests.{added, dial, hand_back, opened, strange}
 use Rattle.tip_machine.specs.Served.{Serving}
-use Rattle.tip_machine.specs.Steps.{attempt, chosen, entered, frozen, is_for, is_open, step_serving, wanted, wants_serving, AreOf, IsOff, IsOfKey, Names, TellsOfOne, TouchesOne}
+use Rattle.tip_machine.specs.Steps.{attempt, chosen, entered, frozen, is_for, is_open, step_serving, wanted, wants_serving, AreOf, IsOff, IsOfKey, Names, SendsOne, TellsOfOne, TouchesOne}
 use Rattle.tip_machine.specs.declared.answer.Asked.TheVariants as asked
 use Rattle.tip_machine.specs.declared.answer.Item.{Item}
 use Rattle.tip_machine.specs.declared.answer.Item.TheVariants.{Ask, Close}
@@ -43,11 +45,13 @@ use Rattle.tip_machine.specs.declared.event.Outcome.{Outcome}
 use Rattle.tip_machine.specs.declared.event.Outcome.TheVariants.{NoChange, Stored, Refused}
 use Rattle.tip_machine.specs.declared.event.Seat.{Seat}
 use Rattle.tip_machine.specs.declared.transaction.Origin.{Origin}
+use Rattle.tip_machine.specs.declared.transaction.PartyPlace.TheVariants.{Here, Out, Spent}
 use Rattle.tip_machine.proofs.Walks.{Closed, EndsAtOne, Is, IsPlain, either, or_any, seated-number}
 use Rattle.tip_machine.proofs.Lists.{find-added, find-changed, find-without, none-changed, none-map, none-without}
 use Rattle.tip_machine.proofs.RuleWalks.{advanced-number}
 use Rattle.tip_machine.proofs.AttemptWalks.{attempt-goes, each_event, is_opening}
-use Rattle.tip_machine.proofs.Stepping.{returned-silent}
+use Rattle.tip_machine.proofs.Sending.{Sends, both, closed_by_sends}
+use Rattle.tip_machine.proofs.Stepping.{returned-refusal, returned-silent}
 
 -- Keys and numbers
 
@@ -351,16 +355,20 @@ module _ (event : Event) (key : Key) where
       let counted = change c.number (making branches next) w in
       goes_on w counted _ (changed_at c.number (making branches next) w named (λ c. refl)) (added_to (begun w.state.head next from (take branches c.boxes)) counted on)
 
+  stands : (at : Key) (place : PartyPlace) (w : Work) → at ≡ key → Leaves event key w (alter at (standing_at place) w)
+  stands at place w on = subst (λ p. Leaves event key w (alter p (standing_at place) w)) (sym on) (altered (standing_at place) w (λ t. refl))
+
   closed_by_leaves : Closed (Leaves event key) (Names event) (Is key)
   closed_by_leaves = record {
     same = λ w. says w w.answer refl;
     then = goes_on;
     tells = tells_one;
     dismisses = λ at c w v on is leaves. dismissed c w v (subst (λ p. find (is_superior_of p) w.state.connections ≡ Some c) on is) leaves;
-    works = λ w party. says w _ refl;
-    spends = λ w party. says w _ refl;
+    gives = λ errand party at w on here. let mid = alter at (standing_at (Out errand)) w in goes_on w mid _ (stands at (Out errand) w on) (says mid _ refl);
+    lets = λ party at w on here. let mid = alter at (standing_at Spent) w in goes_on w mid _ (stands at Spent w on) (says mid _ refl);
+    returns = λ party t w on has. stands t.key (Here party) w on;
     hands = λ w boxes. says w _ refl;
-    alters = λ at f w on same. subst (λ p. Leaves event key w (alter p f w)) (sym on) (altered f w same);
+    alters = λ at f w on same stays. subst (λ p. Leaves event key w (alter p f w)) (sym on) (altered f w same);
     ends = λ at w on. subst (λ p. Leaves event key w (end p w)) (sym on) (ended w);
     makes = λ from c w named on is. has_made from c w named on;
     changes = λ n f w named same made. changed_at n f w named same;
@@ -372,10 +380,14 @@ module _ (event : Event) (key : Key) where
 -- Events
 
 abbrev Touches : Event → State → Work → Type 0
-Touches event state v = (key : Key) × TouchesOne key event state v.state × TellsOfOne key event state v.answer.told
+Touches event state v = (key : Key) × TouchesOne key event state v.state × TellsOfOne key event state v.answer.told × SendsOne key state v.answer
 
 nothing : (key : Key) (event : Event) (state : State) → TellsOfOne key event state []
 nothing key event state = record { named = tt; quiet = λ n le unnamed off. refl }
+
+-- nobody goes out, and nobody is let go
+sends_nobody : (key : Key) (state : State) (answer : Answer) → answer.work ≡ None → ((party : PartyNotes) → answer.refusal ≡ None → answer.spent ≡ Some party → ⊥) → SendsOne key state answer
+sends_nobody key state answer none nobody = record { works = λ own party is. absurd (none-some party (sym none ∙ is)); spends = λ own quiet party is. absurd (nobody party quiet is) }
 
 untouched : (event : Event) (old new : State) → new.connections ≡ old.connections → new.transactions ≡ old.transactions → TouchesOne (or_any None) event old new
 untouched event old new connections transactions = record {
@@ -383,8 +395,15 @@ untouched event old new connections transactions = record {
   connections = λ n le unnamed off. ap (find (has_number n)) connections;
 }
 
-refused : (event : Event) (state : State) → Touches event state (entered state)
-refused event state = (or_any None, untouched event state (entered state).state refl refl, nothing (or_any None) event state)
+refused : (event : Event) (state : State) (why : Refusal) → Touches event state (refuse why (entered state))
+refused event state why = (or_any None, untouched event state (entered state).state refl refl, nothing (or_any None) event state, sends_nobody (or_any None) state _ refl (λ party quiet is. none-some party is))
+
+-- boxes are handed back
+turned_down : (event : Event) (state : State) (boxes : List Badge) → Touches event state (hand_back boxes (refuse Full (entered state)))
+turned_down event state boxes = (or_any None, untouched event state (entered state).state refl refl, nothing (or_any None) event state, sends_nobody (or_any None) state _ refl (λ party quiet is. none-some party is))
+
+stranger : (event : Event) (state : State) (party : PartyNotes) → Touches event state (chosen (strange party (entered state)) NoChange)
+stranger event state party = (or_any None, untouched event state (entered state).state refl refl, nothing (or_any None) event state, sends_nobody (or_any None) state _ refl (λ p quiet is. none-some Stranger (sym quiet)))
 
 -- a connection more, with a number that was not given yet
 added-touches : (event : Event) (new : ℕ → Connection) (state : State) → ((n : ℕ) → (new n).number ≡ n) → TouchesOne (or_any None) event state (added new (entered state)).state
@@ -396,7 +415,7 @@ added-touches event new state numbered = record {
 
 opened-touches : (event : Event) (boxes : List Badge) (state : State) → Touches event state (opened boxes (entered state))
 unfolding opened added
-opened-touches event boxes state = either (Touches event state) (has_place (length boxes) (entered state).state) (added (accepted boxes) (entered state)) _ (or_any None, added-touches event (accepted boxes) state (λ n. refl), nothing (or_any None) event state) (refused event state)
+opened-touches event boxes state = either (Touches event state) (has_place (length boxes) (entered state).state) (added (accepted boxes) (entered state)) _ (or_any None, added-touches event (accepted boxes) state (λ n. refl), nothing (or_any None) event state, sends_nobody (or_any None) state _ refl (λ party quiet is. none-some party is)) (turned_down event state boxes)
 
 -- what we say on it is all that is told
 greets : (event : Event) (item : Item) (state : State) → key_in item ≡ None → TellsOfOne (or_any None) event state (record { connection = state.head.given + 1; item = item } ∷ [])
@@ -407,20 +426,36 @@ greets event item state none = record {
 
 dial-touches : (event : Event) (serves : Bool) (address : List ℕ) (purpose : Purpose) (boxes : List Badge) (state : State) → Touches event state (dial serves address purpose boxes (entered state))
 unfolding dial added
-dial-touches event serves address purpose boxes state = either (Touches event state) (serves && has_place (length boxes) (entered state).state) _ _ (or_any None, added-touches event (dialled address purpose boxes) state (λ n. refl), greets event (Ask (asked.Identify state.head.address address)) state refl) (refused event state)
+dial-touches event serves address purpose boxes state = either (Touches event state) (serves && has_place (length boxes) (entered state).state) _ _ (or_any None, added-touches event (dialled address purpose boxes) state (λ n. refl), greets event (Ask (asked.Identify state.head.address address)) state refl, sends_nobody (or_any None) state _ refl (λ party quiet is. none-some party is)) (turned_down event state boxes)
 
 -- a connection that was found by a seat of the event is one that it names
 each : (event : Event) (state : State) (seat : Seat) → Names event seat.number → (found : Option Connection) → seated seat state ≡ found → IfSome found (λ c. Names event c.number)
 each event state seat names None is = tt
 each event state seat names (Some c) is = subst (Names event) (sym (seated-number seat state c is)) names
 
-left : (event : Event) (state : State) (key : Key) (v : Work) → Leaves event key (entered state) v → Touches event state v
-left event state key v leaves = (
+-- each rule
+abbrev Goes : Event → Key → Work → Work → Type 0
+Goes event key w v = Leaves event key w v × Sends key w v
+
+closed : (event : Event) (key : Key) → Closed (Goes event key) (Names event) (Is key)
+closed event key = both (Leaves event key) (Sends key) (Names event) (Is key) (closed_by_leaves event key) (closed_by_sends key (Names event))
+
+-- nobody had gone out before
+only : {P : Type 0} (party : PartyNotes) → (None ≡ Some party) ⊎ P → P
+only party (inl same) = absurd (none-some party same)
+only party (inr is) = is
+
+left : (event : Event) (state : State) (key : Key) (v : Work) → Goes event key (entered state) v → Touches event state v
+left event state key v goes = (
   key,
-  record { transactions = leaves.transactions; connections = λ n le unnamed off. (leaves.connections n unnamed off).0 },
+  record { transactions = goes.0.transactions; connections = λ n le unnamed off. (goes.0.connections n unnamed off).0 },
   record {
-    named = subst (AreOf key) (sym leaves.told) leaves.named;
-    quiet = λ n le unnamed off. ap (list_any (is_for n)) leaves.told ∙ leaves.quiet n unnamed off;
+    named = subst (AreOf key) (sym goes.0.told) goes.0.named;
+    quiet = λ n le unnamed off. ap (list_any (is_for n)) goes.0.told ∙ goes.0.quiet n unnamed off;
+  },
+  record {
+    works = λ own party is. only party (goes.1.works own party is);
+    spends = λ own quiet party is. only party (goes.1.spends own party is);
   },
 )
 
@@ -428,7 +463,7 @@ left event state key v leaves = (
 abbrev TouchesSo : Event → State → Outcome → Attempt → Type 0
 TouchesSo event state outcome a = (touches : Touches event state (chosen a outcome)) × IsOfKey touches.0 (wanted a) outcome
 
-left_so : (event : Event) (state : State) (outcome : Outcome) (a : Attempt) → EndsAtOne (Leaves event) (entered state) a → TouchesSo event state outcome a
+left_so : (event : Event) (state : State) (outcome : Outcome) (a : Attempt) → EndsAtOne (Goes event) (entered state) a → TouchesSo event state outcome a
 unfolding left
 left_so event state outcome (Attempt.Done v) one = (left event state one.0 v one.1, tt)
 left_so event state Stored (Attempt.Asks change stored refused) one = (left event state one.0.0 stored one.0.1, one.1)
@@ -437,8 +472,8 @@ left_so event state NoChange (Attempt.Asks change stored refused) one = (left ev
 
 others : (serving : Serving) (event : Event) (state : State) (outcome : Outcome) → is_opening event ≡ false → TouchesSo event state outcome (attempt serving event (entered state))
 others serving event state outcome not =
-    attempt-goes (Leaves event) (Names event) (closed_by_leaves event) (entered state) (TouchesSo event state outcome) (left_so event state outcome)
-    (λ why. (refused event state, tt)) (λ party. (refused event state, tt)) serving event not
+    attempt-goes (Goes event) (Names event) (closed event) (entered state) (TouchesSo event state outcome) (left_so event state outcome)
+    (λ why. (refused event state why, tt)) (λ party. (stranger event state party, tt)) serving event not
     (λ seat names. each event (entered state).state seat names (seated seat (entered state).state) refl)
 
 attempt-touches : (serving : Serving) (event : Event) (state : State) (outcome : Outcome) → TouchesSo event state outcome (attempt serving event (entered state))
@@ -483,23 +518,24 @@ ordered-touches event state v touches = (
     named = of_turn (turn state) touches.0 v.answer.told touches.2.named;
     quiet = λ n le unnamed off. any_turn (turn state) n v.answer.told (touches.2.quiet n le unnamed off);
   },
+  record { works = touches.3.works; spends = touches.3.spends },
 )
 
 frozen-touches : (event : Event) (state : State) → Touches event state (frozen event state)
-frozen-touches event state = (or_any None, untouched event state state refl refl, subst (TellsOfOne (or_any None) event state) (sym (returned-silent Frozen event).0) (nothing (or_any None) event state))
+frozen-touches event state = (or_any None, untouched event state state refl refl, subst (TellsOfOne (or_any None) event state) (sym (returned-silent Frozen event).0) (nothing (or_any None) event state), sends_nobody (or_any None) state _ (returned-silent Frozen event).1 (λ party quiet is. none-some Frozen (sym quiet ∙ returned-refusal Frozen event)))
 
 -- what is touched, by the work that is done and the change that is wanted
 abbrev TouchesAll : Event → State → Outcome → Work → Option Change → Type 0
-TouchesAll event state outcome v change = (key : Key) × TouchesOne key event state v.state × TellsOfOne key event state v.answer.told × IsOfKey key change outcome
+TouchesAll event state outcome v change = (key : Key) × TouchesOne key event state v.state × TellsOfOne key event state v.answer.told × SendsOne key state v.answer × IsOfKey key change outcome
 
 went-touches : (event : Event) (state : State) (outcome : Outcome) (a : Attempt) → TouchesSo event state outcome a → TouchesAll event state outcome (ordered state (chosen a outcome)) (wanted a)
 unfolding ordered-touches ordered
-went-touches event state outcome a so = let touches = ordered-touches event state (chosen a outcome) so.0 in (so.0.0, touches.1, touches.2, so.1)
+went-touches event state outcome a so = let touches = ordered-touches event state (chosen a outcome) so.0 in (so.0.0, touches.1, touches.2, touches.3, so.1)
 
 step-touches : (b : Bool) (event : Event) (state : State) (outcome : Outcome) (a : Attempt) → TouchesSo event state outcome a → TouchesAll event state outcome (cond b (ordered state (chosen a outcome)) (frozen event state)) (cond b (wanted a) None)
 step-touches true event state outcome a so = went-touches event state outcome a so
-step-touches false event state outcome a so = let touches = frozen-touches event state in (touches.0, touches.1, touches.2, tt)
+step-touches false event state outcome a so = let touches = frozen-touches event state in (touches.0, touches.1, touches.2, touches.3, tt)
 
 pub touches : (serving : Serving) (state : State) (event : Event) (outcome : Outcome) →
-    (key : Key) × TouchesOne key event state (step_serving serving state event outcome).state × TellsOfOne key event state (step_serving serving state event outcome).answer.told × IsOfKey key (wants_serving serving state event) outcome
+    (key : Key) × TouchesOne key event state (step_serving serving state event outcome).state × TellsOfOne key event state (step_serving serving state event outcome).answer.told × SendsOne key state (step_serving serving state event outcome).answer × IsOfKey key (wants_serving serving state event) outcome
 touches serving state event outcome = step-touches (is_open state) event state outcome (attempt serving event (entered state)) (attempt-touches serving event state outcome)

@@ -29,7 +29,7 @@ use Rattle.tip_txn.specs.declared.part.Participant.{Participant}
 use Rattle.tip_machine.specs.Types.{Connection, PartyPlace, Transaction}
 use Rattle.tip_machine.specs.Answers.{key_asked, key_said, response_name}
 use Rattle.tip_machine.specs.Connections.{is_on, is_superior_of, advanced, advanced_to, identified, awaiting, owing, taking}
-use Rattle.tip_machine.specs.Transactions.{decision_of, enlisting, entering, has_ready, is_active, is_done, is_known, is_prepared, is_spent, next_key, noting, standing_at}
+use Rattle.tip_machine.specs.Transactions.{decision_of, enlisting, entering, has_key, has_ready, is_active, is_done, is_known, is_prepared, is_spent, next_key, noting, standing_at}
 use Rattle.tip_machine.specs.States.{Attempt, State, Work, connection_of, has_room, identified_by, transaction_of}
 use Rattle.tip_machine.specs.Changes.{alter, change, end, reply, send, tell}
 use Rattle.tip_machine.specs.Reactions.{aborts, asks, commits, needs_nothing, promises, react}
@@ -47,7 +47,7 @@ use Rattle.tip_machine.specs.declared.connection.Role.TheVariants.{Superior, Sub
 use Rattle.tip_machine.specs.declared.transaction.Origin.{Origin}
 use Rattle.tip_machine.specs.declared.transaction.Origin.TheVariants as origin
 use Rattle.tip_machine.specs.declared.transaction.PartyPlace.TheVariants.{Here, Out, Spent}
-use Rattle.tip_machine.proofs.Walks.{AtOne, Closed, EndsAtOne, EndsOn, Is, IsPlain, at_one, attempt_on_each, either, either_attempt, found_passes, is_or_any, key_of, more_on, on_asked, on_each, on_found, or_any}
+use Rattle.tip_machine.proofs.Walks.{AtOne, Closed, EndsAtOne, EndsOn, Is, IsHere, IsPlain, at_one, attempt_on_each, either, either_attempt, found_changed, found_passes, is_or_any, key_of, more_on, on_asked, on_each, on_found, or_any, there_by_key}
 
 advanced_to-number : (place : Option (ConnectionState × Turn)) (c : Connection) → (advanced_to place c).number ≡ c.number
 advanced_to-number None c = refl
@@ -99,34 +99,27 @@ module _ (R : Work → Work → Type 0) (May : ℕ → Type 0) (On : Key → Typ
   pub taking-keeps : (n : ℕ) (role : Role) (w : Work) → May n → R w (change n (taking role) w)
   taking-keeps n role w may = k.changes n (taking role) w may (λ c. refl) (λ c. refl)
 
-  pub standing-keeps : (place : PartyPlace) (key : Key) (w : Work) → On key → R w (alter key (standing_at place) w)
-  standing-keeps place key w on = k.alters key (standing_at place) w on (λ t. refl)
-
   pub noting-keeps : (part : ℕ) (note : Participant → Participant) (key : Key) (w : Work) → On key → R w (alter key (noting part note) w)
-  noting-keeps part note key w on = k.alters key (noting part note) w on (λ t. refl)
+  noting-keeps part note key w on = k.alters key (noting part note) w on (λ t. refl) (λ t. refl)
 
   pub enlisting-keeps : (part : Participant) (key : Key) (w : Work) → On key → R w (alter key (enlisting part) w)
-  enlisting-keeps part key w on = k.alters key (enlisting part) w on (λ t. refl)
+  enlisting-keeps part key w on = k.alters key (enlisting part) w on (λ t. refl) (λ t. refl)
 
   -- Two-phase commit
 
   enter-keeps : (phase : Phase) (key : Key) (w : Work) → On key → R w (enter phase key w)
-  enter-keeps phase key w on = k.alters key (entering phase) w on (λ t. refl)
+  enter-keeps phase key w on = k.alters key (entering phase) w on (λ t. refl) (λ t. refl)
 
-  give_out-keeps : (errand : Errand) (party : PartyNotes) (key : Key) (w : Work) → On key → R w (give_out errand party key w)
-  give_out-keeps errand party key w on = k.then w (alter key (standing_at (Out errand)) w) _ (standing-keeps (Out errand) key w on) (k.works _ _)
-
-  let_go-keeps : (party : PartyNotes) (key : Key) (w : Work) → On key → R w (let_go party key w)
-  let_go-keeps party key w on = k.then w (alter key (standing_at Spent) w) _ (standing-keeps Spent key w on) (k.spends _ _)
-
-  dispatched-keeps : (place : PartyPlace) (phase : Phase) (key : Key) (w : Work) → On key → R w (dispatched place phase key w)
-  dispatched-keeps (Here party) phase key w on = either (R w) (has_ready party) (give_out (errand_in phase) party key w) (let_go party key w) (give_out-keeps (errand_in phase) party key w on) (let_go-keeps party key w on)
-  dispatched-keeps (Out errand) phase key w on = k.same w
-  dispatched-keeps Spent phase key w on = k.same w
+  dispatched-keeps : (t : Transaction) (place : PartyPlace) (key : Key) (w : Work) → On key → transaction_of key w.state ≡ Some t → t.place ≡ place → R w (dispatched place t.phase key w)
+  dispatched-keeps t (Here party) key w on is at =
+      let here : IsHere key party w.state = record { transaction = t; found = is; place = at } in
+      either (R w) (has_ready party) (give_out (errand_in t.phase) party key w) (let_go party key w) (k.gives (errand_in t.phase) party key w on here) (k.lets party key w on here)
+  dispatched-keeps t (Out errand) key w on is at = k.same w
+  dispatched-keeps t Spent key w on is at = k.same w
 
   pub dispatch-keeps : (key : Key) (w : Work) → On key → R w (dispatch key w)
   unfolding dispatch
-  dispatch-keeps key w on = on_each (R w) (transaction_of key w.state) (λ t. dispatched t.place t.phase key) w (k.same w) (λ t is. dispatched-keeps t.place t.phase key w on)
+  dispatch-keeps key w on = on_each (R w) (transaction_of key w.state) (λ t. dispatched t.place t.phase key) w (k.same w) (λ t is. dispatched-keeps t t.place key w on is refl)
 
   release-keeps : (key : Key) (w : Work) → On key → R w (release key w)
   unfolding release
@@ -194,16 +187,17 @@ module _ (R : Work → Work → Type 0) (May : ℕ → Type 0) (On : Key → Typ
   pub settle-keeps : (v : Work) (key : Key) (w : Work) → On key → R v w → EndsOn On (R v) (settle key w)
   settle-keeps v key w on r = more (settle key w) v w r (settle-here key w on)
 
-  asked-keeps : (place : PartyPlace) (key : Key) (w : Work) → On key → R w (asked_for_votes place key w)
-  asked-keeps (Here party) key w on = give_out-keeps errand.Vote party key w on
-  asked-keeps (Out errand) key w on = k.same w
-  asked-keeps Spent key w on = k.same w
+  asked-keeps : (t : Transaction) (place : PartyPlace) (key : Key) (w : Work) → On key → transaction_of key w.state ≡ Some t → t.place ≡ place → R w (asked_for_votes place key w)
+  asked-keeps t (Here party) key w on is at = k.gives errand.Vote party key w on (record { transaction = t; found = is; place = at })
+  asked-keeps t (Out errand) key w on is at = k.same w
+  asked-keeps t Spent key w on is at = k.same w
 
-  ask-keeps : (t : Transaction) (w : Work) → On t.key → EndsOn On (R w) (ask t w)
+  ask-keeps : (t : Transaction) (w : Work) → On t.key → transaction_of t.key w.state ≡ Some t → EndsOn On (R w) (ask t w)
   unfolding ask
-  ask-keeps t w on =
+  ask-keeps t w on is =
       let entered = enter phase.Asking t.key w in
-      settle-keeps w t.key (asked_for_votes t.place t.key entered) on (k.then w entered _ (enter-keeps phase.Asking t.key w on) (asked-keeps t.place t.key entered on))
+      let there : transaction_of t.key entered.state ≡ Some (entering phase.Asking t) = found_changed t.key (entering phase.Asking) w.state.transactions t is (found_passes (has_key t.key) w.state.transactions t is) in
+      settle-keeps w t.key (asked_for_votes t.place t.key entered) on (k.then w entered _ (enter-keeps phase.Asking t.key w on) (asked-keeps (entering phase.Asking t) t.place t.key entered on there refl))
 
   -- Failing and closing
 
@@ -304,20 +298,20 @@ module _ (R : Work → Work → Type 0) (May : ℕ → Type 0) (On : Key → Typ
   reconnect_to-keeps None n w may on = reply-keeps n _ _ w may tt
   reconnect_to-keeps (Some t) n w may on = either (R w) (is_prepared t.phase) (take_over t.key n (find (is_superior_of t.key) w.state.connections) w) _ (take_over-keeps t.key n _ w refl may on) (reply-keeps n _ _ w may tt)
 
-  prepare-keeps : (phase : Phase) (peer : Option (List ℕ)) (c : Connection) (t : Transaction) (w : Work) → On t.key → EndsOn On (R w) (prepare phase peer c t w)
-  prepare-keeps phase.Active (Some address) c t w on = ask-keeps t w on
-  prepare-keeps phase.Active None c t w on = abort-keeps t.key w on
-  prepare-keeps phase.Asking peer c t w on = k.same w
-  prepare-keeps phase.Prepared peer c t w on = k.same w
-  prepare-keeps phase.Committed peer c t w on = k.same w
-  prepare-keeps phase.Aborted peer c t w on = abort-keeps t.key w on
+  prepare-keeps : (phase : Phase) (peer : Option (List ℕ)) (c : Connection) (t : Transaction) (w : Work) → On t.key → transaction_of t.key w.state ≡ Some t → EndsOn On (R w) (prepare phase peer c t w)
+  prepare-keeps phase.Active (Some address) c t w on is = ask-keeps t w on is
+  prepare-keeps phase.Active None c t w on is = abort-keeps t.key w on
+  prepare-keeps phase.Asking peer c t w on is = k.same w
+  prepare-keeps phase.Prepared peer c t w on is = k.same w
+  prepare-keeps phase.Committed peer c t w on is = k.same w
+  prepare-keeps phase.Aborted peer c t w on is = abort-keeps t.key w on
 
-  decide_commit-keeps : (phase : Phase) (c : Connection) (t : Transaction) (w : Work) → May c.number → IfSome (key_of c.role) On → On t.key → EndsOn On (R w) (decide_commit phase c t w)
-  decide_commit-keeps phase.Active c t w may role on = ask-keeps t w on
-  decide_commit-keeps phase.Asking c t w may role on = k.same w
-  decide_commit-keeps phase.Prepared c t w may role on = (on, commit-keeps t.key w on, closed-keeps c w may role)
-  decide_commit-keeps phase.Committed c t w may role on = k.same w
-  decide_commit-keeps phase.Aborted c t w may role on = abort-keeps t.key w on
+  decide_commit-keeps : (phase : Phase) (c : Connection) (t : Transaction) (w : Work) → May c.number → IfSome (key_of c.role) On → On t.key → transaction_of t.key w.state ≡ Some t → EndsOn On (R w) (decide_commit phase c t w)
+  decide_commit-keeps phase.Active c t w may role on is = ask-keeps t w on is
+  decide_commit-keeps phase.Asking c t w may role on is = k.same w
+  decide_commit-keeps phase.Prepared c t w may role on is = (on, commit-keeps t.key w on, closed-keeps c w may role)
+  decide_commit-keeps phase.Committed c t w may role on is = k.same w
+  decide_commit-keeps phase.Aborted c t w may role on is = abort-keeps t.key w on
 
   decide_abort-keeps : (phase : Phase) (c : Connection) (t : Transaction) (w : Work) → May c.number → IfSome (key_of c.role) On → On t.key → EndsOn On (R w) (decide_abort phase c t w)
   decide_abort-keeps phase.Active c t w may role on = abort-keeps t.key w on
@@ -331,10 +325,15 @@ module _ (R : Work → Work → Type 0) (May : ℕ → Type 0) (On : Key → Typ
   on_obeyed (Some (Superior key)) state t is on = on_found On key state.transactions t is on
   on_obeyed (Some (Subordinate key part)) state t is on = absurd (none-some t is)
 
-  obey-keeps : (command : CommandName) (rule : Transaction → Work → Attempt) (c : Connection) (w : Work) → May c.number → IfSome (key_of c.role) On → ((t : Transaction) (v : Work) → On t.key → EndsOn On (R v) (rule t v)) → EndsOn On (R w) (obey command rule c w)
+  there_obeyed : (role : Option Role) (state : State) (t : Transaction) → option_and_then (λ key. transaction_of key state) (superior_role role) ≡ Some t → transaction_of t.key state ≡ Some t
+  there_obeyed None state t is = absurd (none-some t is)
+  there_obeyed (Some (Superior key)) state t is = there_by_key key state.transactions t is
+  there_obeyed (Some (Subordinate key part)) state t is = absurd (none-some t is)
+
+  obey-keeps : (command : CommandName) (rule : Transaction → Work → Attempt) (c : Connection) (w : Work) → May c.number → IfSome (key_of c.role) On → ((t : Transaction) (v : Work) → On t.key → transaction_of t.key v.state ≡ Some t → EndsOn On (R v) (rule t v)) → EndsOn On (R w) (obey command rule c w)
   obey-keeps command rule c w may on keeps =
       let owed = change c.number (owing command) w in
-      more (obey command rule c w) w owed (k.changes c.number (owing command) w may (λ c. refl) (λ c. refl)) (attempt_on_each (EndsOn On (R owed)) (option_and_then (λ key. transaction_of key owed.state) (superior_role c.role)) rule owed (k.same owed) (λ t is. keeps t owed (on_obeyed c.role owed.state t is on)))
+      more (obey command rule c w) w owed (k.changes c.number (owing command) w may (λ c. refl) (λ c. refl)) (attempt_on_each (EndsOn On (R owed)) (option_and_then (λ key. transaction_of key owed.state) (superior_role c.role)) rule owed (k.same owed) (λ t is. keeps t owed (on_obeyed c.role owed.state t is on) (there_obeyed c.role owed.state t is)))
 
 -- Any command, where what is touched is the transaction of some one key
 module _ (R : Key → Work → Work → Type 0) (May : ℕ → Type 0) (k : (key : Key) → Closed (R key) May (Is key)) where
@@ -375,7 +374,7 @@ module _ (R : Key → Work → Work → Type 0) (May : ℕ → Type 0) (k : (key
   reconnects subordinate c w may = let found = identified_by subordinate w.state in for_found found w _ (λ key on. reconnect_to-keeps (R key) May (Is key) (k key) found c.number w may on)
 
   -- a rule of the superior's transaction
-  obeys : (command : CommandName) (rule : Transaction → Work → Attempt) (c : Connection) (w : Work) → May c.number → ((key : Key) → IfSome (key_of c.role) (Is key) → (t : Transaction) (v : Work) → t.key ≡ key → EndsOn (Is key) (R key v) (rule t v)) → EndsAtOne R w (obey command rule c w)
+  obeys : (command : CommandName) (rule : Transaction → Work → Attempt) (c : Connection) (w : Work) → May c.number → ((key : Key) → IfSome (key_of c.role) (Is key) → (t : Transaction) (v : Work) → t.key ≡ key → transaction_of t.key v.state ≡ Some t → EndsOn (Is key) (R key v) (rule t v)) → EndsAtOne R w (obey command rule c w)
   obeys command rule c w may keeps =
       let key = or_any (key_of c.role) in
       let on = is_or_any (key_of c.role) in
@@ -386,9 +385,9 @@ module _ (R : Key → Work → Work → Type 0) (May : ℕ → Type 0) (k : (key
   serves Begin c w may is = begins c w may is
   serves (Push superior) c w may is = pushes superior c w may is
   serves (Pull superior subordinate) c w may is = pulls superior subordinate c w may
-  serves Prepare c w may is = obeys command.Prepare _ c w may (λ key role t v on. prepare-keeps (R key) May (Is key) (k key) t.phase c.peer c t v on)
-  serves Commit c w may is = obeys command.Commit _ c w may (λ key role t v on. decide_commit-keeps (R key) May (Is key) (k key) t.phase c t v may role on)
-  serves Abort c w may is = obeys command.Abort _ c w may (λ key role t v on. decide_abort-keeps (R key) May (Is key) (k key) t.phase c t v may role on)
+  serves Prepare c w may is = obeys command.Prepare _ c w may (λ key role t v on is. prepare-keeps (R key) May (Is key) (k key) t.phase c.peer c t v on is)
+  serves Commit c w may is = obeys command.Commit _ c w may (λ key role t v on is. decide_commit-keeps (R key) May (Is key) (k key) t.phase c t v may role on is)
+  serves Abort c w may is = obeys command.Abort _ c w may (λ key role t v on is. decide_abort-keeps (R key) May (Is key) (k key) t.phase c t v may role on)
   serves (Query superior) c w may is = let key = or_any None in (key, query-keeps (R key) May (Is key) (k key) superior c w may)
   serves (Reconnect subordinate) c w may is = reconnects subordinate c w may
   serves (Multiplex protocol) c w may is = replied c _ _ w may tt

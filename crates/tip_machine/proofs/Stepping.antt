@@ -83,6 +83,13 @@ returned-opened why (Voted party) = refl
 returned-opened why (Settled party) = refl
 returned-opened why other = refl
 
+pub returned-refusal : (why : Refusal) (event : Event) → (returned why event).refusal ≡ Some why
+returned-refusal why (Open boxes) = refl
+returned-refusal why (Dial address purpose boxes) = refl
+returned-refusal why (Voted party) = refl
+returned-refusal why (Settled party) = refl
+returned-refusal why other = refl
+
 -- A refusal changes the entries alone
 
 IsAlone : State → Work → Type 0

@@ -8,16 +8,19 @@ use Rattle.tip_branch.specs.Notes.{PartyNotes}
 use Rattle.tip_branch.specs.declared.branch.Badge.{Badge}
 use Rattle.tip_rows.specs.Keys.{Place as Key}
 use Rattle.tip_rows.proofs.OrderLemmas.{same_place}
-use Rattle.tip_table.specs.Lists.{without}
+use Rattle.tip_table.specs.Lists.{changed, without}
 use Rattle.tip_machine.specs.Types.{Connection, Transaction}
 use Rattle.tip_machine.specs.Connections.{asks_for, has_number, is_superior_of}
-use Rattle.tip_machine.specs.Transactions.{has_key, next_key}
-use Rattle.tip_machine.specs.States.{Attempt, State, Work, connection_of, seated}
+use Rattle.tip_machine.specs.Transactions.{has_id, has_key, next_key, standing_at}
+use Rattle.tip_machine.specs.States.{Attempt, State, Work, connection_of, seated, transaction_of}
 use Rattle.tip_line.specs.declared.command.CommandName.{CommandName}
 use Rattle.tip_machine.specs.Answers.{key_asked, key_in, key_said}
 use Rattle.tip_machine.specs.Changes.{alter, attempt_on, change, end, on, tell}
 use Rattle.tip_machine.specs.Commands.{make}
 use Rattle.tip_machine.specs.Reactions.{Reaction, react}
+use Rattle.tip_branch.specs.declared.member.Errand.{Errand}
+use Rattle.tip_machine.specs.Settling.{give_out, let_go}
+use Rattle.tip_machine.specs.declared.transaction.PartyPlace.TheVariants.{Here}
 use Rattle.tip_machine.specs.Steps.{chosen, key_changed}
 use Rattle.tip_machine.specs.declared.answer.Item.{Item}
 use Rattle.tip_machine.specs.declared.answer.Item.TheVariants.{Close}
@@ -34,6 +37,12 @@ pub record IsPlain (reaction : Reaction) : Type 0 where
   pub enlisted : (key : Key) → IfSome reaction.enlisted (λ demand. key_asked (demand.asked key) ≡ Some key)
   pub prepared : (key : Key) → IfSome reaction.prepared (λ demand. key_asked (demand.asked key) ≡ Some key)
 
+-- a party is here, with the transaction of this key
+pub record IsHere (key : Key) (party : PartyNotes) (state : State) : Type 0 where
+  pub transaction : Transaction
+  pub found : transaction_of key state ≡ Some transaction
+  pub place : transaction.place ≡ Here party
+
 -- May n: the connection of number n may be changed. On key: the transaction of that key may be, and connections on it
 pub record Closed (R : Work → Work → Type 0) (May : ℕ → Type 0) (On : Key → Type 0) : Type 0 where
   pub same : (w : Work) → R w w
@@ -41,10 +50,12 @@ pub record Closed (R : Work → Work → Type 0) (May : ℕ → Type 0) (On : Ke
   pub tells : (n : ℕ) (item : Item) (w : Work) → May n → IfSome (key_in item) On → R w (tell n item w)
   -- the connection of a superior is closed, as it was found before
   pub dismisses : (key : Key) (c : Connection) (w v : Work) → On key → find (is_superior_of key) w.state.connections ≡ Some c → R w v → R w (tell c.number Close v)
-  pub works : (w : Work) (party : Option PartyNotes) → R w (record w { answer = record w.answer { work = party } })
-  pub spends : (w : Work) (party : Option PartyNotes) → R w (record w { answer = record w.answer { spent = party } })
+  pub gives : (errand : Errand) (party : PartyNotes) (key : Key) (w : Work) → On key → IsHere key party w.state → R w (give_out errand party key w)
+  pub lets : (party : PartyNotes) (key : Key) (w : Work) → On key → IsHere key party w.state → R w (let_go party key w)
+  -- a party comes back to the transaction that it names
+  pub returns : (party : PartyNotes) (t : Transaction) (w : Work) → On t.key → has_id w.state.head.name party.id t ≡ true → R w (alter t.key (standing_at (Here party)) w)
   pub hands : (w : Work) (boxes : Option (List Badge)) → R w (record w { answer = record w.answer { unused = boxes } })
-  pub alters : (key : Key) (f : Transaction → Transaction) (w : Work) → On key → ((t : Transaction) → (f t).key ≡ t.key) → R w (alter key f w)
+  pub alters : (key : Key) (f : Transaction → Transaction) (w : Work) → On key → ((t : Transaction) → (f t).key ≡ t.key) → ((t : Transaction) → (f t).place ≡ t.place) → R w (alter key f w)
   pub ends : (key : Key) (w : Work) → On key → R w (end key w)
   pub makes : (from : Origin) (c : Connection) (w : Work) → May c.number → On (next_key w.state.head c) → connection_of c.number w.state ≡ Some c → R w (make from c w)
   pub changes : (n : ℕ) (f : Connection → Connection) (w : Work) → May n → ((c : Connection) → (f c).number ≡ c.number) → ((c : Connection) → (f c).made ≡ c.made) → R w (change n f w)
@@ -167,3 +178,15 @@ at_one R w key (Attempt.Asks change stored refused) p = ((key, p.1), p.0, (key, 
 pub from_one : (R : Key → Work → Work → Type 0) (w : Work) (Q : Work → Type 0) → ((v : Work) → AtOne R w v → Q v) → (a : Attempt) → EndsAtOne R w a → Ends Q a
 from_one R w Q goes (Attempt.Done v) one = goes v one
 from_one R w Q goes (Attempt.Asks change stored refused) one = (goes stored one.0, goes refused one.2)
+
+-- what was found and is changed is found
+pub found_changed : (key : Key) (f : Transaction → Transaction) (ts : List Transaction) (t : Transaction) → find (has_key key) ts ≡ Some t → has_key key (f t) ≡ true → find (has_key key) (changed (has_key key) f ts) ≡ Some (f t)
+found_changed key f [] t is same = absurd (none-some t is)
+found_changed key f (x ∷ xs) t is same = step (has_key key x) refl (λ later. found_changed key f xs t later same) is where
+  step : (b : Bool) → has_key key x ≡ b → (find (has_key key) xs ≡ Some t → find (has_key key) (changed (has_key key) f xs) ≡ Some (f t)) → cond b (Some x) (find (has_key key) xs) ≡ Some t → find (has_key key) (cond b (f x ∷ xs) (x ∷ changed (has_key key) f xs)) ≡ Some (f t)
+  step true passes later is = let at = same_Some x t is in rw at (rw same refl)
+  step false fails later is = rw fails (later is)
+
+-- the transaction that is found by its key is there by its own
+pub there_by_key : (key : Key) (ts : List Transaction) (t : Transaction) → find (has_key key) ts ≡ Some t → find (has_key t.key) ts ≡ Some t
+there_by_key key ts t is = subst (λ k. find (has_key k) ts ≡ Some t) (same_place key t.key (found_passes (has_key key) ts t is)) is

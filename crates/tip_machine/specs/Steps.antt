@@ -2,12 +2,13 @@
 use Rattle.std.specs.Prelude.{◌≡◌, ◌≤◌, ℕ, ◌+◌, ◌&&◌, nat_lt, Bool, true, false, not, List, [], ◌∷◌, ◌==◌, Option, Some, None, if◌then◌else◌}
 use Rattle.std.specs.List.{list_any}
 use Rattle.std.specs.Option.{IfSome}
+use Rattle.tip_branch.specs.Notes.{PartyNotes}
 use Rattle.tip_line.specs.declared.refusal.Refusal.{Refusal}
 use Rattle.tip_txn.specs.declared.answer.Phase.TheVariants.{Aborted}
 use Rattle.tip_line.specs.declared.refusal.Refusal.TheVariants.{NoRealm, Frozen}
 use Rattle.tip_rows.specs.Keys.{Place as Key, is_same}
 use Rattle.tip_machine.specs.Types.{Answer, Event, Transaction}
-use Rattle.tip_machine.specs.Answers.{key_in, silence}
+use Rattle.tip_machine.specs.Answers.{identifier, key_in, silence}
 use Rattle.tip_machine.specs.Connections.{has_number, is_on}
 use Rattle.tip_machine.specs.States.{State, Work, Attempt, connection_of, identified_by, seated, transaction_of}
 use Rattle.tip_machine.specs.Order.{ordered}
@@ -19,6 +20,7 @@ use Rattle.tip_machine.specs.declared.event.Change.TheVariants.{Put, Remove}
 use Rattle.tip_machine.specs.declared.event.Seat.{Seat}
 use Rattle.tip_machine.specs.declared.event.Outcome.{Outcome}
 use Rattle.tip_machine.specs.declared.event.Outcome.TheVariants.{NoChange, Stored, Refused}
+use Rattle.tip_machine.specs.declared.transaction.PartyPlace.TheVariants.{Here}
 use Rattle.tip_machine.specs.declared.event.Event.TheVariants.{Open, Dial, Line, Voted, Settled, Lost, AskPush, AskPull, Resume}
 
 -- the event takes the next entry of the realm's journal (ours)
@@ -128,6 +130,19 @@ is_for number told = told.connection == number
 pub record TellsOfOne (key : Key) (event : Event) (old : State) (told : List Told) : Type 0 where
   pub named : AreOf key told
   pub quiet : (number : ℕ) → number ≤ old.head.given → ¬ Names event number → IsOff key number old → list_any (is_for number) told ≡ false
+
+-- a party that is here is its transaction's own
+abbrev pub IsOwn : List ℕ → Transaction → Type 0
+IsOwn realm transaction = (party : PartyNotes) → transaction.place ≡ Here party → party.id ≡ identifier realm transaction.key
+
+abbrev pub AreOwn : List ℕ → List Transaction → Type 0
+AreOwn realm [] = Unit {0}
+AreOwn realm (transaction ∷ transactions) = IsOwn realm transaction × AreOwn realm transactions
+
+-- the party that goes out, and the one that is let go where nothing is refused, is of the transaction of this key
+pub record SendsOne (key : Key) (state : State) (answer : Answer) : Type 0 where
+  pub works : AreOwn state.head.name state.transactions → (party : PartyNotes) → answer.work ≡ Some party → party.id ≡ identifier state.head.name key
+  pub spends : AreOwn state.head.name state.transactions → answer.refusal ≡ None → (party : PartyNotes) → answer.spent ≡ Some party → party.id ≡ identifier state.head.name key
 
 abbrev pub key_changed : Change → Key
 key_changed (Put key row) = key

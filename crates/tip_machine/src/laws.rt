@@ -20,7 +20,7 @@ ghost use Rattle.tip_machine.specs.Returns.{Back, back_of, can_answer, is_done};
 ghost use Rattle.tip_machine.specs.Served.{Serving, today};
 ghost use Rattle.tip_machine.specs.Starting.{IsStart, is_starting};
 ghost use Rattle.tip_machine.specs.States.{State, Work, identified_by, transaction_of};
-ghost use Rattle.tip_machine.specs.Steps.{step_serving, wants_serving, ChangesTheEntriesAlone, IsForgotten, IsNext, IsOfKey, TellsOfOne, TouchesOne};
+ghost use Rattle.tip_machine.specs.Steps.{step_serving, wants_serving, ChangesTheEntriesAlone, IsForgotten, IsNext, IsOfKey, SendsOne, TellsOfOne, TouchesOne};
 ghost use Rattle.tip_machine.specs.Transactions.{decision};
 ghost use Rattle.tip_machine.specs.Types.{Connection, Event};
 ghost use Rattle.tip_machine.specs.declared.answer.Said.TheVariants as said;
@@ -52,12 +52,12 @@ pub fn numbers_of_connections_rise()
 {}
 
 /// A step changes at most one transaction, and only connections that are on it, the one that its event names, and a new one;
-/// only these are told anything, what they are told names no other transaction of ours, and the row that is stored or removed
-/// is that transaction's.
+/// only these are told anything; what they are told, the party that goes out or is let go, and the row that is stored or
+/// removed are of that transaction.
 #[tactic(auto, using(crate::proofs::Others::touches))]
 pub fn at_most_one_transaction_changes()
     ensures { (serving : Serving) (state : State) (event : Event) (outcome : Outcome) → (key : Key) ×
-        TouchesOne key event state (step_serving serving state event outcome).state × TellsOfOne key event state (step_serving serving state event outcome).answer.told × IsOfKey key (wants_serving serving state event) outcome }
+        TouchesOne key event state (step_serving serving state event outcome).state × TellsOfOne key event state (step_serving serving state event outcome).answer.told × SendsOne key state (step_serving serving state event outcome).answer × IsOfKey key (wants_serving serving state event) outcome }
 {}
 
 /// An identifier is never made twice: a new transaction has a key that was not given before, that is given then, and that
