@@ -13,7 +13,7 @@ mod tests;
 pub fn first_said(answer: &Answer) -> Option<Said>
     ensures { result ≡ first_said answer.now }
 {
-    match answer.told.as_slice().first()?.item {
+    match answer.sent.as_slice().first()?.item {
         Item::Say(said) => Some(said),
         Item::Ask(_) | Item::Close => None,
     }

@@ -6,7 +6,7 @@ ghost use Rattle.tip_branch.specs.Standings.{IsVoted, IsCommitted, aborted};
 ghost use Rattle.tip_branch.specs.Votes.{answer_of};
 ghost use Rattle.tip_branch.specs.declared.branch.Phase.TheVariants.{Active, Ready, Ended};
 
-use tip_txn::Answer;
+use tip_txn::Ballot;
 
 /// What a branch answers when it is asked.
 #[derive(Clone, Copy, Debug, PartialEq, Eq, Drop)]
@@ -18,13 +18,13 @@ pub enum Vote {
 
 impl Vote {
     /// The answer of whoever voted so, as its transaction takes it.
-    pub fn answer(self) -> Answer
+    pub fn answer(self) -> Ballot
         ensures { result ≡ answer_of self }
     {
         match self {
-            Vote::Yes => Answer::Yes,
-            Vote::No => Answer::No,
-            Vote::ReadOnly => Answer::ReadOnly,
+            Vote::Yes => Ballot::Yes,
+            Vote::No => Ballot::No,
+            Vote::ReadOnly => Ballot::ReadOnly,
         }
     }
 }

@@ -3,7 +3,7 @@
 ghost use Rattle.std.specs.Prelude.{◌≡◌};
 
 use crate::branch::{Badge, Phase, Plan, Settled, Standing, Told, Vote};
-use tip_txn::Answer;
+use tip_txn::Ballot;
 
 /// What a party is to do while its transaction's lock is free.
 #[derive(Clone, Copy, Debug, PartialEq, Eq, Drop)]
@@ -132,11 +132,11 @@ impl Member {
     }
 
     /// Its answer in its party's vote. One that is still active is a no; one that came ready has none.
-    pub(crate) fn ballot(&self) -> Option<Answer>
+    pub(crate) fn ballot(&self) -> Option<Ballot>
         ensures { result ≡ ballot self.now }
     {
         if self.is_active() {
-            return Some(Answer::No);
+            return Some(Ballot::No);
         }
         Some(self.vote?.answer())
     }

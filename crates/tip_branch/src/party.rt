@@ -16,7 +16,7 @@ use crate::party_room::PartyRoom;
 use crate::roll::Roll;
 use crate::{boxes, telling};
 use tip_line::{Id, Realm};
-use tip_txn::Answer;
+use tip_txn::Ballot;
 
 /// The boxed branches of one transaction. A party that is dropped is spent.
 ///
@@ -273,22 +273,22 @@ pub fn are_numbers(numbers: &[u8]) -> bool
 fn tally(members: &[Member]) -> Vote
     ensures { Decides (ballots_of members.now) (decided result) }
 {
-    if one_answers(members, Answer::No) {
+    if one_answers(members, Ballot::No) {
         Vote::No
-    } else if one_answers(members, Answer::Yes) {
+    } else if one_answers(members, Ballot::Yes) {
         Vote::Yes
     } else {
         Vote::ReadOnly
     }
 }
 
-fn one_answers(members: &[Member], answer: Answer) -> bool
+fn one_answers(members: &[Member], answer: Ballot) -> bool
     ensures { IsTrue result ↔ Says (ballots_of members.now) (Some answer) }
 {
     members.iter().any(|member| answers(member, answer))
 }
 
-fn answers(member: &Member, answer: Answer) -> bool
+fn answers(member: &Member, answer: Ballot) -> bool
     ensures { IsTrue result ↔ (ballot member.now ≡ Some answer) }
 {
     member.ballot() == Some(answer)

@@ -44,14 +44,14 @@ dropped old new realm number c d before after alone found taken becomes answer =
     })
 
 -- the work after something was told
-told_work : (old : Realms) (realm number n : ℕ) (item : Item) (before mid : Made) → n ≡ number → mid.answer ≡ record before.answer { told = before.answer.told ++ record { connection = number; item = item } ∷ [] } → work_at realm old mid ≡ tell n item (work_at realm old before)
+told_work : (old : Realms) (realm number n : ℕ) (item : Item) (before mid : Made) → n ≡ number → mid.answer ≡ record before.answer { sent = before.answer.sent ++ record { connection = number; item = item } ∷ [] } → work_at realm old mid ≡ tell n item (work_at realm old before)
 told_work old realm number n item before mid same is = ap (λ a. record { state = state_at realm old; answer = a }) is ∙ ap (λ m. tell m item (work_at realm old before)) (sym same)
 
-pub closed_does : (old new : Realms) (realm number : ℕ) (c : Connection) (before mid after : Made) → find (has_number number) (state_at realm old).connections ≡ Some c → mid.answer ≡ record before.answer { told = before.answer.told ++ record { connection = number; item = Close } ∷ [] } → Does old new realm after (fail c (work_at realm old mid)) → Does old new realm after (closed c (work_at realm old before))
+pub closed_does : (old new : Realms) (realm number : ℕ) (c : Connection) (before mid after : Made) → find (has_number number) (state_at realm old).connections ≡ Some c → mid.answer ≡ record before.answer { sent = before.answer.sent ++ record { connection = number; item = Close } ∷ [] } → Does old new realm after (fail c (work_at realm old mid)) → Does old new realm after (closed c (work_at realm old before))
 unfolding closed
 closed_does old new realm number c before mid after found is does = subst (λ w. Does old new realm after (fail c w)) (told_work old realm number c.number Close before mid (found-number number (state_at realm old).connections c found) is) does
 
-pub wrong_does : (old new : Realms) (realm number : ℕ) (c : Connection) (before mid after : Made) → find (has_number number) (state_at realm old).connections ≡ Some c → mid.answer ≡ record before.answer { told = before.answer.told ++ record { connection = number; item = Say said.Error } ∷ [] } → Does old new realm after (closed c (work_at realm old mid)) → Does old new realm after (wrong c (work_at realm old before))
+pub wrong_does : (old new : Realms) (realm number : ℕ) (c : Connection) (before mid after : Made) → find (has_number number) (state_at realm old).connections ≡ Some c → mid.answer ≡ record before.answer { sent = before.answer.sent ++ record { connection = number; item = Say said.Error } ∷ [] } → Does old new realm after (closed c (work_at realm old mid)) → Does old new realm after (wrong c (work_at realm old before))
 unfolding wrong
 wrong_does old new realm number c before mid after found is does = subst (λ w. Does old new realm after (closed c w)) (told_work old realm number c.number (Say said.Error) before mid (found-number number (state_at realm old).connections c found) is) does
 
@@ -67,7 +67,7 @@ other true this that is = absurd (cc)
 other false this that is = refl
 
 pub greeted_does : (old new : Realms) (realm number lowest highest : ℕ) (peer : Option (List ℕ)) (c : Connection) (before after : Made) → (nat_le lowest 3 && nat_le 3 highest) ≡ true → find (has_number number) (state_at realm old).connections ≡ Some c →
-    after.answer ≡ record before.answer { told = before.answer.told ++ record { connection = number; item = Say said.Identified } ∷ [] } →
+    after.answer ≡ record before.answer { sent = before.answer.sent ++ record { connection = number; item = Say said.Identified } ∷ [] } →
     Becomes old new realm (with (state_at realm old) (changed (has_number number) (identified peer) (state_at realm old).connections)) → Does old new realm after (identify lowest highest peer c (work_at realm old before))
 unfolding identify
 greeted_does old new realm number lowest highest peer c before after spoken found answer becomes =

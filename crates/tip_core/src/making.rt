@@ -7,14 +7,14 @@ use std::alloc::{AllocError, Global};
 use std::marker::Model;
 use tip_branch::{HeldFresh, HeldParty};
 use tip_line::Refusal;
-use tip_machine::{Answer, Event, Item, Seat, Told, ToldLines};
+use tip_machine::{Answer, Event, Item, Seat, Sent, SentLines};
 
 /// The answer as far as it goes, with room for what may still go out.
 #[derive(Drop)]
 pub struct Making {
     refusal: Option<Refusal>,
     opened: Option<Seat>,
-    told: Vec<Told>,
+    sent: Vec<Sent>,
     work: Option<HeldParty>,
     spent: Option<HeldParty>,
     unused: Option<HeldFresh>,
@@ -28,8 +28,8 @@ impl Model for Making {
     ghost Value = { Made };
 
     ghost view = { λ m. record {
-      answer = record { refusal = m.refusal; opened = m.opened; told = m.told.items; work = m.work; spent = m.spent; unused = m.unused; entry = m.entry };
-      free = vec_capacity m.told - vec_len m.told;
+      answer = record { refusal = m.refusal; opened = m.opened; sent = m.sent.items; work = m.work; spent = m.spent; unused = m.unused; entry = m.entry };
+      free = vec_capacity m.sent - vec_len m.sent;
     } };
 }
 
@@ -42,7 +42,7 @@ impl Making {
         Ok(Making {
             refusal: None,
             opened: None,
-            told: Vec::with_capacity(alloc, lines)?,
+            sent: Vec::with_capacity(alloc, lines)?,
             work: None,
             spent: None,
             unused: None,
@@ -52,10 +52,10 @@ impl Making {
 
     pub fn tell(&mut self, connection: u32, item: Item)
         requires { 0 < self.old.free }
-        ensures answer { self.new.answer ≡ record self.old.answer { told = self.old.answer.told ++ record { connection = connection; item = item } ∷ [] } }
+        ensures answer { self.new.answer ≡ record self.old.answer { sent = self.old.answer.sent ++ record { connection = connection; item = item } ∷ [] } }
         ensures free { self.new.free + 1 ≡ self.old.free }
     {
-        self.told.push_reserved(Told { connection, item });
+        self.sent.push_reserved(Sent { connection, item });
     }
 
     pub fn refuse(&mut self, why: Refusal)
@@ -120,7 +120,7 @@ impl Making {
         let Making {
             refusal,
             opened,
-            told,
+            sent,
             work,
             spent,
             unused,
@@ -129,7 +129,7 @@ impl Making {
         Answer {
             refusal,
             opened,
-            told: ToldLines::new(told),
+            sent: SentLines::new(sent),
             work,
             spent,
             unused,

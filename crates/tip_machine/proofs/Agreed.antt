@@ -7,7 +7,7 @@ use Rattle.tip_conn.specs.Table.{is_valid, next_of}
 use Rattle.tip_machine.specs.Agreement.{IsAgreed, is_asked, is_backed, is_kept, is_one}
 use Rattle.tip_machine.specs.Changes.{reply, send}
 use Rattle.tip_machine.specs.Reactions.{react}
-use Rattle.tip_machine.specs.Settling.{dispatch, release, abort, commit, promise, leave, finish, settle, ask}
+use Rattle.tip_machine.specs.Proceeding.{dispatch, release, abort, commit, promise, leave, finish, proceed, ask}
 use Rattle.tip_machine.specs.Failing.{gone, fail, closed, wrong}
 use Rattle.tip_machine.specs.Commands.{make, identify, begin, push, pull, query, reconnect, commanded}
 use Rattle.tip_machine.specs.Requests.{added, opened, dial, lost, line, ask_push, ask_pull, resume, voted, settled}
@@ -38,5 +38,5 @@ unfolding agrees_on
 agrees_so example is = agrees (fresh example.head) (trace_of example) is
 
 pub agreed : Each IsNeverHalf worked
-unfolding is_agreed agrees_on reply send react dispatch release abort commit promise leave finish settle ask gone fail closed wrong make identify begin push pull query reconnect commanded added opened dial lost line ask_push ask_pull resume voted settled ordered stepped is_valid next_of digits
+unfolding is_agreed agrees_on reply send react dispatch release abort commit promise leave finish proceed ask gone fail closed wrong make identify begin push pull query reconnect commanded added opened dial lost line ask_push ask_pull resume voted settled ordered stepped is_valid next_of digits
 agreed = each agrees_on IsNeverHalf agrees_so worked refl

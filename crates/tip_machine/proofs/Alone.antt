@@ -42,7 +42,7 @@ use Rattle.tip_machine.specs.Steps.{attempt, chosen, entered, frozen, is_open, r
 use Rattle.tip_machine.specs.declared.answer.Item.TheVariants.{Say, Close}
 use Rattle.tip_machine.specs.declared.answer.Said.{Said}
 use Rattle.tip_machine.specs.declared.answer.Said.TheVariants as said
-use Rattle.tip_machine.specs.declared.answer.Told.{Told}
+use Rattle.tip_machine.specs.declared.answer.Sent.{Sent}
 use Rattle.tip_machine.specs.declared.connection.Awaited.{Awaited}
 use Rattle.tip_machine.specs.declared.connection.Role.{Role}
 use Rattle.tip_machine.specs.declared.event.Event.TheVariants.{Open, Dial, Line, Voted, Settled, Lost, AskPush, AskPull, Resume}
@@ -375,17 +375,17 @@ turn_none : (cs : List Connection) (n : ℕ) → AreAlone cs → (found : Option
 turn_none cs n alone None is = refl
 turn_none cs n alone (Some c) is = ap turn_of (found_alone (has_number n) cs c alone is).role
 
-turn_zero : (state : State) → AreAlone state.connections → (told : Told) → turn state told ≡ 0
-turn_zero state alone told = turn_none state.connections told.connection alone (connection_of told.connection state) refl
+turn_zero : (state : State) → AreAlone state.connections → (sent : Sent) → turn state sent ≡ 0
+turn_zero state alone sent = turn_none state.connections sent.connection alone (connection_of sent.connection state) refl
 
-put_first : (turn : Told → ℕ) (told : Told) (others : List Told) → ((told : Told) → turn told ≡ 0) → put_in turn told others ≡ told ∷ others
-put_first turn told [] zero = refl
-put_first turn told (other ∷ others) zero = rw (zero told, zero other) refl
+put_first : (turn : Sent → ℕ) (sent : Sent) (others : List Sent) → ((sent : Sent) → turn sent ≡ 0) → put_in turn sent others ≡ sent ∷ others
+put_first turn sent [] zero = refl
+put_first turn sent (other ∷ others) zero = rw (zero sent, zero other) refl
 
-in_order : (turn : Told → ℕ) (lines : List Told) → ((told : Told) → turn told ≡ 0) → in_turn turn lines ≡ lines
+in_order : (turn : Sent → ℕ) (lines : List Sent) → ((sent : Sent) → turn sent ≡ 0) → in_turn turn lines ≡ lines
 in_order turn [] zero = refl
-in_order turn (told ∷ lines) zero = ap (put_in turn told) (in_order turn lines zero) ∙ put_first turn told lines zero
+in_order turn (sent ∷ lines) zero = ap (put_in turn sent) (in_order turn lines zero) ∙ put_first turn sent lines zero
 
 pub ordered_is : (state : State) (w : Work) → AreAlone state.connections → ordered state w ≡ w
 unfolding ordered
-ordered_is state w alone = ap (λ told. record w { answer = record w.answer { told = told } }) (in_order (turn state) w.answer.told (turn_zero state alone))
+ordered_is state w alone = ap (λ sent. record w { answer = record w.answer { sent = sent } }) (in_order (turn state) w.answer.sent (turn_zero state alone))

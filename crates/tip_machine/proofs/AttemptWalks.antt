@@ -8,14 +8,14 @@ use Rattle.tip_branch.specs.declared.branch.Badge.{Badge}
 use Rattle.tip_branch.specs.declared.member.Errand.TheVariants as errand
 use Rattle.tip_line.specs.declared.refusal.Refusal.{Refusal}
 use Rattle.tip_line.specs.declared.refusal.Refusal.TheVariants.{Full, Stale, Busy, NotActive, Known}
-use Rattle.tip_rows.specs.Keys.{Place as Key}
+use Rattle.tip_rows.specs.Keys.{Key}
 use Rattle.tip_txn.specs.Parts.{answered}
 use Rattle.tip_machine.specs.Types.{Connection, Event, PartyPlace, Transaction}
 use Rattle.tip_machine.specs.Connections.{is_free, may_take}
 use Rattle.tip_machine.specs.Transactions.{has_id, has_ready, is_active, is_committed, is_done, is_known, next_key, standing_at, party_answer}
 use Rattle.tip_machine.specs.States.{Attempt, State, Work, connection_of, has_room, identified_by, seated}
 use Rattle.tip_machine.specs.Changes.{alter, refuse}
-use Rattle.tip_machine.specs.Settling.{dispatch, finish, settle}
+use Rattle.tip_machine.specs.Proceeding.{dispatch, finish, proceed}
 use Rattle.tip_machine.specs.Requests.{ask_pull, ask_push, hear, line, lost, owner, pull_if, push_part, resume, resume_in, settled, settled_for, strange, voted, voted_for}
 use Rattle.tip_machine.specs.Served.{Serving}
 use Rattle.tip_machine.specs.Steps.{attempt, Names}
@@ -26,7 +26,7 @@ use Rattle.tip_machine.specs.declared.event.Seat.{Seat}
 use Rattle.tip_machine.specs.declared.transaction.PartyPlace.TheVariants.{Here, Out, Spent}
 use Rattle.tip_machine.specs.declared.transaction.Origin.TheVariants as origin
 use Rattle.tip_machine.proofs.Walks.{Closed, EndsAtOne, EndsOn, Is, at_one, either, either_attempt, found_passes, is_or_any, key_of, or_any, seated_there}
-use Rattle.tip_machine.proofs.RuleWalks.{dispatch-keeps, enlisting-keeps, fail-keeps, finish-keeps, noting-keeps, send-keeps, settle-keeps, taking-keeps}
+use Rattle.tip_machine.proofs.RuleWalks.{dispatch-keeps, enlisting-keeps, fail-keeps, finish-keeps, noting-keeps, send-keeps, proceed-keeps, taking-keeps}
 use Rattle.tip_machine.proofs.EventWalks.{is_heard}
 
 -- does it open a connection?
@@ -114,18 +114,18 @@ module _ (R : Key → Work → Work → Type 0) (May : ℕ → Type 0) (k : (key
     returns : (party : PartyNotes) → has_id w.state.head.name party.id t ≡ true → R t.key w (alter t.key (standing_at (Here party)) w)
     returns party own = (k t.key).returns party t w refl own
 
-    settles_from : (v : Work) → R t.key w v → Q (settle t.key v)
-    settles_from v r = kept_each t.key _ (settle-keeps (R t.key) May (Is t.key) (k t.key) w t.key v refl r)
+    proceeds_from : (v : Work) → R t.key w v → Q (proceed t.key v)
+    proceeds_from v r = kept_each t.key _ (proceed-keeps (R t.key) May (Is t.key) (k t.key) w t.key v refl r)
 
     voted_for-goes : (place : PartyPlace) (party : PartyNotes) → has_id w.state.head.name party.id t ≡ true → Q (voted_for place party t w)
-    voted_for-goes (Out errand.Vote) party own = settles_from _ ((k t.key).then w _ _ (returns party own) (noting-keeps (R t.key) May (Is t.key) (k t.key) 0 (answered (party_answer party)) t.key _ refl))
+    voted_for-goes (Out errand.Vote) party own = proceeds_from _ ((k t.key).then w _ _ (returns party own) (noting-keeps (R t.key) May (Is t.key) (k t.key) 0 (answered (party_answer party)) t.key _ refl))
     voted_for-goes place party own = strangers party
 
     settled_for-goes : (place : PartyPlace) (party : PartyNotes) → has_id w.state.head.name party.id t ≡ true → Q (settled_for place party t w)
     settled_for-goes (Out errand.Commit) party own =
         let here = alter t.key (standing_at (Here party)) w in
-        settles_from _ (either (R t.key w) (has_ready party) here (dispatch t.key here) (returns party own) ((k t.key).then w here _ (returns party own) (dispatch-keeps (R t.key) May (Is t.key) (k t.key) t.key here refl)))
-    settled_for-goes (Out errand.Abort) party own = settles_from _ (returns party own)
+        proceeds_from _ (either (R t.key w) (has_ready party) here (dispatch t.key here) (returns party own) ((k t.key).then w here _ (returns party own) (dispatch-keeps (R t.key) May (Is t.key) (k t.key) t.key here refl)))
+    settled_for-goes (Out errand.Abort) party own = proceeds_from _ (returns party own)
     settled_for-goes place party own = strangers party
 
   push_found-goes : (found : Option Transaction) (peer : Option (List ℕ)) (n : ℕ) → May n → Q (Attempt.Done (push_part found peer n w))

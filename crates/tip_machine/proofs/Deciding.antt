@@ -5,14 +5,14 @@ use Rattle.std.specs.List.{list_any}
 use Rattle.std.proofs.lemmas.Option.{same_Some, none-some}
 use Rattle.tip_txn.specs.Decisions.{Decides, Refuses, Says}
 use Rattle.tip_txn.specs.Parts.{answers_of}
-use Rattle.tip_txn.specs.declared.answer.Answer.{Answer}
-use Rattle.tip_txn.specs.declared.answer.Answer.TheVariants as answers
+use Rattle.tip_txn.specs.declared.answer.Ballot.{Ballot}
+use Rattle.tip_txn.specs.declared.answer.Ballot.TheVariants as answers
 use Rattle.tip_txn.specs.declared.answer.Decision.TheVariants as decisions
 use Rattle.tip_txn.specs.declared.part.Participant.{Participant}
 use Rattle.tip_machine.specs.Transactions.{is_yes, decision, refuses}
 
 -- what the parts answer
-abbrev said_by : List Participant → List (Option Answer)
+abbrev said_by : List Participant → List (Option Ballot)
 said_by parts = map (λ part. part.answer) parts
 
 either_or : (b c : Bool) → b || c ≡ true → (b ≡ true) ⊎ (c ≡ true)
@@ -28,12 +28,12 @@ or_left true c is = refl
 or_left false c is = absurd (cc)
 
 -- one that passes is said by some part
-pub record Passes (test : Option Answer → Bool) (parts : List Participant) : Type 0 where
-  pub said : Option Answer
+pub record Passes (test : Option Ballot → Bool) (parts : List Participant) : Type 0 where
+  pub said : Option Ballot
   pub so : test said ≡ true
   pub says : Says (answers_of parts) said
 
-passes : (test : Option Answer → Bool) (parts : List Participant) → list_any test (said_by parts) ≡ true → Passes test parts
+passes : (test : Option Ballot → Bool) (parts : List Participant) → list_any test (said_by parts) ≡ true → Passes test parts
 passes test [] is = absurd (cc)
 passes test (part ∷ parts) is = elim (either_or (test part.answer) (list_any test (said_by parts)) is) [
   | inl here ↦ record { said = part.answer; so = here; says = (0, refl) }
@@ -41,7 +41,7 @@ passes test (part ∷ parts) is = elim (either_or (test part.answer) (list_any t
 ]
 
 -- and what some part says passes
-says_any : (test : Option Answer → Bool) (said : Option Answer) (parts : List Participant) (part : ℕ) → answers_of parts part said → test said ≡ true → list_any test (said_by parts) ≡ true
+says_any : (test : Option Ballot → Bool) (said : Option Ballot) (parts : List Participant) (part : ℕ) → answers_of parts part said → test said ≡ true → list_any test (said_by parts) ≡ true
 says_any test said [] part is so = absurd (none-some said is)
 says_any test said (p ∷ parts) zero is so = or_left (test p.answer) (list_any test (said_by parts)) (ap test (same_Some p.answer said is) ∙ so)
 says_any test said (p ∷ parts) (suc part) is so = or_right (test p.answer) (list_any test (said_by parts)) (says_any test said parts part is so)
@@ -50,21 +50,21 @@ not_both : (b : Bool) → b ≡ true → b ≡ false → ⊥
 not_both true is not = absurd (cc)
 not_both false is not = absurd (cc)
 
-silent : (test : Option Answer → Bool) (said : Option Answer) (parts : List Participant) → test said ≡ true → list_any test (said_by parts) ≡ false → ¬ Says (answers_of parts) said
+silent : (test : Option Ballot → Bool) (said : Option Ballot) (parts : List Participant) → test said ≡ true → list_any test (said_by parts) ≡ false → ¬ Says (answers_of parts) said
 silent test said parts so none = λ says. not_both (list_any test (said_by parts)) (says_any test said parts says.0 says.1 so) none
 
-refusing : (said : Option Answer) → refuses said ≡ true → (said ≡ Some answers.No) ⊎ (said ≡ Some answers.Lost)
+refusing : (said : Option Ballot) → refuses said ≡ true → (said ≡ Some answers.No) ⊎ (said ≡ Some answers.Lost)
 refusing None is = absurd (cc)
 refusing (Some answers.Yes) is = absurd (cc)
 refusing (Some answers.No) is = inl refl
 refusing (Some answers.ReadOnly) is = absurd (cc)
 refusing (Some answers.Lost) is = inr refl
 
-missing : (said : Option Answer) → is_none said ≡ true → said ≡ None
+missing : (said : Option Ballot) → is_none said ≡ true → said ≡ None
 missing None is = refl
 missing (Some said) is = absurd (cc)
 
-agreeing : (said : Option Answer) → is_yes said ≡ true → said ≡ Some answers.Yes
+agreeing : (said : Option Ballot) → is_yes said ≡ true → said ≡ Some answers.Yes
 agreeing None is = absurd (cc)
 agreeing (Some answers.Yes) is = refl
 agreeing (Some answers.No) is = absurd (cc)

@@ -11,7 +11,7 @@ use Rattle.tip_line.specs.declared.response.ResponseName.{ResponseName}
 use Rattle.tip_line.specs.declared.response.ResponseName.TheVariants as response
 use Rattle.tip_conn.specs.declared.state.Side.{Side}
 use Rattle.tip_conn.specs.declared.state.Side.TheVariants.{Primary, Secondary}
-use Rattle.tip_rows.specs.Keys.{Place as Key}
+use Rattle.tip_rows.specs.Keys.{Key}
 use Rattle.tip_txn.specs.declared.part.Participant.{Participant}
 use Rattle.tip_machine.specs.Types.{Connection, Transaction}
 use Rattle.tip_machine.specs.Connections.{advanced}
@@ -19,7 +19,7 @@ use Rattle.tip_machine.specs.Transactions.{is_committed, is_decided_at, noting, 
 use Rattle.tip_machine.specs.States.{Work, connection_of, identified_by, transaction_of}
 use Rattle.tip_machine.specs.Changes.{alter, change}
 use Rattle.tip_machine.specs.Failing.{closed, wrong}
-use Rattle.tip_machine.specs.Responses.{abort_as, answered_by, ask_superior, go_on, greeted, is_in_doubt, is_owed_commit, note_as, presume_abort, pursue, query_for, reach, reach_by, reconnect_for, responded, settle_as}
+use Rattle.tip_machine.specs.Responses.{abort_as, answered_by, ask_superior, go_on, greeted, is_in_doubt, is_owed_commit, note_as, presume_abort, pursue, query_for, reach, reach_by, reconnect_for, responded, proceed_as}
 use Rattle.tip_machine.specs.Requests.{hear}
 use Rattle.tip_machine.specs.Served.{Serving}
 use Rattle.tip_machine.specs.declared.connection.Awaited.{Awaited}
@@ -33,18 +33,18 @@ use Rattle.tip_machine.specs.declared.event.Heard.TheVariants.{Command as AComma
 use Rattle.tip_machine.specs.declared.transaction.Origin.{Origin}
 use Rattle.tip_machine.specs.declared.transaction.Origin.TheVariants as origin
 use Rattle.tip_machine.proofs.Walks.{AtOne, Closed, EndsAtOne, EndsOn, Is, at_one, attempt_on_each, either, either_attempt, is_or_any, key_of, or_any}
-use Rattle.tip_machine.proofs.RuleWalks.{abort-keeps, closed-keeps, closes, goes_wrong, is_commanded, advanced-made, advanced-number, noting-keeps, send-keeps, settle-keeps, taking-keeps, wrong-keeps}
+use Rattle.tip_machine.proofs.RuleWalks.{abort-keeps, closed-keeps, closes, goes_wrong, is_commanded, advanced-made, advanced-number, noting-keeps, send-keeps, proceed-keeps, taking-keeps, wrong-keeps}
 
 module _ (R : Work → Work → Type 0) (May : ℕ → Type 0) (On : Key → Type 0) (k : Closed R May On) where
   note_as-keeps : (v : Work) (role : Option Role) (note : Participant → Participant) (w : Work) → IfSome (key_of role) On → R v w → EndsOn On (R v) (note_as role note w)
   note_as-keeps v None note w on r = r
   note_as-keeps v (Some (Superior key)) note w on r = r
-  note_as-keeps v (Some (Subordinate key part)) note w on r = settle-keeps R May On k v key (alter key (noting part note) w) on (k.then v w _ r (noting-keeps R May On k part note key w on))
+  note_as-keeps v (Some (Subordinate key part)) note w on r = proceed-keeps R May On k v key (alter key (noting part note) w) on (k.then v w _ r (noting-keeps R May On k part note key w on))
 
-  settle_as-keeps : (v : Work) (role : Option Role) (w : Work) → IfSome (key_of role) On → R v w → EndsOn On (R v) (settle_as role w)
-  settle_as-keeps v None w on r = r
-  settle_as-keeps v (Some (Superior key)) w on r = settle-keeps R May On k v key w on r
-  settle_as-keeps v (Some (Subordinate key part)) w on r = settle-keeps R May On k v key w on r
+  proceed_as-keeps : (v : Work) (role : Option Role) (w : Work) → IfSome (key_of role) On → R v w → EndsOn On (R v) (proceed_as role w)
+  proceed_as-keeps v None w on r = r
+  proceed_as-keeps v (Some (Superior key)) w on r = proceed-keeps R May On k v key w on r
+  proceed_as-keeps v (Some (Subordinate key part)) w on r = proceed-keeps R May On k v key w on r
 
   abort_as-keeps : (role : Option Role) (w : Work) → IfSome (key_of role) On → R w (abort_as role w)
   abort_as-keeps None w on = k.same w
@@ -102,10 +102,10 @@ module _ (R : Key → Work → Work → Type 0) (May : ℕ → Type 0) (k : (key
         let key = or_any (key_of c.role) in
         at_one R w key _ (note_as-keeps (R key) May (Is key) (k key) w c.role note _ (is_or_any (key_of c.role)) (go_on-keeps (R key) May (Is key) (k key) command response c w may))
 
-    settles : (command : CommandName) (response : ResponseName) → EndsAtOne R w (settle_as c.role (go_on command response c w))
-    settles command response =
+    proceeds : (command : CommandName) (response : ResponseName) → EndsAtOne R w (proceed_as c.role (go_on command response c w))
+    proceeds command response =
         let key = or_any (key_of c.role) in
-        at_one R w key _ (settle_as-keeps (R key) May (Is key) (k key) w c.role _ (is_or_any (key_of c.role)) (go_on-keeps (R key) May (Is key) (k key) command response c w may))
+        at_one R w key _ (proceed_as-keeps (R key) May (Is key) (k key) w c.role _ (is_or_any (key_of c.role)) (go_on-keeps (R key) May (Is key) (k key) command response c w may))
 
     aborts : (command : CommandName) (response : ResponseName) → AtOne R w (abort_as c.role (go_on command response c w))
     aborts command response =
@@ -135,12 +135,12 @@ module _ (R : Key → Work → Work → Type 0) (May : ℕ → Type 0) (k : (key
     responds Prepare Aborted = notes _ _ _
     responds Prepare ReadOnly = notes _ _ _
     responds Commit Committed = notes _ _ _
-    responds Abort Aborted = settles _ _
+    responds Abort Aborted = proceeds _ _
     responds (Query key) QueriedExists = goes_on _ _
     responds (Query key) QueriedNotFound =
         let gone_on = go_on command.Query response.QueriedNotFound c w in
         attempt_on_each (EndsAtOne R w) (transaction_of key gone_on.state) (presume_abort c) gone_on (goes_on _ _) (λ t is. presumes_abort t)
-    responds Reconnect Reconnected = settles _ _
+    responds Reconnect Reconnected = proceeds _ _
     responds Reconnect NotReconnected = notes _ _ _
     responds awaited NeedTls = closes R May k c w may
     responds awaited Error = closes R May k c w may

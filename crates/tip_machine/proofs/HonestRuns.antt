@@ -6,7 +6,7 @@ use Rattle.std.specs.Fmt.{digits}
 use Rattle.tip_conn.specs.Table.{is_valid, next_of}
 use Rattle.tip_machine.specs.Changes.{reply, send}
 use Rattle.tip_machine.specs.Reactions.{react}
-use Rattle.tip_machine.specs.Settling.{dispatch, release, abort, commit, promise, leave, finish, settle, ask}
+use Rattle.tip_machine.specs.Proceeding.{dispatch, release, abort, commit, promise, leave, finish, proceed, ask}
 use Rattle.tip_machine.specs.Failing.{gone, fail, closed, wrong}
 use Rattle.tip_machine.specs.Commands.{make, identify, begin, push, pull, query, reconnect, commanded}
 use Rattle.tip_machine.specs.Requests.{added, opened, dial, lost, line, ask_push, ask_pull, resume, voted, settled}
@@ -28,5 +28,5 @@ unfolding is_honest_run
 honest_run example is = let both = and_parts (is_starting example.head) _ is in (fresh_starts example.head both.0, both.1)
 
 pub honest : Each IsHonestRun worked
-unfolding is_honest_run reply send react dispatch release abort commit promise leave finish settle ask gone fail closed wrong make identify begin push pull query reconnect commanded added opened dial lost line ask_push ask_pull resume voted settled ordered stepped is_valid next_of digits
+unfolding is_honest_run reply send react dispatch release abort commit promise leave finish proceed ask gone fail closed wrong make identify begin push pull query reconnect commanded added opened dial lost line ask_push ask_pull resume voted settled ordered stepped is_valid next_of digits
 honest = each is_honest_run IsHonestRun honest_run worked refl

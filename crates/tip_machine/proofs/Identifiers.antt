@@ -7,8 +7,8 @@ use Rattle.std.proofs.lemmas.Bool.Decides.{nat_tests}
 use Rattle.std.proofs.lemmas.Option.{same_Some}
 use Rattle.tip_branch.specs.declared.branch.Badge.{Badge}
 use Rattle.tip_line.specs.declared.refusal.Refusal.TheVariants.{Full}
-use Rattle.tip_rows.specs.Keys.{Place as Key, is_same}
-use Rattle.tip_rows.proofs.OrderLemmas.{same_place}
+use Rattle.tip_rows.specs.Keys.{Key, is_same}
+use Rattle.tip_rows.proofs.OrderLemmas.{same_key}
 use Rattle.tip_table.specs.Lists.{changed, without}
 use Rattle.tip_machine.specs.Types.{Connection, Event, PartyPlace, Transaction}
 use Rattle.tip_machine.specs.Connections.{accepted, dialled, has_number}
@@ -176,7 +176,7 @@ module _ (key : Key) where
     counted = changed_at key c.number (making (length w.state.head.branches) (next_key w.state.head c)) w.state (λ d. refl) (λ d off. still_made (has_number key.connection d) d.made key.number off)
 
     step : (b : Bool) → is_same key (next_key w.state.head c) ≡ b → IsAbsent key w.state → IsAbsent key (make from c w).state ⊎ IsMade key w.state (make from c w).state
-    step true same absent = inr (subst (λ p. IsMade p w.state (make from c w).state) (sym (same_place key (next_key w.state.head c) same)) (not_given c w.state is, given_then (length w.state.head.branches) c w.state is))
+    step true same absent = inr (subst (λ p. IsMade p w.state (make from c w).state) (sym (same_key key (next_key w.state.head c) same)) (not_given c w.state is, given_then (length w.state.head.branches) c w.state is))
     step false differ absent = inl (none-added (has_key key) w.state.transactions (begun w.state.head (next_key w.state.head c) from (take (length w.state.head.branches) c.boxes)) absent differ)
 
   stands : (at : Key) (place : PartyPlace) (s : State) → Counts key s (record s { transactions = changed (has_key at) (standing_at place) s.transactions })

@@ -3,7 +3,7 @@ use Rattle.std.proofs.Common.{◌≡◌, false, ℕ, Option, Some, None, refl, �
 use Rattle.std.specs.Prelude.{IsSome}
 use Rattle.std.specs.Option.{IfSome}
 use Rattle.tip_line.specs.declared.refusal.Refusal.{Refusal}
-use Rattle.tip_rows.specs.Keys.{Place as Key}
+use Rattle.tip_rows.specs.Keys.{Key}
 use Rattle.tip_machine.specs.Types.{Connection, Event}
 use Rattle.tip_machine.specs.States.{Attempt, Work, seated}
 use Rattle.tip_machine.specs.Changes.{refuse}
@@ -53,7 +53,7 @@ closed_by_keeps key = record {
 -- nothing was done: the state stays, nothing is told, and no party goes out
 pub record IsQuiet (before after : Work) : Type 0 where
   pub state : after.state ≡ before.state
-  pub told : after.answer.told ≡ before.answer.told
+  pub sent : after.answer.sent ≡ before.answer.sent
   pub work : after.answer.work ≡ before.answer.work
 
 -- the counts stay, nothing is opened, and where the event is refused, nothing was done
@@ -70,14 +70,14 @@ kept : (w v : Work) → w.answer.refusal ≡ None → Keeps w v → Goes w v
 kept w v none keeps = record { head = keeps.head; opened = keeps.opened; quiet = λ some. absurd (some_none v.answer.refusal (keeps.refusal ∙ none) some) }
 
 refused : (w : Work) (why : Refusal) → Goes w (refuse why w)
-refused w why = record { head = refl; opened = refl; quiet = λ some. record { state = refl; told = refl; work = refl } }
+refused w why = record { head = refl; opened = refl; quiet = λ some. record { state = refl; sent = refl; work = refl } }
 
 pub each : (found : Option Connection) → IfSome found (λ c. any c.number)
 each None = tt
 each (Some c) = may c.number
 
 pub event-goes : (serving : Serving) (event : Event) (w : Work) → is_opening event ≡ false → w.answer.refusal ≡ None → Ends (Goes w) (attempt serving event w)
-event-goes serving event w not none = attempt-goes (λ key. Keeps) any closed_by_keeps w (Ends (Goes w)) (from_one (λ key. Keeps) w (Goes w) (λ v one. kept w v none one.1)) (refused w) (λ party. record { head = refl; opened = refl; quiet = λ some. record { state = refl; told = refl; work = refl } }) serving event not (λ seat names. each (seated seat w.state))
+event-goes serving event w not none = attempt-goes (λ key. Keeps) any closed_by_keeps w (Ends (Goes w)) (from_one (λ key. Keeps) w (Goes w) (λ v one. kept w v none one.1)) (refused w) (λ party. record { head = refl; opened = refl; quiet = λ some. record { state = refl; sent = refl; work = refl } }) serving event not (λ seat names. each (seated seat w.state))
 
 -- a change is wanted only where nothing is refused
 abbrev pub IsCalm : Attempt → Type 0

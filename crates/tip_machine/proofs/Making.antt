@@ -2,7 +2,7 @@
 use Rattle.std.proofs.Common.{◌≡◌, true, List, [], ◌∷◌, arith}
 use Rattle.tip_branch.specs.Notes.{PartyNotes}
 use Rattle.tip_branch.specs.declared.branch.Badge.{Badge}
-use Rattle.tip_rows.specs.Keys.{Place as Key}
+use Rattle.tip_rows.specs.Keys.{Key}
 use Rattle.tip_machine.specs.Given.{was_given}
 use Rattle.tip_machine.specs.Moves.{Move, World, gone_for, led_to, lost_from, moved, renewed, restarted_from, stepped}
 use Rattle.tip_machine.specs.Returns.{Back}

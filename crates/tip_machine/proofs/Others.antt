@@ -15,8 +15,8 @@ use Rattle.tip_line.specs.declared.command.CommandName.{CommandName}
 use Rattle.tip_line.specs.declared.refusal.Refusal.{Refusal}
 use Rattle.tip_line.specs.declared.refusal.Refusal.TheVariants.{Frozen, Full, Stranger}
 use Rattle.tip_line.specs.declared.response.ResponseName.{ResponseName}
-use Rattle.tip_rows.specs.Keys.{Place as Key, is_same}
-use Rattle.tip_rows.proofs.OrderLemmas.{same_place}
+use Rattle.tip_rows.specs.Keys.{Key, is_same}
+use Rattle.tip_rows.proofs.OrderLemmas.{same_key}
 use Rattle.tip_table.specs.Lists.{changed, without}
 use Rattle.tip_machine.specs.Types.{Answer, Connection, Event, PartyPlace, Transaction}
 use Rattle.tip_machine.specs.Answers.{key_asked, key_in, key_said, response_name}
@@ -26,7 +26,7 @@ use Rattle.tip_machine.specs.States.{Attempt, State, Work, connection_of, has_pl
 use Rattle.tip_machine.specs.Changes.{alter, change, end, refuse, tell}
 use Rattle.tip_machine.specs.Commands.{make, making}
 use Rattle.tip_machine.specs.Order.{in_turn, ordered, put_in, turn}
-use Rattle.tip_machine.specs.Reactions.{Demand, Reacted, Reaction, answers, demanded, demanded_as, demands, react, reacted, reacts, stays, told_by}
+use Rattle.tip_machine.specs.Reactions.{Demand, Reacted, Reaction, answers, demanded, demanded_as, demands, react, reacted, reacts, stays, sent_by}
 use Rattle.tip_machine.specs.Requests.{added, dial, hand_back, opened, strange}
 use Rattle.tip_machine.specs.Served.{Serving}
 use Rattle.tip_machine.specs.Steps.{attempt, chosen, entered, frozen, is_for, is_open, step_serving, wanted, wants_serving, AreOf, IsOff, IsOfKey, Names, SendsOne, TellsOfOne, TouchesOne}
@@ -34,7 +34,7 @@ use Rattle.tip_machine.specs.declared.answer.Asked.TheVariants as asked
 use Rattle.tip_machine.specs.declared.answer.Item.{Item}
 use Rattle.tip_machine.specs.declared.answer.Item.TheVariants.{Ask, Close}
 use Rattle.tip_machine.specs.declared.answer.Said.{Said}
-use Rattle.tip_machine.specs.declared.answer.Told.{Told}
+use Rattle.tip_machine.specs.declared.answer.Sent.{Sent}
 use Rattle.tip_machine.specs.declared.connection.Awaited.{Awaited}
 use Rattle.tip_machine.specs.declared.connection.Purpose.{Purpose}
 use Rattle.tip_machine.specs.declared.connection.Role.{Role}
@@ -154,18 +154,18 @@ record Leaves (event : Event) (key : Key) (w v : Work) : Type 0 where
   transactions : (other : Key) → is_same key other ≡ false → transaction_of other v.state ≡ transaction_of other w.state
   connections : (n : ℕ) → ¬ Names event n → IsOff key n w.state → (connection_of n v.state ≡ connection_of n w.state) × IsOff key n v.state
   -- what is told
-  new : List Told
-  told : v.answer.told ≡ w.answer.told ++ new
+  new : List Sent
+  sent : v.answer.sent ≡ w.answer.sent ++ new
   named : AreOf key new
   quiet : (n : ℕ) → ¬ Names event n → IsOff key n w.state → list_any (is_for n) new ≡ false
 
 -- Lines
 
-of_append : (key : Key) (xs ys : List Told) → AreOf key xs → AreOf key ys → AreOf key (xs ++ ys)
+of_append : (key : Key) (xs ys : List Sent) → AreOf key xs → AreOf key ys → AreOf key (xs ++ ys)
 of_append key [] ys these those = those
 of_append key (x ∷ xs) ys these those = (these.0, of_append key xs ys these.1 those)
 
-any_append : (n : ℕ) (xs ys : List Told) → list_any (is_for n) xs ≡ false → list_any (is_for n) ys ≡ false → list_any (is_for n) (xs ++ ys) ≡ false
+any_append : (n : ℕ) (xs ys : List Sent) → list_any (is_for n) xs ≡ false → list_any (is_for n) ys ≡ false → list_any (is_for n) (xs ++ ys) ≡ false
 any_append n [] ys these those = those
 any_append n (x ∷ xs) ys these those = let parts = or_parts (is_for n x) (list_any (is_for n) xs) these in rw (parts.0, any_append n xs ys parts.1 those) refl
 
@@ -181,7 +181,7 @@ some_of : (key : Key) (o : Option Key) → o ≡ Some key → IfSome o (λ named
 some_of key None is = tt
 some_of key (Some k) is = same_Some k key is
 
-abbrev lines_on : Connection → List Item → List Told
+abbrev lines_on : Connection → List Item → List Sent
 lines_on c items = map (λ item. record { connection = c.number; item = item }) items
 
 lines_apart : (n : ℕ) (c : Connection) (items : List Item) → has_number n c ≡ false → list_any (is_for n) (lines_on c items) ≡ false
@@ -226,33 +226,33 @@ module _ (reaction : Reaction) (plain : IsPlain reaction) (key : Key) where
   reacted_if true c = reacts_of c.owed c
   reacted_if false c = tt
 
-  reacted_of : (cs : List Connection) → AreOf key (flat_map (told_by reaction key) cs)
+  reacted_of : (cs : List Connection) → AreOf key (flat_map (sent_by reaction key) cs)
   reacted_of [] = tt
-  reacted_of (c ∷ cs) = of_append key (told_by reaction key c) (flat_map (told_by reaction key) cs) (reacted_if (is_on key c) c) (reacted_of cs)
+  reacted_of (c ∷ cs) = of_append key (sent_by reaction key c) (flat_map (sent_by reaction key) cs) (reacted_if (is_on key c) c) (reacted_of cs)
 
   quiet_if : (n : ℕ) (b : Bool) (c : Connection) → has_number n c && b ≡ false → list_any (is_for n) (lines_on c (cond b (reacts reaction key c.owed c) (stays c)).items) ≡ false
   quiet_if n true c off = lines_apart n c (reacts reaction key c.owed c).items (left_off (has_number n c) off)
   quiet_if n false c off = refl
 
-  quiet_reacted : (n : ℕ) (cs : List Connection) → list_any (is_there key n) cs ≡ false → list_any (is_for n) (flat_map (told_by reaction key) cs) ≡ false
+  quiet_reacted : (n : ℕ) (cs : List Connection) → list_any (is_there key n) cs ≡ false → list_any (is_for n) (flat_map (sent_by reaction key) cs) ≡ false
   quiet_reacted n [] off = refl
   quiet_reacted n (c ∷ cs) off =
       let parts = or_parts (is_there key n c) (list_any (is_there key n) cs) off in
-      any_append n (told_by reaction key c) (flat_map (told_by reaction key) cs) (quiet_if n (is_on key c) c parts.0) (quiet_reacted n cs parts.1)
+      any_append n (sent_by reaction key c) (flat_map (sent_by reaction key) cs) (quiet_if n (is_on key c) c parts.0) (quiet_reacted n cs parts.1)
 
 module _ (event : Event) (key : Key) where
   -- where nothing is told
-  still : (w v : Work) → v.answer.told ≡ w.answer.told → ((other : Key) → is_same key other ≡ false → transaction_of other v.state ≡ transaction_of other w.state) → ((n : ℕ) → ¬ Names event n → IsOff key n w.state → (connection_of n v.state ≡ connection_of n w.state) × IsOff key n v.state) → Leaves event key w v
+  still : (w v : Work) → v.answer.sent ≡ w.answer.sent → ((other : Key) → is_same key other ≡ false → transaction_of other v.state ≡ transaction_of other w.state) → ((n : ℕ) → ¬ Names event n → IsOff key n w.state → (connection_of n v.state ≡ connection_of n w.state) × IsOff key n v.state) → Leaves event key w v
   still w v same transactions connections = record {
     transactions = transactions;
     connections = connections;
     new = [];
-    told = same ∙ sym (append-nil w.answer.told);
+    sent = same ∙ sym (append-nil w.answer.sent);
     named = tt;
     quiet = λ n unnamed off. refl;
   }
 
-  says : (w : Work) (answer : Answer) → answer.told ≡ w.answer.told → Leaves event key w (record w { answer = answer })
+  says : (w : Work) (answer : Answer) → answer.sent ≡ w.answer.sent → Leaves event key w (record w { answer = answer })
   says w answer same = still w _ same (λ other differ. refl) (λ n unnamed off. (refl, off))
 
   goes_on : (a b c : Work) → Leaves event key a b → Leaves event key b c → Leaves event key a c
@@ -260,7 +260,7 @@ module _ (event : Event) (key : Key) where
     transactions = λ other differ. g.transactions other differ ∙ f.transactions other differ;
     connections = λ n unnamed off. let first = f.connections n unnamed off in let second = g.connections n unnamed first.1 in (second.0 ∙ first.0, second.1);
     new = f.new ++ g.new;
-    told = g.told ∙ ap (λ ts. ts ++ g.new) f.told ∙ append_assoc a.answer.told f.new g.new;
+    sent = g.sent ∙ ap (λ ts. ts ++ g.new) f.sent ∙ append_assoc a.answer.sent f.new g.new;
     named = of_append key f.new g.new f.named g.named;
     quiet = λ n unnamed off. any_append n f.new g.new (f.quiet n unnamed off) (g.quiet n unnamed (f.connections n unnamed off).1);
   }
@@ -268,13 +268,13 @@ module _ (event : Event) (key : Key) where
   altered : (f : Transaction → Transaction) (w : Work) → ((t : Transaction) → (f t).key ≡ t.key) → Leaves event key w (alter key f w)
   altered f w same =
       still w _ refl
-      (λ other differ. find-changed (has_key other) (has_key key) f w.state.transactions (λ t is. let at = sym (same_place key t.key is) in (key_apart key other t.key at differ, key_apart key other (f t).key (same t ∙ at) differ)))
+      (λ other differ. find-changed (has_key other) (has_key key) f w.state.transactions (λ t is. let at = sym (same_key key t.key is) in (key_apart key other t.key at differ, key_apart key other (f t).key (same t ∙ at) differ)))
       (λ n unnamed off. (refl, off))
 
   ended : (w : Work) → Leaves event key w (end key w)
   ended w =
       still w _ refl
-      (λ other differ. find-without (has_key other) (has_key key) w.state.transactions (λ t is. key_apart key other t.key (sym (same_place key t.key is)) differ))
+      (λ other differ. find-without (has_key other) (has_key key) w.state.transactions (λ t is. key_apart key other t.key (sym (same_key key t.key is)) differ))
       (λ n unnamed off. (refl, off))
 
   added_to : (t : Transaction) (w : Work) → t.key ≡ key → Leaves event key w (record w { state = record w.state { transactions = w.state.transactions ++ t ∷ [] } })
@@ -309,7 +309,7 @@ module _ (event : Event) (key : Key) where
         let out = taken_out c.number other v.state.connections (superior-other key other w.state.connections c off is) before.1 in
         (out.0 ∙ before.0, out.1);
     new = leaves.new;
-    told = leaves.told;
+    sent = leaves.sent;
     named = leaves.named;
     quiet = leaves.quiet;
   }
@@ -319,7 +319,7 @@ module _ (event : Event) (key : Key) where
     transactions = λ other differ. refl;
     connections = λ other unnamed off. (refl, off);
     new = record { connection = n; item = item } ∷ [];
-    told = refl;
+    sent = refl;
     named = (of, tt);
     quiet = λ other unnamed off. one_apart n other item (unnamed_other n other named unnamed);
   }
@@ -331,7 +331,7 @@ module _ (event : Event) (key : Key) where
         transactions = leaves.transactions;
         connections = leaves.connections;
         new = leaves.new ++ closing;
-        told = ap (λ ts. ts ++ closing) leaves.told ∙ append_assoc w.answer.told leaves.new closing;
+        sent = ap (λ ts. ts ++ closing) leaves.sent ∙ append_assoc w.answer.sent leaves.new closing;
         named = of_append key leaves.new closing leaves.named (tt, tt);
         quiet = λ other unnamed off. any_append other leaves.new closing (leaves.quiet other unnamed off) (one_apart c.number other Close (superior-other key other w.state.connections c off is));
       }
@@ -341,8 +341,8 @@ module _ (event : Event) (key : Key) where
   has_reacted reaction plain w = record {
     transactions = λ other differ. refl;
     connections = λ n unnamed off. (find-reacted key reaction n w.state.connections off, none-map (is_there key n) (λ c. (reacted reaction key c).connection) w.state.connections (become_off key reaction n) off);
-    new = flat_map (told_by reaction key) w.state.connections;
-    told = refl;
+    new = flat_map (sent_by reaction key) w.state.connections;
+    sent = refl;
     named = reacted_of reaction plain key w.state.connections;
     quiet = λ n unnamed off. quiet_reacted reaction plain key n w.state.connections off;
   }
@@ -380,7 +380,7 @@ module _ (event : Event) (key : Key) where
 -- Events
 
 abbrev Touches : Event → State → Work → Type 0
-Touches event state v = (key : Key) × TouchesOne key event state v.state × TellsOfOne key event state v.answer.told × SendsOne key state v.answer
+Touches event state v = (key : Key) × TouchesOne key event state v.state × TellsOfOne key event state v.answer.sent × SendsOne key state v.answer
 
 nothing : (key : Key) (event : Event) (state : State) → TellsOfOne key event state []
 nothing key event state = record { named = tt; quiet = λ n le unnamed off. refl }
@@ -450,8 +450,8 @@ left event state key v goes = (
   key,
   record { transactions = goes.0.transactions; connections = λ n le unnamed off. (goes.0.connections n unnamed off).0 },
   record {
-    named = subst (AreOf key) (sym goes.0.told) goes.0.named;
-    quiet = λ n le unnamed off. ap (list_any (is_for n)) goes.0.told ∙ goes.0.quiet n unnamed off;
+    named = subst (AreOf key) (sym goes.0.sent) goes.0.named;
+    quiet = λ n le unnamed off. ap (list_any (is_for n)) goes.0.sent ∙ goes.0.quiet n unnamed off;
   },
   record {
     works = λ own party is. only party (goes.1.works own party is);
@@ -486,26 +486,26 @@ attempt-touches serving event state outcome =
 
 -- The order of lines
 
-module _ (turn : Told → ℕ) where
-  of_put : (key : Key) (t : Told) (ts : List Told) → IfSome (key_in t.item) (λ named. named ≡ key) → AreOf key ts → AreOf key (put_in turn t ts)
+module _ (turn : Sent → ℕ) where
+  of_put : (key : Key) (t : Sent) (ts : List Sent) → IfSome (key_in t.item) (λ named. named ≡ key) → AreOf key ts → AreOf key (put_in turn t ts)
   of_put key t [] of all = (of, tt)
   of_put key t (other ∷ ts) of all = step (nat_le (turn t) (turn other)) (of_put key t ts of all.1) where
     step : (b : Bool) → AreOf key (put_in turn t ts) → AreOf key (cond b (t ∷ other ∷ ts) (other ∷ put_in turn t ts))
     step true rest = (of, all)
     step false rest = (all.0, rest)
 
-  of_turn : (key : Key) (ts : List Told) → AreOf key ts → AreOf key (in_turn turn ts)
+  of_turn : (key : Key) (ts : List Sent) → AreOf key ts → AreOf key (in_turn turn ts)
   of_turn key [] all = tt
   of_turn key (t ∷ ts) all = of_put key t (in_turn turn ts) all.0 (of_turn key ts all.1)
 
-  any_put : (n : ℕ) (t : Told) (ts : List Told) → is_for n t ≡ false → list_any (is_for n) ts ≡ false → list_any (is_for n) (put_in turn t ts) ≡ false
+  any_put : (n : ℕ) (t : Sent) (ts : List Sent) → is_for n t ≡ false → list_any (is_for n) ts ≡ false → list_any (is_for n) (put_in turn t ts) ≡ false
   any_put n t [] first rest = rw first refl
   any_put n t (other ∷ ts) first rest = let parts = or_parts (is_for n other) (list_any (is_for n) ts) rest in step (nat_le (turn t) (turn other)) parts.0 parts.1 (any_put n t ts first parts.1) where
     step : (b : Bool) → is_for n other ≡ false → list_any (is_for n) ts ≡ false → list_any (is_for n) (put_in turn t ts) ≡ false → list_any (is_for n) (cond b (t ∷ other ∷ ts) (other ∷ put_in turn t ts)) ≡ false
     step true one others later = rw (first, one, others) refl
     step false one others later = rw (one, later) refl
 
-  any_turn : (n : ℕ) (ts : List Told) → list_any (is_for n) ts ≡ false → list_any (is_for n) (in_turn turn ts) ≡ false
+  any_turn : (n : ℕ) (ts : List Sent) → list_any (is_for n) ts ≡ false → list_any (is_for n) (in_turn turn ts) ≡ false
   any_turn n [] none = refl
   any_turn n (t ∷ ts) none = let parts = or_parts (is_for n t) (list_any (is_for n) ts) none in any_put n t (in_turn turn ts) parts.0 (any_turn n ts parts.1)
 
@@ -515,8 +515,8 @@ ordered-touches event state v touches = (
   touches.0,
   touches.1,
   record {
-    named = of_turn (turn state) touches.0 v.answer.told touches.2.named;
-    quiet = λ n le unnamed off. any_turn (turn state) n v.answer.told (touches.2.quiet n le unnamed off);
+    named = of_turn (turn state) touches.0 v.answer.sent touches.2.named;
+    quiet = λ n le unnamed off. any_turn (turn state) n v.answer.sent (touches.2.quiet n le unnamed off);
   },
   record { works = touches.3.works; spends = touches.3.spends },
 )
@@ -526,7 +526,7 @@ frozen-touches event state = (or_any None, untouched event state state refl refl
 
 -- what is touched, by the work that is done and the change that is wanted
 abbrev TouchesAll : Event → State → Outcome → Work → Option Change → Type 0
-TouchesAll event state outcome v change = (key : Key) × TouchesOne key event state v.state × TellsOfOne key event state v.answer.told × SendsOne key state v.answer × IsOfKey key change outcome
+TouchesAll event state outcome v change = (key : Key) × TouchesOne key event state v.state × TellsOfOne key event state v.answer.sent × SendsOne key state v.answer × IsOfKey key change outcome
 
 went-touches : (event : Event) (state : State) (outcome : Outcome) (a : Attempt) → TouchesSo event state outcome a → TouchesAll event state outcome (ordered state (chosen a outcome)) (wanted a)
 unfolding ordered-touches ordered
@@ -537,5 +537,5 @@ step-touches true event state outcome a so = went-touches event state outcome a 
 step-touches false event state outcome a so = let touches = frozen-touches event state in (touches.0, touches.1, touches.2, touches.3, tt)
 
 pub touches : (serving : Serving) (state : State) (event : Event) (outcome : Outcome) →
-    (key : Key) × TouchesOne key event state (step_serving serving state event outcome).state × TellsOfOne key event state (step_serving serving state event outcome).answer.told × SendsOne key state (step_serving serving state event outcome).answer × IsOfKey key (wants_serving serving state event) outcome
+    (key : Key) × TouchesOne key event state (step_serving serving state event outcome).state × TellsOfOne key event state (step_serving serving state event outcome).answer.sent × SendsOne key state (step_serving serving state event outcome).answer × IsOfKey key (wants_serving serving state event) outcome
 touches serving state event outcome = step-touches (is_open state) event state outcome (attempt serving event (entered state)) (attempt-touches serving event state outcome)

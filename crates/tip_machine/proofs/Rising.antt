@@ -5,7 +5,7 @@ use Rattle.std.specs.List.{list_all, list_any}
 use Rattle.std.proofs.lemmas.Bool.{and_from, and_left, and_parts, or_from}
 use Rattle.std.proofs.lemmas.Bool.Decides.{nat_tests}
 use Rattle.std.proofs.lemmas.Option.{same_Some, none-some}
-use Rattle.tip_rows.specs.Keys.{Place as Key}
+use Rattle.tip_rows.specs.Keys.{Key}
 use Rattle.tip_table.specs.Lists.{changed, without}
 use Rattle.tip_machine.specs.Types.{Connection}
 use Rattle.tip_machine.specs.Connections.{has_number}

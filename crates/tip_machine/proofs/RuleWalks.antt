@@ -18,9 +18,9 @@ use Rattle.tip_conn.specs.declared.state.Admit.{Admit}
 use Rattle.tip_conn.specs.declared.state.Admit.TheVariants.{Serve, Wrong}
 use Rattle.tip_conn.specs.declared.state.State.{State as ConnectionState}
 use Rattle.tip_conn.specs.declared.state.Turn.{Turn}
-use Rattle.tip_rows.specs.Keys.{Place as Key}
+use Rattle.tip_rows.specs.Keys.{Key}
 use Rattle.tip_txn.specs.Parts.{answer_at, answered, is_enlisted}
-use Rattle.tip_txn.specs.declared.answer.Answer.TheVariants.{Lost}
+use Rattle.tip_txn.specs.declared.answer.Ballot.TheVariants.{Lost}
 use Rattle.tip_txn.specs.declared.answer.Decision.{Decision}
 use Rattle.tip_txn.specs.declared.answer.Decision.TheVariants as decision
 use Rattle.tip_txn.specs.declared.answer.Phase.{Phase}
@@ -33,7 +33,7 @@ use Rattle.tip_machine.specs.Transactions.{decision_of, enlisting, entering, has
 use Rattle.tip_machine.specs.States.{Attempt, State, Work, connection_of, has_room, identified_by, transaction_of}
 use Rattle.tip_machine.specs.Changes.{alter, change, end, reply, send, tell}
 use Rattle.tip_machine.specs.Reactions.{aborts, asks, commits, needs_nothing, promises, react}
-use Rattle.tip_machine.specs.Settling.{abort, agree, ask, asked_for_votes, commit, conclude, dispatch, dispatched, enter, errand_in, finish, give_out, leave, let_go, owed_to_superior, promise, release, settle, settle_in, wait}
+use Rattle.tip_machine.specs.Proceeding.{abort, agree, ask, asked_for_votes, commit, conclude, dispatch, dispatched, enter, errand_in, finish, give_out, leave, let_go, owed_to_superior, promise, release, proceed, proceed_in, wait}
 use Rattle.tip_machine.specs.Failing.{closed, fail, gone, lost_unanswered, missed, part_lost, superior_lost, wrong}
 use Rattle.tip_machine.specs.Commands.{begin, commanded, decide_abort, decide_commit, exists, identify, make, obey, prepare, pull, pull_into, push, push_new, query, reconnect, reconnect_to, serve, serve_if, superior_role, take_over}
 use Rattle.tip_machine.specs.Served.{Serving}
@@ -169,23 +169,23 @@ module _ (R : Work → Work → Type 0) (May : ℕ → Type 0) (On : Key → Typ
   unfolding finish
   finish-keeps v t w on r = either_attempt (EndsOn On (R v)) (is_done t) _ _ (on, k.then v w _ r (k.ends t.key w on), r) r
 
-  settle_in-keeps : (phase : Phase) (t : Transaction) (w : Work) → On t.key → EndsOn On (R w) (settle_in phase t w)
-  settle_in-keeps phase.Active t w on = conclude-keeps (decision_of t) t w on
-  settle_in-keeps phase.Asking t w on = conclude-keeps (decision_of t) t w on
-  settle_in-keeps phase.Prepared t w on = k.same w
-  settle_in-keeps phase.Committed t w on = finish-keeps w t (react commits t.key w) on (k.reacts commits t.key w plain_commits on)
-  settle_in-keeps phase.Aborted t w on = abort-keeps t.key w on
+  proceed_in-keeps : (phase : Phase) (t : Transaction) (w : Work) → On t.key → EndsOn On (R w) (proceed_in phase t w)
+  proceed_in-keeps phase.Active t w on = conclude-keeps (decision_of t) t w on
+  proceed_in-keeps phase.Asking t w on = conclude-keeps (decision_of t) t w on
+  proceed_in-keeps phase.Prepared t w on = k.same w
+  proceed_in-keeps phase.Committed t w on = finish-keeps w t (react commits t.key w) on (k.reacts commits t.key w plain_commits on)
+  proceed_in-keeps phase.Aborted t w on = abort-keeps t.key w on
 
-  settle-here : (key : Key) (w : Work) → On key → EndsOn On (R w) (settle key w)
-  unfolding settle
-  settle-here key w on = attempt_on_each (EndsOn On (R w)) (transaction_of key w.state) (λ t. settle_in t.phase t) w (k.same w) (λ t is. settle_in-keeps t.phase t w (on_found On key w.state.transactions t is on))
+  proceed-here : (key : Key) (w : Work) → On key → EndsOn On (R w) (proceed key w)
+  unfolding proceed
+  proceed-here key w on = attempt_on_each (EndsOn On (R w)) (transaction_of key w.state) (λ t. proceed_in t.phase t) w (k.same w) (λ t is. proceed_in-keeps t.phase t w (on_found On key w.state.transactions t is on))
 
   -- what keeps what was kept
   more : (a : Attempt) (v w : Work) → R v w → EndsOn On (R w) a → EndsOn On (R v) a
   more a v w r p = more_on On (R w) (R v) (λ u. k.then v w u r) a p
 
-  pub settle-keeps : (v : Work) (key : Key) (w : Work) → On key → R v w → EndsOn On (R v) (settle key w)
-  settle-keeps v key w on r = more (settle key w) v w r (settle-here key w on)
+  pub proceed-keeps : (v : Work) (key : Key) (w : Work) → On key → R v w → EndsOn On (R v) (proceed key w)
+  proceed-keeps v key w on r = more (proceed key w) v w r (proceed-here key w on)
 
   asked-keeps : (t : Transaction) (place : PartyPlace) (key : Key) (w : Work) → On key → transaction_of key w.state ≡ Some t → t.place ≡ place → R w (asked_for_votes place key w)
   asked-keeps t (Here party) key w on is at = k.gives errand.Vote party key w on (record { transaction = t; found = is; place = at })
@@ -197,7 +197,7 @@ module _ (R : Work → Work → Type 0) (May : ℕ → Type 0) (On : Key → Typ
   ask-keeps t w on is =
       let entered = enter phase.Asking t.key w in
       let there : transaction_of t.key entered.state ≡ Some (entering phase.Asking t) = found_changed t.key (entering phase.Asking) w.state.transactions t is (found_passes (has_key t.key) w.state.transactions t is) in
-      settle-keeps w t.key (asked_for_votes t.place t.key entered) on (k.then w entered _ (enter-keeps phase.Asking t.key w on) (asked-keeps (entering phase.Asking t) t.place t.key entered on there refl))
+      proceed-keeps w t.key (asked_for_votes t.place t.key entered) on (k.then w entered _ (enter-keeps phase.Asking t.key w on) (asked-keeps (entering phase.Asking t) t.place t.key entered on there refl))
 
   -- Failing and closing
 

@@ -5,8 +5,8 @@ use Rattle.std.proofs.lemmas.Option.{same_Some, none-some}
 use Rattle.std.proofs.lemmas.Slice.Eq.{bytes_eq-Decides}
 use Rattle.tip_branch.specs.Notes.{PartyNotes, given}
 use Rattle.tip_branch.specs.declared.member.Errand.{Errand}
-use Rattle.tip_rows.specs.Keys.{Place as Key}
-use Rattle.tip_rows.proofs.OrderLemmas.{same_place}
+use Rattle.tip_rows.specs.Keys.{Key}
+use Rattle.tip_rows.proofs.OrderLemmas.{same_key}
 use Rattle.tip_table.specs.Lists.{changed, without}
 use Rattle.tip_machine.specs.Types.{Answer, Connection, PartyPlace, Transaction}
 use Rattle.tip_machine.specs.Answers.{identifier}
@@ -14,7 +14,7 @@ use Rattle.tip_machine.specs.Transactions.{begun, has_id, has_key, next_key, sta
 use Rattle.tip_machine.specs.States.{Work}
 use Rattle.tip_machine.specs.Commands.{make}
 use Rattle.tip_machine.specs.Reactions.{react}
-use Rattle.tip_machine.specs.Settling.{give_out, let_go}
+use Rattle.tip_machine.specs.Proceeding.{give_out, let_go}
 use Rattle.tip_machine.specs.Steps.{AreOwn, IsOwn}
 use Rattle.tip_machine.specs.declared.transaction.Origin.{Origin}
 use Rattle.tip_machine.specs.declared.transaction.PartyPlace.TheVariants.{Here, Out, Spent}
@@ -105,7 +105,7 @@ module _ (key : Key) where
   here_own at party w on here own =
       let t = here.transaction in
       own_found w.state.head.name (has_key at) w.state.transactions t own here.found party here.place
-      ∙ ap (identifier w.state.head.name) (sym (same_place at t.key (found_passes (has_key at) w.state.transactions t here.found)) ∙ on)
+      ∙ ap (identifier w.state.head.name) (sym (same_key at t.key (found_passes (has_key at) w.state.transactions t here.found)) ∙ on)
 
   gives : (errand : Errand) (party : PartyNotes) (at : Key) (w : Work) → at ≡ key → IsHere at party w.state → Sends key w (give_out errand party at w)
   gives errand party at w on here = record {
@@ -124,7 +124,7 @@ module _ (key : Key) where
   }
 
   returned_own : (realm : List ℕ) (party : PartyNotes) (at : Key) (t : Transaction) → party.id ≡ identifier realm at → has_key at t ≡ true → IsOwn realm (standing_at (Here party) t)
-  returned_own realm party at t is there p same = ap (λ (q : PartyNotes). q.id) (sym (same_here party p same)) ∙ is ∙ ap (identifier realm) (same_place at t.key there)
+  returned_own realm party at t is there p same = ap (λ (q : PartyNotes). q.id) (sym (same_here party p same)) ∙ is ∙ ap (identifier realm) (same_key at t.key there)
 
   made_own : (realm : List ℕ) (t : Transaction) (party : PartyNotes) → t.place ≡ Here party → party.id ≡ identifier realm t.key → IsOwn realm t
   made_own realm t party at is p same = ap (λ (q : PartyNotes). q.id) (sym (same_here party p (sym at ∙ same))) ∙ is

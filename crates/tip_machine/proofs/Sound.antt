@@ -7,7 +7,7 @@ use Rattle.std.proofs.lemmas.Bool.{and_parts}
 use Rattle.tip_conn.specs.Table.{is_valid, next_of}
 use Rattle.tip_machine.specs.Changes.{reply, send}
 use Rattle.tip_machine.specs.Reactions.{react}
-use Rattle.tip_machine.specs.Settling.{dispatch, release, abort, commit, promise, leave, finish, settle, ask}
+use Rattle.tip_machine.specs.Proceeding.{dispatch, release, abort, commit, promise, leave, finish, proceed, ask}
 use Rattle.tip_machine.specs.Failing.{gone, fail, closed, wrong}
 use Rattle.tip_machine.specs.Commands.{make, identify, begin, push, pull, query, reconnect, commanded}
 use Rattle.tip_machine.specs.Requests.{added, opened, dial, lost, line, ask_push, ask_pull, resume, voted, settled}
@@ -59,5 +59,5 @@ unfolding stays
 stays_so example is = reaches (fresh example.head) example.lines is
 
 pub sound : Each StaysSound worked
-unfolding stays is_sound stays_sound reply send react dispatch release abort commit promise leave finish settle ask gone fail closed wrong make identify begin push pull query reconnect commanded added opened dial lost line ask_push ask_pull resume voted settled ordered stepped is_valid next_of digits
+unfolding stays is_sound stays_sound reply send react dispatch release abort commit promise leave finish proceed ask gone fail closed wrong make identify begin push pull query reconnect commanded added opened dial lost line ask_push ask_pull resume voted settled ordered stepped is_valid next_of digits
 sound = each stays StaysSound stays_so worked refl

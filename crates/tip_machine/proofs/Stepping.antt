@@ -14,7 +14,7 @@ use Rattle.tip_machine.specs.Order.{in_turn, ordered, turn}
 use Rattle.tip_machine.specs.Requests.{added, dial, hand_back, opened}
 use Rattle.tip_machine.specs.Served.{Serving}
 use Rattle.tip_machine.specs.Steps.{attempt, chosen, entered, frozen, is_open, returned, step_serving, wanted, wants_serving, ChangesTheEntriesAlone, IsNext}
-use Rattle.tip_machine.specs.declared.answer.Told.{Told}
+use Rattle.tip_machine.specs.declared.answer.Sent.{Sent}
 use Rattle.tip_machine.specs.declared.connection.Purpose.{Purpose}
 use Rattle.tip_machine.specs.declared.event.Event.TheVariants.{Open, Dial, Voted, Settled}
 use Rattle.tip_machine.specs.declared.event.Outcome.{Outcome}
@@ -34,7 +34,7 @@ abbrev pub Went : Work → Work → Type 0
 Went before after = Goes before after ⊎ Opens before after
 
 handed_back : (w : Work) (boxes : List Badge) → Went w (hand_back boxes (refuse Full w))
-handed_back w boxes = inl (record { head = refl; opened = refl; quiet = λ some. record { state = refl; told = refl; work = refl } })
+handed_back w boxes = inl (record { head = refl; opened = refl; quiet = λ some. record { state = refl; sent = refl; work = refl } })
 
 opened-went : (boxes : List Badge) (w : Work) → Went w (opened boxes w)
 unfolding opened added
@@ -56,17 +56,17 @@ attempt-went serving event w none =
     event
 
 -- no line has no order
-ordered-none : (state : State) (told none : List Told) → none ≡ [] → told ≡ none → in_turn (turn state) told ≡ none
-ordered-none state told none is same = ap (in_turn (turn state)) (same ∙ is) ∙ sym is
+ordered-none : (state : State) (sent none : List Sent) → none ≡ [] → sent ≡ none → in_turn (turn state) sent ≡ none
+ordered-none state sent none is same = ap (in_turn (turn state)) (same ∙ is) ∙ sym is
 
-ordered-went : (w : Work) (state : State) (v : Work) → w.answer.told ≡ [] → Went w v → Went w (ordered state v)
+ordered-went : (w : Work) (state : State) (v : Work) → w.answer.sent ≡ [] → Went w v → Went w (ordered state v)
 unfolding ordered
 ordered-went w state v none (inl goes) = inl (record {
   head = goes.head;
   opened = goes.opened;
   quiet = λ some. record {
     state = (goes.quiet some).state;
-    told = ordered-none state v.answer.told w.answer.told none (goes.quiet some).told;
+    sent = ordered-none state v.answer.sent w.answer.sent none (goes.quiet some).sent;
     work = (goes.quiet some).work;
   };
 })
@@ -113,7 +113,7 @@ quiet serving state event outcome = quiet_step serving state event outcome
 
 -- and it tells nothing, and sends no party out
 
-pub returned-silent : (why : Refusal) (event : Event) → ((returned why event).told ≡ []) × ((returned why event).work ≡ None)
+pub returned-silent : (why : Refusal) (event : Event) → ((returned why event).sent ≡ []) × ((returned why event).work ≡ None)
 returned-silent why (Open boxes) = (refl, refl)
 returned-silent why (Dial address purpose boxes) = (refl, refl)
 returned-silent why (Voted party) = (refl, refl)
@@ -121,11 +121,11 @@ returned-silent why (Settled party) = (refl, refl)
 returned-silent why other = (refl, refl)
 
 IsSilent : Work → Type 0
-IsSilent work = IsSome work.answer.refusal → (work.answer.told ≡ []) × (work.answer.work ≡ None)
+IsSilent work = IsSome work.answer.refusal → (work.answer.sent ≡ []) × (work.answer.work ≡ None)
 
 went-silent : (state : State) (v : Work) → Went (entered state) v → IsSilent v
 unfolding IsSilent
-went-silent state v (inl goes) = λ some. ((goes.quiet some).told, (goes.quiet some).work)
+went-silent state v (inl goes) = λ some. ((goes.quiet some).sent, (goes.quiet some).work)
 went-silent state v (inr opens) = λ some. absurd (some_none v.answer.refusal opens.refusal some)
 
 frozen-silent : (event : Event) (state : State) → IsSilent (frozen event state)
@@ -135,7 +135,7 @@ frozen-silent event state = λ some. returned-silent Frozen event
 silent_step : (serving : Serving) (state : State) (event : Event) (outcome : Outcome) → IsSilent (step_serving serving state event outcome)
 silent_step serving state event outcome = either IsSilent (is_open state) _ (frozen event state) (went-silent state _ (step-went serving state event outcome)) (frozen-silent event state)
 
-pub silent : (serving : Serving) (state : State) (event : Event) (outcome : Outcome) → IsSome (step_serving serving state event outcome).answer.refusal → ((step_serving serving state event outcome).answer.told ≡ []) × ((step_serving serving state event outcome).answer.work ≡ None)
+pub silent : (serving : Serving) (state : State) (event : Event) (outcome : Outcome) → IsSome (step_serving serving state event outcome).answer.refusal → ((step_serving serving state event outcome).answer.sent ≡ []) × ((step_serving serving state event outcome).answer.work ≡ None)
 unfolding IsSilent
 silent serving state event outcome = silent_step serving state event outcome
 

@@ -11,7 +11,7 @@ use Rattle.tip_conn.specs.declared.state.Side.TheVariants.{Primary, Secondary}
 use Rattle.tip_conn.specs.declared.state.State.{State as ConnectionState}
 use Rattle.tip_conn.specs.declared.state.State.TheVariants.{Initial, Idle, Begun, Enlisted, Prepared, Error}
 use Rattle.tip_line.specs.declared.command.CommandName.{CommandName}
-use Rattle.tip_rows.specs.Keys.{Place as Key}
+use Rattle.tip_rows.specs.Keys.{Key}
 use Rattle.tip_rows.specs.declared.row.Row.{Row}
 use Rattle.tip_machine.specs.Types.{Connection, Event}
 use Rattle.tip_machine.specs.Alone.{AreAlone, IsAlone, is_early}

@@ -6,8 +6,8 @@ use Rattle.std.proofs.lemmas.Bool.Decides.{nat_tests}
 use Rattle.std.proofs.lemmas.Option.{same_Some, none-some}
 use Rattle.tip_branch.specs.Notes.{PartyNotes}
 use Rattle.tip_branch.specs.declared.branch.Badge.{Badge}
-use Rattle.tip_rows.specs.Keys.{Place as Key}
-use Rattle.tip_rows.proofs.OrderLemmas.{same_place}
+use Rattle.tip_rows.specs.Keys.{Key}
+use Rattle.tip_rows.proofs.OrderLemmas.{same_key}
 use Rattle.tip_table.specs.Lists.{changed, without}
 use Rattle.tip_machine.specs.Types.{Connection, Transaction}
 use Rattle.tip_machine.specs.Connections.{asks_for, has_number, is_superior_of}
@@ -19,7 +19,7 @@ use Rattle.tip_machine.specs.Changes.{alter, attempt_on, change, end, on, tell}
 use Rattle.tip_machine.specs.Commands.{make}
 use Rattle.tip_machine.specs.Reactions.{Reaction, react}
 use Rattle.tip_branch.specs.declared.member.Errand.{Errand}
-use Rattle.tip_machine.specs.Settling.{give_out, let_go}
+use Rattle.tip_machine.specs.Proceeding.{give_out, let_go}
 use Rattle.tip_machine.specs.declared.transaction.PartyPlace.TheVariants.{Here}
 use Rattle.tip_machine.specs.Steps.{chosen, key_changed}
 use Rattle.tip_machine.specs.declared.answer.Item.{Item}
@@ -136,7 +136,7 @@ seated_there seat state c is = subst (λ n. find (has_number n) state.connection
 
 -- a transaction that was found by its key has it
 pub on_found : (On : Key → Type 0) (key : Key) (ts : List Transaction) (t : Transaction) → find (has_key key) ts ≡ Some t → On key → On t.key
-on_found On key ts t is on = subst On (same_place key t.key (found_passes (has_key key) ts t is)) on
+on_found On key ts t is on = subst On (same_key key t.key (found_passes (has_key key) ts t is)) on
 
 -- the transaction of a role
 abbrev pub key_of : Option Role → Option Key
@@ -146,7 +146,7 @@ key_of (Some (Subordinate key part)) = Some key
 
 pub on_asked : (On : Key → Type 0) (key : Key) (role : Option Role) → asks_for key role ≡ true → On key → IfSome (key_of role) On
 on_asked On key None asks on = absurd (cc)
-on_asked On key (Some (Superior other)) asks on = subst On (same_place key other asks) on
+on_asked On key (Some (Superior other)) asks on = subst On (same_key key other asks) on
 on_asked On key (Some (Subordinate other part)) asks on = absurd (cc)
 
 -- One transaction
@@ -189,4 +189,4 @@ found_changed key f (x ∷ xs) t is same = step (has_key key x) refl (λ later. 
 
 -- the transaction that is found by its key is there by its own
 pub there_by_key : (key : Key) (ts : List Transaction) (t : Transaction) → find (has_key key) ts ≡ Some t → find (has_key t.key) ts ≡ Some t
-there_by_key key ts t is = subst (λ k. find (has_key k) ts ≡ Some t) (same_place key t.key (found_passes (has_key key) ts t is)) is
+there_by_key key ts t is = subst (λ k. find (has_key k) ts ≡ Some t) (same_key key t.key (found_passes (has_key key) ts t is)) is

@@ -14,12 +14,12 @@ use Rattle.tip_branch.specs.declared.member.Call.TheVariants as call
 use Rattle.tip_line.specs.declared.command.Command.TheVariants as command
 use Rattle.tip_line.specs.declared.response.Response.{Response}
 use Rattle.tip_line.specs.declared.response.Response.TheVariants as response
-use Rattle.tip_rows.specs.Keys.{Place as Key}
+use Rattle.tip_rows.specs.Keys.{Key}
 use Rattle.tip_rows.specs.declared.row.Row.{Row}
 use Rattle.tip_rows.specs.declared.row.Row.TheVariants as row
 use Rattle.tip_txn.specs.Parts.{is_pair}
-use Rattle.tip_txn.specs.declared.answer.Answer.{Answer}
-use Rattle.tip_txn.specs.declared.answer.Answer.TheVariants as answer
+use Rattle.tip_txn.specs.declared.answer.Ballot.{Ballot}
+use Rattle.tip_txn.specs.declared.answer.Ballot.TheVariants as answer
 use Rattle.tip_txn.specs.declared.part.Participant.{Participant}
 use Rattle.tip_machine.specs.Types.{Connection, Transaction}
 use Rattle.tip_machine.specs.Answers.{identifier}
@@ -48,14 +48,14 @@ abbrev pub is_committed_row : Row → Bool
 is_committed_row (row.Prepared address superior branches subordinates) = false
 is_committed_row (row.Committed branches subordinates) = true
 
-abbrev pub is_willing : Answer → Bool
+abbrev pub is_willing : Ballot → Bool
 is_willing answer.Yes = true
 is_willing answer.No = false
 is_willing answer.ReadOnly = true
 is_willing answer.Lost = false
 
 -- what a response to PREPARE or to PUSH answers (section 13)
-abbrev pub answer_by : Option Awaited → Response → Option Answer
+abbrev pub answer_by : Option Awaited → Response → Option Ballot
 answer_by (Some awaited.Prepare) response.Prepared = Some answer.Yes
 answer_by (Some awaited.Prepare) response.Aborted = Some answer.No
 answer_by (Some awaited.Prepare) response.ReadOnly = Some answer.ReadOnly
@@ -131,7 +131,7 @@ module _ (realm : List ℕ) (id : List ℕ) where
   abbrev pub heard_from : ℕ → Moment → Option Came
   heard_from part moment = option_and_then (λ came. if option_map_or (λ other. part == other) (part_of came.connection.role) false then Some came else None) (heard_in moment)
 
-  abbrev pub answers_from : ℕ → List Moment → List Answer
+  abbrev pub answers_from : ℕ → List Moment → List Ballot
   answers_from part moments = filter_map (λ moment. option_and_then (λ came. answer_by came.connection.awaited came.response) (heard_from part moment)) moments
 
   -- the connection of a part is gone before the part has answered
@@ -190,7 +190,7 @@ module _ (realm : List ℕ) (id : List ℕ) where
   queried_on other = None
 
   abbrev pub denies : ℕ → Output → Bool
-  denies number (Output.Told told) = (told.connection == number) && is_denial told.item
+  denies number (Output.Sent sent) = (sent.connection == number) && is_denial sent.item
   denies number other = false
 
   abbrev pub is_denied : Moment → Bool

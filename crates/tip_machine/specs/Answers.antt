@@ -7,7 +7,7 @@ use Rattle.tip_line.specs.declared.command.Command.TheVariants as command
 use Rattle.tip_line.specs.declared.response.Response.{Response}
 use Rattle.tip_line.specs.declared.response.Response.TheVariants as response
 use Rattle.tip_line.specs.declared.response.ResponseName.{ResponseName}
-use Rattle.tip_rows.specs.Keys.{Place as Key}
+use Rattle.tip_rows.specs.Keys.{Key}
 use Rattle.tip_machine.specs.Types.{Answer}
 use Rattle.tip_machine.specs.declared.answer.Said.{Said}
 use Rattle.tip_machine.specs.declared.answer.Said.TheVariants as said
@@ -15,7 +15,7 @@ use Rattle.tip_machine.specs.declared.answer.Asked.{Asked}
 use Rattle.tip_machine.specs.declared.answer.Asked.TheVariants as asked
 use Rattle.tip_machine.specs.declared.answer.Item.{Item}
 use Rattle.tip_machine.specs.declared.answer.Item.TheVariants.{Say, Ask, Close}
-use Rattle.tip_machine.specs.declared.answer.Told.{Told}
+use Rattle.tip_machine.specs.declared.answer.Sent.{Sent}
 
 -- the identifier of a realm's transaction (section 5; the form is ours)
 abbrev pub identifier : List ℕ → Key → List ℕ
@@ -80,7 +80,7 @@ key_in Close = None
 
 -- an answer with nothing in it
 abbrev pub silence : Answer
-silence = record { refusal = None; opened = None; told = []; work = None; spent = None; unused = None; entry = None }
+silence = record { refusal = None; opened = None; sent = []; work = None; spent = None; unused = None; entry = None }
 
 abbrev pub is_close : Item → Bool
 is_close (Say said) = false
@@ -88,5 +88,5 @@ is_close (Ask asked) = false
 is_close Close = true
 
 -- does this close the connection of that number?
-abbrev pub is_closing : ℕ → Told → Bool
-is_closing number told = (told.connection == number) && is_close told.item
+abbrev pub is_closing : ℕ → Sent → Bool
+is_closing number sent = (sent.connection == number) && is_close sent.item

@@ -2,7 +2,7 @@
 use Rattle.std.specs.Prelude.{ℕ, [], ◌∷◌, ◌++◌, Option, Some, None}
 use Rattle.tip_line.specs.declared.command.CommandName.{CommandName}
 use Rattle.tip_line.specs.declared.refusal.Refusal.{Refusal}
-use Rattle.tip_rows.specs.Keys.{Place as Key}
+use Rattle.tip_rows.specs.Keys.{Key}
 use Rattle.tip_table.specs.Lists.{changed, without}
 use Rattle.tip_machine.specs.Types.{Connection, Transaction}
 use Rattle.tip_machine.specs.Answers.{response_name}
@@ -17,7 +17,7 @@ use Rattle.tip_machine.specs.declared.answer.Said.{Said}
 
 -- this goes out on a connection, after what went out so far
 abbrev pub tell : ℕ → Item → Work → Work
-tell number item work = record work { answer = record work.answer { told = work.answer.told ++ record { connection = number; item = item } ∷ [] } }
+tell number item work = record work { answer = record work.answer { sent = work.answer.sent ++ record { connection = number; item = item } ∷ [] } }
 
 abbrev pub refuse : Refusal → Work → Work
 refuse why work = record work { answer = record work.answer { refusal = Some why } }

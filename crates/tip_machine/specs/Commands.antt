@@ -9,7 +9,7 @@ use Rattle.tip_line.specs.declared.command.Command.{Command}
 use Rattle.tip_line.specs.declared.command.Command.TheVariants.{Identify, Begin, Push, Pull, Prepare, Commit, Abort, Query, Reconnect, Multiplex, Tls, Error}
 use Rattle.tip_line.specs.declared.command.CommandName.{CommandName}
 use Rattle.tip_line.specs.declared.command.CommandName.TheVariants as command
-use Rattle.tip_rows.specs.Keys.{Place as Key}
+use Rattle.tip_rows.specs.Keys.{Key}
 use Rattle.tip_txn.specs.Parts.{enlisted, is_enlisted}
 use Rattle.tip_txn.specs.Transactions.{exists_in}
 use Rattle.tip_txn.specs.declared.answer.Phase.{Phase}
@@ -19,7 +19,7 @@ use Rattle.tip_machine.specs.Connections.{identified, is_superior_of, owing, tak
 use Rattle.tip_machine.specs.Transactions.{begun, enlisting, is_active, is_known, is_prepared, next_key, row_committed}
 use Rattle.tip_machine.specs.States.{Attempt, Work, has_room, identified_by, transaction_of}
 use Rattle.tip_machine.specs.Changes.{alter, attempt_on, change, reply, tell}
-use Rattle.tip_machine.specs.Settling.{abort, ask, commit}
+use Rattle.tip_machine.specs.Proceeding.{abort, ask, commit}
 use Rattle.tip_machine.specs.Failing.{closed, wrong}
 use Rattle.tip_machine.specs.Served.{Serving}
 use Rattle.tip_machine.specs.declared.answer.Item.TheVariants.{Say}

@@ -12,7 +12,7 @@ use Rattle.tip_conn.specs.declared.state.Side.{Side}
 use Rattle.tip_conn.specs.declared.state.Side.TheVariants.{Primary, Secondary}
 use Rattle.tip_conn.specs.declared.state.Turn.{Turn}
 use Rattle.tip_conn.specs.declared.state.Turn.TheVariants.{Keep, Reverse, Original}
-use Rattle.tip_rows.specs.Keys.{Place as Key, is_same}
+use Rattle.tip_rows.specs.Keys.{Key, is_same}
 use Rattle.tip_machine.specs.Types.{Connection}
 use Rattle.tip_machine.specs.declared.connection.Awaited.{Awaited}
 use Rattle.tip_machine.specs.declared.connection.Awaited.TheVariants as awaited

@@ -1,9 +1,9 @@
 -- Connections that fail or are closed (RFC 2371, section 15).
 use Rattle.std.specs.Prelude.{ℕ, Option, Some, None, is_some, if◌then◌else◌}
-use Rattle.tip_rows.specs.Keys.{Place as Key}
+use Rattle.tip_rows.specs.Keys.{Key}
 use Rattle.tip_table.specs.Lists.{without}
 use Rattle.tip_txn.specs.Parts.{answer_at, answered}
-use Rattle.tip_txn.specs.declared.answer.Answer.TheVariants.{Lost}
+use Rattle.tip_txn.specs.declared.answer.Ballot.TheVariants.{Lost}
 use Rattle.tip_txn.specs.declared.answer.Phase.{Phase}
 use Rattle.tip_txn.specs.declared.answer.Phase.TheVariants.{Active, Asking, Prepared, Committed, Aborted}
 use Rattle.tip_machine.specs.Types.{Connection, Transaction}
@@ -11,7 +11,7 @@ use Rattle.tip_machine.specs.Connections.{has_number}
 use Rattle.tip_machine.specs.Transactions.{noting}
 use Rattle.tip_machine.specs.States.{Work}
 use Rattle.tip_machine.specs.Changes.{alter, on_key, tell}
-use Rattle.tip_machine.specs.Settling.{abort}
+use Rattle.tip_machine.specs.Proceeding.{abort}
 use Rattle.tip_machine.specs.declared.answer.Item.TheVariants.{Say, Close}
 use Rattle.tip_machine.specs.declared.answer.Said.TheVariants as said
 use Rattle.tip_machine.specs.declared.connection.Role.{Role}

@@ -1,7 +1,7 @@
 -- What a realm has given: numbers to connections, and keys to transactions (ours). It computes.
 use Rattle.std.specs.Prelude.{ℕ, ◌+◌, ◌==◌, ◌&&◌, ◌||◌, not, nat_le, nat_lt, Bool, true, List, [], ◌∷◌, ◌++◌, map}
 use Rattle.std.specs.List.{list_all, list_any}
-use Rattle.tip_rows.specs.Keys.{Place as Key}
+use Rattle.tip_rows.specs.Keys.{Key}
 use Rattle.tip_machine.specs.Types.{Connection}
 use Rattle.tip_machine.specs.Connections.{has_number}
 use Rattle.tip_machine.specs.States.{State}

@@ -10,7 +10,7 @@ pub mod Alone
 pub mod Served
 pub mod Changes
 pub mod Reactions
-pub mod Settling
+pub mod Proceeding
 pub mod Failing
 pub mod Commands
 pub mod Responses

@@ -4,7 +4,7 @@ use Rattle.std.specs.Option.{option_to_list}
 use Rattle.tip_branch.specs.Notes.{PartyNotes}
 use Rattle.tip_branch.specs.declared.branch.Badge.{Badge}
 use Rattle.tip_line.specs.declared.refusal.Refusal.TheVariants as refusal
-use Rattle.tip_rows.specs.Keys.{Place as Key, comes_before, is_same}
+use Rattle.tip_rows.specs.Keys.{Key, comes_before, is_same}
 use Rattle.tip_rows.specs.declared.row.Row.{Row}
 use Rattle.tip_table.specs.Lists.{without}
 use Rattle.tip_machine.specs.Types.{Event, PartyPlace}

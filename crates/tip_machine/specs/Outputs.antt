@@ -8,7 +8,7 @@ use Rattle.tip_branch.specs.Members.{is_active}
 use Rattle.tip_branch.specs.Notes.{PartyNotes}
 use Rattle.tip_line.specs.declared.refusal.Refusal.{Refusal}
 use Rattle.tip_machine.specs.Types.{Answer, Event}
-use Rattle.tip_machine.specs.declared.answer.Told.{Told as ALine}
+use Rattle.tip_machine.specs.declared.answer.Sent.{Sent as ALine}
 use Rattle.tip_machine.specs.declared.event.Change.{Change}
 use Rattle.tip_machine.specs.declared.event.Event.TheVariants.{Voted, Settled}
 use Rattle.tip_machine.specs.declared.event.Outcome.{Outcome}
@@ -20,7 +20,7 @@ pub data Output : Type 0 where
   -- a branch of a transaction was called, and answered so
   Called : (id : List ℕ) → (member : ℕ) → Badge → Call → Output
   Changed : Change → Outcome → Output
-  Told : ALine → Output
+  Sent : ALine → Output
   -- a transaction's party goes out
   Works : (id : List ℕ) → Errand → Output
   -- a branch that was still active is rolled back
@@ -47,6 +47,6 @@ outputs event change outcome answer =
     ++ (option_to_list (option_map Output.Opened answer.opened)
     ++ (brought event
     ++ (option_to_list (option_map (λ c. Output.Changed c outcome) change)
-    ++ (map Output.Told answer.told
+    ++ (map Output.Sent answer.sent
     ++ (option_to_list (option_map (λ party. Output.Works party.id party.errand) answer.work)
     ++ option_map_or drops_of answer.spent [])))))

@@ -5,7 +5,7 @@ use Rattle.tip_line.specs.declared.command.CommandName.{CommandName}
 use Rattle.tip_line.specs.declared.command.CommandName.TheVariants as command
 use Rattle.tip_conn.specs.declared.state.State.{State as ConnectionState}
 use Rattle.tip_conn.specs.declared.state.State.TheVariants.{Initial, Idle, Begun, Enlisted, Prepared, Error}
-use Rattle.tip_rows.specs.Keys.{Place as Key}
+use Rattle.tip_rows.specs.Keys.{Key}
 use Rattle.tip_machine.specs.Types.{Connection}
 use Rattle.tip_machine.specs.Answers.{response_name}
 use Rattle.tip_machine.specs.Connections.{awaiting, is_on, advanced}
@@ -16,7 +16,7 @@ use Rattle.tip_machine.specs.declared.answer.Item.{Item}
 use Rattle.tip_machine.specs.declared.answer.Item.TheVariants.{Say, Ask}
 use Rattle.tip_machine.specs.declared.answer.Said.{Said}
 use Rattle.tip_machine.specs.declared.answer.Said.TheVariants as said
-use Rattle.tip_machine.specs.declared.answer.Told.{Told}
+use Rattle.tip_machine.specs.declared.answer.Sent.{Sent}
 use Rattle.tip_machine.specs.declared.connection.Awaited.{Awaited}
 use Rattle.tip_machine.specs.declared.connection.Awaited.TheVariants as awaited
 use Rattle.tip_machine.specs.declared.connection.Role.{Role}
@@ -105,12 +105,12 @@ reacts reaction key None connection = option_map_or (demands key connection) (de
 abbrev pub reacted : Reaction → Key → Connection → Reacted
 reacted reaction key connection = if is_on key connection then reacts reaction key connection.owed connection else stays connection
 
-abbrev pub told_by : Reaction → Key → Connection → List Told
-told_by reaction key connection = map (λ item. record { connection = connection.number; item = item }) (reacted reaction key connection).items
+abbrev pub sent_by : Reaction → Key → Connection → List Sent
+sent_by reaction key connection = map (λ item. record { connection = connection.number; item = item }) (reacted reaction key connection).items
 
 -- each connection on the transaction reacts
 unfoldable pub react : Reaction → Key → Work → Work
 react reaction key work = record {
   state = record work.state { connections = map (λ connection. (reacted reaction key connection).connection) work.state.connections };
-  answer = record work.answer { told = work.answer.told ++ flat_map (told_by reaction key) work.state.connections };
+  answer = record work.answer { sent = work.answer.sent ++ flat_map (sent_by reaction key) work.state.connections };
 }

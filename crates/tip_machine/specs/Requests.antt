@@ -14,7 +14,7 @@ use Rattle.tip_machine.specs.Connections.{accepted, dialled, is_free, may_take, 
 use Rattle.tip_machine.specs.Transactions.{enlisting, has_ready, is_active, is_committed, is_done, is_known, next_key, noting, standing_at, party_answer}
 use Rattle.tip_machine.specs.States.{Attempt, State, Work, has_place, has_room, identified_by}
 use Rattle.tip_machine.specs.Changes.{alter, change, refuse, send, tell}
-use Rattle.tip_machine.specs.Settling.{dispatch, finish, settle}
+use Rattle.tip_machine.specs.Proceeding.{dispatch, finish, proceed}
 use Rattle.tip_machine.specs.Failing.{closed, fail, wrong}
 use Rattle.tip_machine.specs.Commands.{commanded, make}
 use Rattle.tip_machine.specs.Responses.{answered_by}
@@ -140,7 +140,7 @@ strange party work = Attempt.Done (record work { answer = record work.answer { r
 abbrev pub voted_for : PartyPlace → PartyNotes → Transaction → Work → Attempt
 voted_for (Out errand.Vote) party transaction work =
     let key = transaction.key in
-    settle key (alter key (noting 0 (answered (party_answer party))) (alter key (standing_at (Here party)) work))
+    proceed key (alter key (noting 0 (answered (party_answer party))) (alter key (standing_at (Here party)) work))
 voted_for place party transaction work = strange party work
 
 -- a party comes back from a vote (ours)
@@ -153,8 +153,8 @@ abbrev pub settled_for : PartyPlace → PartyNotes → Transaction → Work → 
 settled_for (Out errand.Commit) party transaction work =
     let key = transaction.key in
     let work = alter key (standing_at (Here party)) work in
-    settle key (if has_ready party then work else dispatch key work)
-settled_for (Out errand.Abort) party transaction work = settle transaction.key (alter transaction.key (standing_at (Here party)) work)
+    proceed key (if has_ready party then work else dispatch key work)
+settled_for (Out errand.Abort) party transaction work = proceed transaction.key (alter transaction.key (standing_at (Here party)) work)
 settled_for place party transaction work = strange party work
 
 -- a party comes back that was told the outcome (ours)

@@ -7,16 +7,16 @@ use Rattle.tip_line.specs.declared.response.Response.{Response}
 use Rattle.tip_line.specs.declared.response.Response.TheVariants.{Identified, NeedTls, Pushed, AlreadyPushed, NotPushed, Pulled, NotPulled, Prepared, ReadOnly, Committed, Aborted, QueriedExists, QueriedNotFound, Reconnected, NotReconnected, Error}
 use Rattle.tip_line.specs.declared.response.ResponseName.{ResponseName}
 use Rattle.tip_line.specs.declared.response.ResponseName.TheVariants as response
-use Rattle.tip_rows.specs.Keys.{Place as Key}
+use Rattle.tip_rows.specs.Keys.{Key}
 use Rattle.tip_txn.specs.Parts.{acknowledged, answered, is_text, named}
-use Rattle.tip_txn.specs.declared.answer.Answer.TheVariants as answer
+use Rattle.tip_txn.specs.declared.answer.Ballot.TheVariants as answer
 use Rattle.tip_txn.specs.declared.part.Participant.{Participant}
 use Rattle.tip_machine.specs.Types.{Connection, Transaction}
 use Rattle.tip_machine.specs.Connections.{is_part_of, is_superior_of, advanced, taking}
 use Rattle.tip_machine.specs.Transactions.{is_committed, is_decided_at, is_prepared, noting, subordinate_of}
 use Rattle.tip_machine.specs.States.{Attempt, State, Work, identified_by}
 use Rattle.tip_machine.specs.Changes.{alter, attempt_on_key, change, send}
-use Rattle.tip_machine.specs.Settling.{abort, settle}
+use Rattle.tip_machine.specs.Proceeding.{abort, proceed}
 use Rattle.tip_machine.specs.Failing.{closed, wrong}
 use Rattle.tip_machine.specs.declared.answer.Asked.TheVariants as asked
 use Rattle.tip_machine.specs.declared.connection.Awaited.{Awaited}
@@ -35,13 +35,13 @@ use Rattle.tip_machine.specs.declared.transaction.Origin.TheVariants as origin
 abbrev pub note_as : Option Role → (Participant → Participant) → Work → Attempt
 note_as None note work = Attempt.Done work
 note_as (Some (Superior key)) note work = Attempt.Done work
-note_as (Some (Subordinate key part)) note work = settle key (alter key (noting part note) work)
+note_as (Some (Subordinate key part)) note work = proceed key (alter key (noting part note) work)
 
 -- the transaction that the connection is on goes on (section 13)
-abbrev pub settle_as : Option Role → Work → Attempt
-settle_as None work = Attempt.Done work
-settle_as (Some (Superior key)) work = settle key work
-settle_as (Some (Subordinate key part)) work = settle key work
+abbrev pub proceed_as : Option Role → Work → Attempt
+proceed_as None work = Attempt.Done work
+proceed_as (Some (Superior key)) work = proceed key work
+proceed_as (Some (Subordinate key part)) work = proceed key work
 
 -- the transaction that the connection is on is aborted (section 13)
 abbrev pub abort_as : Option Role → Work → Work
@@ -126,10 +126,10 @@ responded Prepare Prepared c work = note_as c.role (answered answer.Yes) (go_on 
 responded Prepare Aborted c work = note_as c.role (answered answer.No) (go_on command.Prepare response.Aborted c work)
 responded Prepare ReadOnly c work = note_as c.role (answered answer.ReadOnly) (go_on command.Prepare response.ReadOnly c work)
 responded Commit Committed c work = note_as c.role acknowledged (go_on command.Commit response.Committed c work)
-responded Abort Aborted c work = settle_as c.role (go_on command.Abort response.Aborted c work)
+responded Abort Aborted c work = proceed_as c.role (go_on command.Abort response.Aborted c work)
 responded (Query key) QueriedExists c work = Attempt.Done (go_on command.Query response.QueriedExists c work)
 responded (Query key) QueriedNotFound c work = attempt_on_key key (presume_abort c) (go_on command.Query response.QueriedNotFound c work)
-responded Reconnect Reconnected c work = settle_as c.role (go_on command.Reconnect response.Reconnected c work)
+responded Reconnect Reconnected c work = proceed_as c.role (go_on command.Reconnect response.Reconnected c work)
 responded Reconnect NotReconnected c work = note_as c.role acknowledged (go_on command.Reconnect response.NotReconnected c work)
 responded awaited NeedTls c work = Attempt.Done (closed c work)
 responded awaited Error c work = Attempt.Done (closed c work)

@@ -5,7 +5,7 @@ use Rattle.std.specs.List.{All, list_all}
 use Rattle.tip_branch.specs.declared.branch.Badge.{Badge}
 use Rattle.tip_line.specs.Words.{is_address, is_realm}
 use Rattle.tip_rows.specs.Branches.{are_branches}
-use Rattle.tip_rows.specs.Keys.{Place as Key, IsKey}
+use Rattle.tip_rows.specs.Keys.{Key, IsKey}
 use Rattle.tip_rows.specs.Labels.{is_label}
 use Rattle.tip_rows.specs.Logs.{is_rising, last_epoch}
 use Rattle.tip_rows.specs.Rows.{IsRow, branches_of}

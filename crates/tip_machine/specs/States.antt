@@ -1,6 +1,6 @@
 -- One realm as a value, and the work that an event makes there.
 use Rattle.std.specs.Prelude.{ℕ, List, [], ◌==◌, ◌&&◌, Bool, nat_le, nat_lt, length, Option, None, find, if◌then◌else◌}
-use Rattle.tip_rows.specs.Keys.{Place as Key}
+use Rattle.tip_rows.specs.Keys.{Key}
 use Rattle.tip_machine.specs.Types.{Answer, Connection, Transaction}
 use Rattle.tip_machine.specs.Connections.{has_number}
 use Rattle.tip_machine.specs.Transactions.{has_id, has_key}

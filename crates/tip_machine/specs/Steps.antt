@@ -6,7 +6,7 @@ use Rattle.tip_branch.specs.Notes.{PartyNotes}
 use Rattle.tip_line.specs.declared.refusal.Refusal.{Refusal}
 use Rattle.tip_txn.specs.declared.answer.Phase.TheVariants.{Aborted}
 use Rattle.tip_line.specs.declared.refusal.Refusal.TheVariants.{NoRealm, Frozen}
-use Rattle.tip_rows.specs.Keys.{Place as Key, is_same}
+use Rattle.tip_rows.specs.Keys.{Key, is_same}
 use Rattle.tip_machine.specs.Types.{Answer, Event, Transaction}
 use Rattle.tip_machine.specs.Answers.{identifier, key_in, silence}
 use Rattle.tip_machine.specs.Connections.{has_number, is_on}
@@ -14,7 +14,7 @@ use Rattle.tip_machine.specs.States.{State, Work, Attempt, connection_of, identi
 use Rattle.tip_machine.specs.Order.{ordered}
 use Rattle.tip_machine.specs.Requests.{ask_pull, ask_push, dial, line, lost, opened, owner, resume, settled, voted}
 use Rattle.tip_machine.specs.Served.{Serving, today}
-use Rattle.tip_machine.specs.declared.answer.Told.{Told}
+use Rattle.tip_machine.specs.declared.answer.Sent.{Sent}
 use Rattle.tip_machine.specs.declared.event.Change.{Change}
 use Rattle.tip_machine.specs.declared.event.Change.TheVariants.{Put, Remove}
 use Rattle.tip_machine.specs.declared.event.Seat.{Seat}
@@ -118,18 +118,18 @@ pub record TouchesOne (key : Key) (event : Event) (old new : State) : Type 0 whe
   pub connections : (number : ℕ) → number ≤ old.head.given → ¬ Names event number → IsOff key number old → connection_of number new ≡ connection_of number old
 
 -- none of these names another transaction of ours
-abbrev pub AreOf : Key → List Told → Type 0
+abbrev pub AreOf : Key → List Sent → Type 0
 AreOf key [] = Unit {0}
-AreOf key (told ∷ others) = IfSome (key_in told.item) (λ named. named ≡ key) × AreOf key others
+AreOf key (sent ∷ others) = IfSome (key_in sent.item) (λ named. named ≡ key) × AreOf key others
 
-abbrev pub is_for : ℕ → Told → Bool
-is_for number told = told.connection == number
+abbrev pub is_for : ℕ → Sent → Bool
+is_for number sent = sent.connection == number
 
 -- what goes out names the transaction of this key alone, and goes to connections on it, to the one that the event names, and to
 -- a new one
-pub record TellsOfOne (key : Key) (event : Event) (old : State) (told : List Told) : Type 0 where
-  pub named : AreOf key told
-  pub quiet : (number : ℕ) → number ≤ old.head.given → ¬ Names event number → IsOff key number old → list_any (is_for number) told ≡ false
+pub record TellsOfOne (key : Key) (event : Event) (old : State) (sent : List Sent) : Type 0 where
+  pub named : AreOf key sent
+  pub quiet : (number : ℕ) → number ≤ old.head.given → ¬ Names event number → IsOff key number old → list_any (is_for number) sent ≡ false
 
 -- a party that is here is its transaction's own
 abbrev pub IsOwn : List ℕ → Transaction → Type 0

@@ -7,13 +7,13 @@ use Rattle.tip_branch.specs.declared.member.Member.{Member}
 use Rattle.tip_branch.specs.Members.{fresh_members, is_ready}
 use Rattle.tip_branch.specs.Notes.{PartyNotes, idle_party}
 use Rattle.tip_branch.specs.Votes.{ballot}
-use Rattle.tip_rows.specs.Keys.{Place as Key, is_same}
+use Rattle.tip_rows.specs.Keys.{Key, is_same}
 use Rattle.tip_rows.specs.declared.row.Row.{Row}
 use Rattle.tip_rows.specs.declared.row.Row.TheVariants as row
 use Rattle.tip_txn.specs.Parts.{is_text, changed_at}
 use Rattle.tip_txn.specs.Transactions.{local_party}
-use Rattle.tip_txn.specs.declared.answer.Answer.{Answer}
-use Rattle.tip_txn.specs.declared.answer.Answer.TheVariants as answer
+use Rattle.tip_txn.specs.declared.answer.Ballot.{Ballot}
+use Rattle.tip_txn.specs.declared.answer.Ballot.TheVariants as answer
 use Rattle.tip_txn.specs.declared.answer.Decision.{Decision}
 use Rattle.tip_txn.specs.declared.answer.Decision.TheVariants as decisions
 use Rattle.tip_txn.specs.declared.answer.Phase.{Phase}
@@ -123,21 +123,21 @@ members_at Spent = []
 
 -- What answers decide. `Decides` is the definition; this computes it, as a law says
 
-abbrev pub refuses : Option Answer → Bool
+abbrev pub refuses : Option Ballot → Bool
 refuses None = false
 refuses (Some answer.Yes) = false
 refuses (Some answer.No) = true
 refuses (Some answer.ReadOnly) = false
 refuses (Some answer.Lost) = true
 
-abbrev pub is_yes : Option Answer → Bool
+abbrev pub is_yes : Option Ballot → Bool
 is_yes None = false
 is_yes (Some answer.Yes) = true
 is_yes (Some answer.No) = false
 is_yes (Some answer.ReadOnly) = false
 is_yes (Some answer.Lost) = false
 
-abbrev pub decision : List (Option Answer) → Decision
+abbrev pub decision : List (Option Ballot) → Decision
 decision answers =
     if list_any refuses answers then decisions.Abort
     else if list_any is_none answers then decisions.Wait
@@ -149,14 +149,14 @@ abbrev pub decision_of : Transaction → Decision
 decision_of transaction = decision (map (λ part. part.answer) transaction.parts)
 
 -- what a party answers, that decided so (ours)
-abbrev pub as_answer : Decision → Answer
+abbrev pub as_answer : Decision → Ballot
 as_answer decisions.Wait = answer.No
 as_answer decisions.Commit = answer.Yes
 as_answer decisions.Abort = answer.No
 as_answer decisions.ReadOnly = answer.ReadOnly
 
 -- what a party answers that was asked: the decision over its members, in which one left active is a no (ours)
-abbrev pub party_answer : PartyNotes → Answer
+abbrev pub party_answer : PartyNotes → Ballot
 party_answer party = as_answer (decision (filter is_some (map ballot party.members)))
 
 -- Its parts

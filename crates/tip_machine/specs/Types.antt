@@ -2,7 +2,7 @@
 use Rattle.std.specs.Prelude.{ℕ, List}
 use Rattle.tip_branch.specs.Notes.{PartyNotes}
 use Rattle.tip_branch.specs.declared.branch.Badge.{Badge}
-use Rattle.tip_rows.specs.Keys.{Place as Key}
+use Rattle.tip_rows.specs.Keys.{Key}
 use Rattle.tip_txn.specs.declared.answer.Phase.{Phase}
 use Rattle.tip_txn.specs.declared.part.Participant.{Participant}
 use Rattle.tip_machine.specs.declared.answer.Answer as answer

@@ -174,13 +174,13 @@ pub enum Item {
 
 /// What goes out, and on which connection.
 #[derive(Debug, Drop)]
-pub struct Told {
+pub struct Sent {
     /// The connection's number.
     pub connection: u32,
     pub item: Item,
 }
 
-impl Told {
+impl Sent {
     /// Whether it closes the connection of this number.
     fn closes(&self, connection: u32) -> bool
         ensures { result ≡ is_closing connection self.now }
@@ -191,28 +191,28 @@ impl Told {
 
 /// What one event sends out, in order. It is seen as a list.
 #[derive(Debug, Drop)]
-pub struct ToldLines {
-    lines: Vec<Told>,
+pub struct SentLines {
+    lines: Vec<Sent>,
 }
 
-impl Model for ToldLines {
+impl Model for SentLines {
     ghost use Rattle.std.specs.Prelude.{List};
-    ghost use Rattle.tip_machine.specs.declared.answer.Told.{Told};
+    ghost use Rattle.tip_machine.specs.declared.answer.Sent.{Sent};
 
-    ghost Value = { List Told };
+    ghost Value = { List Sent };
 
     ghost view = { λ t. t.lines.items };
 }
 
-impl ToldLines {
+impl SentLines {
     /// These, in this order. It takes no memory.
-    pub fn new(lines: Vec<Told>) -> ToldLines
+    pub fn new(lines: Vec<Sent>) -> SentLines
         ensures { result ≡ lines.items }
     {
-        ToldLines { lines }
+        SentLines { lines }
     }
 
-    pub fn as_slice(&self) -> &[Told]
+    pub fn as_slice(&self) -> &[Sent]
         ensures { result.now ≡ self.now }
     {
         &self.lines
@@ -227,7 +227,7 @@ pub struct Answer<B = HeldFresh, P = HeldParty> {
     pub refusal: Option<Refusal>,
     /// The seat of a connection that the event made.
     pub opened: Option<Seat>,
-    pub told: ToldLines,
+    pub sent: SentLines,
     /// A party that is to carry out its errand and to be handed back.
     pub work: Option<P>,
     /// A party that is to be let go: its active branches are rolled back.
@@ -241,11 +241,11 @@ pub struct Answer<B = HeldFresh, P = HeldParty> {
 impl Answer<HeldFresh, HeldParty> {
     /// Whether it closes the connection of this number.
     pub fn closes(&self, connection: u32) -> bool
-        ensures { result ≡ list_any (is_closing connection) self.now.told }
+        ensures { result ≡ list_any (is_closing connection) self.now.sent }
     {
-        self.told
+        self.sent
             .as_slice()
             .iter()
-            .any(|told| told.closes(connection))
+            .any(|sent| sent.closes(connection))
     }
 }

@@ -6,7 +6,7 @@ ghost use Rattle.tip_machine.specs.Examples.Failures.{part_lost};
 ghost use Rattle.tip_machine.specs.Moves.{fresh};
 ghost use Rattle.tip_machine.specs.Examples.Scripts.{IsNeverHalf, Each, IsHonestRun, StaysSound, id, play, trace_of};
 ghost use Rattle.tip_machine.specs.Agreement.Traces.{at_each};
-ghost use Rattle.tip_machine.specs.Examples.Twins.{committed, denied, forged, never_asked, never_done, never_stored, told_both, unheard_at};
+ghost use Rattle.tip_machine.specs.Examples.Twins.{denied, forged, never_done, never_stored, never_voted, told_both, told_to_commit, unheard_at};
 ghost use Rattle.tip_machine.specs.Examples.{worked};
 
 /// What each script is said to show is what the definitions compute.
@@ -36,8 +36,8 @@ pub fn false_twins_are_refused()
     ensures kept_to_branches { at_each (is_kept (codes "north") id (fresh late.head)) (forged never_done (trace_of late)) ≡ false }
     ensures kept_to_subordinates { at_each (is_kept (codes "north") id (fresh two_parts.head)) (unheard_at 13 (trace_of two_parts)) ≡ false }
     ensures kept_to_who_asks { at_each (is_kept (codes "north") id (fresh two_parts.head)) (forged denied (trace_of two_parts)) ≡ false }
-    ensures asked_of_branches { at_each (is_asked (codes "north") id (fresh late.head)) (forged never_asked (trace_of late)) ≡ false }
+    ensures asked_of_branches { at_each (is_asked (codes "north") id (fresh late.head)) (forged never_voted (trace_of late)) ≡ false }
     ensures asked_of_parts { at_each (is_asked (codes "north") id (fresh two_parts.head)) (unheard_at 11 (trace_of two_parts)) ≡ false }
-    ensures asked_without_a_no { at_each (is_asked (codes "north") id (fresh one_part_says_no.head)) (forged committed (trace_of one_part_says_no)) ≡ false }
-    ensures asked_without_a_loss { at_each (is_asked (codes "north") id (fresh part_lost.head)) (forged committed (trace_of part_lost)) ≡ false }
+    ensures asked_without_a_no { at_each (is_asked (codes "north") id (fresh one_part_says_no.head)) (forged told_to_commit (trace_of one_part_says_no)) ≡ false }
+    ensures asked_without_a_loss { at_each (is_asked (codes "north") id (fresh part_lost.head)) (forged told_to_commit (trace_of part_lost)) ≡ false }
 {}

@@ -7,7 +7,7 @@ ghost use Rattle.tip_txn.specs.Parts.{answers_of};
 ghost use Rattle.tip_txn.specs.declared.part.Participant.{Participant};
 ghost use Rattle.tip_line.specs.Ids.{IsGiven};
 ghost use Rattle.tip_line.specs.declared.command.CommandName.TheVariants as command;
-ghost use Rattle.tip_rows.specs.Keys.{Place as Key};
+ghost use Rattle.tip_rows.specs.Keys.{Key};
 ghost use Rattle.tip_machine.specs.Changes.{refuse, reply};
 ghost use Rattle.tip_machine.specs.Commands.{pull, query, reconnect};
 ghost use Rattle.tip_machine.specs.Failing.{closed};
@@ -37,7 +37,7 @@ pub fn a_refusal_changes_the_entries_alone()
     ensures state { (serving : Serving) (state : State) (event : Event) (outcome : Outcome) → IsSome (step_serving serving state event outcome).answer.refusal →
         ChangesTheEntriesAlone state (step_serving serving state event outcome).state }
     ensures silent { (serving : Serving) (state : State) (event : Event) (outcome : Outcome) → IsSome (step_serving serving state event outcome).answer.refusal →
-        ((step_serving serving state event outcome).answer.told ≡ []) × ((step_serving serving state event outcome).answer.work ≡ None) }
+        ((step_serving serving state event outcome).answer.sent ≡ []) × ((step_serving serving state event outcome).answer.work ≡ None) }
     ensures unwanted { (serving : Serving) (state : State) (event : Event) (outcome : Outcome) → IsSome (step_serving serving state event outcome).answer.refusal → wants_serving serving state event ≡ None }
 {}
 
@@ -57,18 +57,19 @@ pub fn numbers_of_connections_rise()
 #[tactic(auto, using(crate::proofs::Others::touches))]
 pub fn at_most_one_transaction_changes()
     ensures { (serving : Serving) (state : State) (event : Event) (outcome : Outcome) → (key : Key) ×
-        TouchesOne key event state (step_serving serving state event outcome).state × TellsOfOne key event state (step_serving serving state event outcome).answer.told × SendsOne key state (step_serving serving state event outcome).answer × IsOfKey key (wants_serving serving state event) outcome }
+        TouchesOne key event state (step_serving serving state event outcome).state × TellsOfOne key event state (step_serving serving state event outcome).answer.sent × SendsOne key state (step_serving serving state event outcome).answer × IsOfKey key (wants_serving serving state event) outcome }
 {}
 
 /// An identifier is never made twice: a new transaction has a key that was not given before, that is given then, and that
-/// stays so wherever moves lead, over restarts and renewals too.
-#[tactic(auto, using(crate::proofs::Identifiers::new_was_not_given, crate::proofs::Identifiers::new_is_given, crate::proofs::Making::led_given))]
+/// stays so wherever moves lead, over restarts and renewals too, and in each state of a later epoch.
+#[tactic(auto, using(crate::proofs::Identifiers::new_was_not_given, crate::proofs::Identifiers::new_is_given, crate::proofs::Identifiers::given_later, crate::proofs::Making::led_given))]
 pub fn an_identifier_is_never_made_twice()
     ensures new { (serving : Serving) (state : State) (event : Event) (outcome : Outcome) (key : Key) → transaction_of key state ≡ None → IsSome (transaction_of key (step_serving serving state event outcome).state) →
         was_given state key ≡ false }
     ensures given { (serving : Serving) (state : State) (event : Event) (outcome : Outcome) (key : Key) → are_numbered state ≡ true → transaction_of key state ≡ None → IsSome (transaction_of key (step_serving serving state event outcome).state) →
         was_given (step_serving serving state event outcome).state key ≡ true }
     ensures stays { (serving : Serving) (world : World) (moves : List Move) (key : Key) → was_given world.state key ≡ true → was_given (led_to serving world moves).state key ≡ true }
+    ensures later { (old new : State) (key : Key) → old.head.epoch < new.head.epoch → was_given old key ≡ true → was_given new key ≡ true }
 {}
 
 /// The decision that the machine computes is the decision of two-phase commit over the set of answers.

@@ -11,7 +11,7 @@ pub mod laws;
 mod served;
 mod transaction;
 
-pub use answer::{Answer, Asked, Item, Said, Told, ToldLines};
+pub use answer::{Answer, Asked, Item, Said, Sent, SentLines};
 pub use connection::{Awaited, Connection, Purpose, Role};
 pub use event::{Change, Event, Heard, InRealm, Outcome, Seat};
 pub use head::{Head, Limits, Start};

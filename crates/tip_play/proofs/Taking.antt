@@ -58,7 +58,7 @@ goes_first core place reader printed name items heard state is owes = record { l
 
 -- one line more is taken, and prints
 pub goes_on : (start core core' : Hosted) (place : ℕ) (first reader reader' : Reader) (printed before : List ℕ) (name : List ℕ) (items : List Item) (heard : List ℕ) (state : State) (said : Heard) (answer : Answer) →
-    Goes start core place first reader printed before name items heard state → Says reader (Some said) reader' → reader'.seat ≡ reader.seat → Steps core core' place (event.Line reader'.seat said) NoChange answer → list_any (is_closing reader'.seat.number) answer.told ≡ false →
+    Goes start core place first reader printed before name items heard state → Says reader (Some said) reader' → reader'.seat ≡ reader.seat → Steps core core' place (event.Line reader'.seat said) NoChange answer → list_any (is_closing reader'.seat.number) answer.sent ≡ false →
     Goes start core' place first reader' printed (before ++ answer_text name answer) name items heard state
 goes_on start core core' place first reader reader' printed before name items heard state said answer goes says seat steps stays =
     let here = front reader reader' says.0 goes.left heard goes.owes says.2 in
@@ -67,7 +67,7 @@ goes_on start core core' place first reader reader' printed before name items he
     let own = steps.own goes.now goes.state_is.own in
     let answer_is : answer ≡ work.answer = own.0 ∙ ap (λ e. (step goes.now e NoChange).answer) event_is in
     let state_now : realm core' place ≡ Some work.state = own.1 ∙ ap (λ e. Some (step goes.now e NoChange).state) event_is in
-    let open_ : closes first.seat work ≡ false = ap (λ (a : Answer). list_any (is_closing first.seat.number) a.told) (sym answer_is) ∙ ap (λ (s : Seat). list_any (is_closing s.number) answer.told) (sym (seat ∙ goes.seat)) ∙ stays in
+    let open_ : closes first.seat work ≡ false = ap (λ (a : Answer). list_any (is_closing first.seat.number) a.sent) (sym answer_is) ∙ ap (λ (s : Seat). list_any (is_closing s.number) answer.sent) (sym (seat ∙ goes.seat)) ∙ stays in
     let taken : takes name first.seat goes.left goes.now ≡ taken_on false name work (takes name first.seat here.rest work.state) = ap (λ l. takes name first.seat l goes.now) here.whole ∙ ap (λ b. taken_on b name work (takes name first.seat here.rest work.state)) open_ in
     record {
       left = here.rest;
@@ -98,7 +98,7 @@ goes_out start core place first reader reader' printed before name items heard s
 
 -- a line closes the connection
 pub goes_closed : (start core core' : Hosted) (place : ℕ) (first reader reader' fresh : Reader) (printed before : List ℕ) (name : List ℕ) (items : List Item) (heard : List ℕ) (state : State) (said : Heard) (answer : Answer) →
-    Goes start core place first reader printed before name items heard state → Says reader (Some said) reader' → reader'.seat ≡ reader.seat → fresh.seat ≡ reader'.seat → Steps core core' place (event.Line reader'.seat said) NoChange answer → list_any (is_closing reader'.seat.number) answer.told ≡ true → ((more : List ℕ) → gives fresh more ≡ items_of more) →
+    Goes start core place first reader printed before name items heard state → Says reader (Some said) reader' → reader'.seat ≡ reader.seat → fresh.seat ≡ reader'.seat → Steps core core' place (event.Line reader'.seat said) NoChange answer → list_any (is_closing reader'.seat.number) answer.sent ≡ true → ((more : List ℕ) → gives fresh more ≡ items_of more) →
     TakesAll start core' place first fresh printed (before ++ answer_text name answer) (takes name first.seat items state) heard
 goes_closed start core core' place first reader reader' fresh printed before name items heard state said answer goes says seat again steps stays anew =
     let here = front reader reader' says.0 goes.left heard goes.owes says.2 in
@@ -107,7 +107,7 @@ goes_closed start core core' place first reader reader' fresh printed before nam
     let own = steps.own goes.now goes.state_is.own in
     let answer_is : answer ≡ work.answer = own.0 ∙ ap (λ e. (step goes.now e NoChange).answer) event_is in
     let state_now : realm core' place ≡ Some work.state = own.1 ∙ ap (λ e. Some (step goes.now e NoChange).state) event_is in
-    let shut : closes first.seat work ≡ true = ap (λ (a : Answer). list_any (is_closing first.seat.number) a.told) (sym answer_is) ∙ ap (λ (s : Seat). list_any (is_closing s.number) answer.told) (sym (seat ∙ goes.seat)) ∙ stays in
+    let shut : closes first.seat work ≡ true = ap (λ (a : Answer). list_any (is_closing first.seat.number) a.sent) (sym answer_is) ∙ ap (λ (s : Seat). list_any (is_closing s.number) answer.sent) (sym (seat ∙ goes.seat)) ∙ stays in
     let taken : takes name first.seat goes.left goes.now ≡ record { printed = answer_text name work.answer; state = work.state; closed = true } = ap (λ l. takes name first.seat l goes.now) here.whole ∙ ap (λ b. taken_on b name work (takes name first.seat here.rest work.state)) shut in
     let state_is : work.state ≡ (takes name first.seat items state).state = ap (λ (t : Taken). t.state) (sym taken) ∙ goes.ends in
     let closed_is : (takes name first.seat items state).closed ≡ true = sym goes.closed ∙ ap (λ (t : Taken). t.closed) taken in

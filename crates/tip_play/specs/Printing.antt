@@ -10,7 +10,7 @@ use Rattle.tip_machine.specs.Answers.{command_of, response_of}
 use Rattle.tip_machine.specs.Types.{Answer}
 use Rattle.tip_machine.specs.declared.answer.Item.{Item}
 use Rattle.tip_machine.specs.declared.answer.Item.TheVariants.{Say, Ask, Close}
-use Rattle.tip_machine.specs.declared.answer.Told.{Told}
+use Rattle.tip_machine.specs.declared.answer.Sent.{Sent}
 use Rattle.tip_machine.specs.declared.event.Seat.{Seat}
 
 -- REALM refused NUMBER NAME
@@ -29,11 +29,11 @@ item_text realm connection (Say said) = realm ++ codes " " ++ decimal connection
 item_text realm connection (Ask asked) = realm ++ codes " " ++ decimal connection ++ codes " say " ++ command.printed (command_of realm asked) ++ codes "\n"
 item_text realm connection Close = realm ++ codes " " ++ decimal connection ++ codes " close\n"
 
-abbrev pub told_text : List ℕ → Told → List ℕ
-told_text realm told = item_text realm told.connection told.item
+abbrev pub sent_text : List ℕ → Sent → List ℕ
+sent_text realm sent = item_text realm sent.connection sent.item
 
 abbrev pub answer_text : List ℕ → Answer → List ℕ
-answer_text realm answer = refusal_text realm answer.refusal ++ opened_text realm answer.opened ++ flat_map (told_text realm) answer.told
+answer_text realm answer = refusal_text realm answer.refusal ++ opened_text realm answer.opened ++ flat_map (sent_text realm) answer.sent
 
 -- REALM epoch 1
 abbrev pub start_text : List ℕ → List ℕ

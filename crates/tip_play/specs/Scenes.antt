@@ -61,7 +61,7 @@ pub record Taken : Type 0 where
 
 -- does this work close the connection of that seat?
 abbrev pub closes : Seat → Work → Bool
-closes seat work = list_any (is_closing seat.number) work.answer.told
+closes seat work = list_any (is_closing seat.number) work.answer.sent
 
 -- behind a closing no line is taken
 abbrev pub taken_on : Bool → List ℕ → Work → Taken → Taken

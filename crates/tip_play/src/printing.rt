@@ -1,11 +1,11 @@
 //! What a realm's answers look like in a transcript.
 ghost use Rattle.std.specs.Prelude.{◌≡◌, ◌++◌, OnOk, string_bytes};
 ghost use Rattle.std.specs.List.{flat_map};
-ghost use Rattle.tip_play.specs.Printing.{answer_text, refusal_text, start_text, told_text};
+ghost use Rattle.tip_play.specs.Printing.{answer_text, refusal_text, start_text, sent_text};
 
 use std::alloc::{AllocError, Global};
 use tip_line::{Realm, Refusal};
-use tip_machine::{Answer, Item, Told};
+use tip_machine::{Answer, Item, Sent};
 
 /// Prints an answer: its refusal, the connection that it opened, and then its lines and closings.
 pub fn print(
@@ -21,7 +21,7 @@ pub fn print(
     if let Some(seat) = answer.opened {
         writeln!(printed, "{name} {} open", seat.number)?;
     }
-    print_told(printed, alloc, realm, answer.told.as_slice())
+    print_sent(printed, alloc, realm, answer.sent.as_slice())
 }
 
 /// Prints why nothing was done, if so.
@@ -39,16 +39,16 @@ pub fn print_refusal(
 }
 
 /// Prints lines and closings.
-fn print_told(
+fn print_sent(
     printed: &mut String,
     alloc: Global,
     realm: &Realm,
-    all: &[Told],
+    all: &[Sent],
 ) -> Result<(), AllocError>
-    ensures { OnOk result (string_bytes printed.new ≡ string_bytes printed.old ++ flat_map (told_text realm.now) all.now) }
+    ensures { OnOk result (string_bytes printed.new ≡ string_bytes printed.old ++ flat_map (sent_text realm.now) all.now) }
 {
-    for told in all {
-        print_one(printed, alloc, realm, told)?;
+    for sent in all {
+        print_one(printed, alloc, realm, sent)?;
     }
     Ok(())
 }
@@ -58,13 +58,13 @@ fn print_one(
     printed: &mut String,
     alloc: Global,
     realm: &Realm,
-    told: &Told,
+    sent: &Sent,
 ) -> Result<(), AllocError>
-    ensures { OnOk result (string_bytes printed.new ≡ string_bytes printed.old ++ told_text realm.now told.now) }
+    ensures { OnOk result (string_bytes printed.new ≡ string_bytes printed.old ++ sent_text realm.now sent.now) }
 {
     let name = realm.as_str();
-    let number = told.connection;
-    match &told.item {
+    let number = sent.connection;
+    match &sent.item {
         Item::Say(said) => {
             let response = said.response(alloc, realm)?;
             writeln!(printed, "{name} {number} say {response}")

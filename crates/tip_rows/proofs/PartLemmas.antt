@@ -6,14 +6,14 @@ use Rattle.std.proofs.lemmas.List.Sums.{fails_before_first}
 use Rattle.std.specs.Str.{bytes_eq}
 use Rattle.std.proofs.lemmas.Bool.{cases_Bool}
 use Rattle.std.proofs.lemmas.List.{take_more, append-nil}
-use Rattle.tip_rows.specs.Keys.{Place, is_same}
+use Rattle.tip_rows.specs.Keys.{Key, is_same}
 use Rattle.tip_rows.specs.Memory.{Stored, part, is_past, put_in}
 use Rattle.tip_rows.specs.declared.row.Row.{Row}
 
 part-append : (realm : List ℕ) (xs ys : List Stored) → part realm (xs ++ ys) ≡ part realm xs ++ part realm ys
 part-append realm [] ys = refl
 part-append realm (x ∷ xs) ys = elim (cases_Bool (bytes_eq x.realm realm)) [
-  | inl own ↦ rw own (ap (λ (es : List (Place × Row)). (x.key, x.row) ∷ es) (part-append realm xs ys))
+  | inl own ↦ rw own (ap (λ (es : List (Key × Row)). (x.key, x.row) ∷ es) (part-append realm xs ys))
   | inr other ↦ rw other (part-append realm xs ys)
 ]
 

@@ -5,7 +5,7 @@ use Rattle.std.specs.Ordering.{is_lt, nat_cmp}
 use Rattle.std.specs.Cmp.Lexicographic.{slice_cmp}
 use Rattle.tip_line.specs.Words.{is_realm}
 use Rattle.std.specs.Str.{bytes_eq}
-use Rattle.tip_rows.specs.Keys.{Place, is_same, comes_before}
+use Rattle.tip_rows.specs.Keys.{Key, is_same, comes_before}
 use Rattle.tip_rows.specs.declared.row.Row.{Row}
 use Rattle.tip_rows.specs.declared.log.LoadFault.{LoadFault}
 use Rattle.tip_rows.specs.declared.log.LoadFault.TheVariants as load_fault
@@ -17,27 +17,27 @@ use Rattle.tip_rows.specs.declared.log.RaiseFault.TheVariants as raise_fault
 -- a store that only tipd wrote has neither
 pub record Log : Type 0 where
   pub epochs : List ℕ → Option ℤ
-  pub rows : List ℕ → Place → Option Row
-  pub unreadable : List ℕ → Place → Bool
+  pub rows : List ℕ → Key → Option Row
+  pub unreadable : List ℕ → Key → Bool
   pub strays : List ℕ → Bool
 
 abbrev pub empty_log : Log
 empty_log = record { epochs = λ realm. None; rows = λ realm key. None; unreadable = λ realm key. false; strays = λ realm. false }
 
-abbrev pub is_here : List ℕ → Place → List ℕ → Place → Bool
+abbrev pub is_here : List ℕ → Key → List ℕ → Key → Bool
 is_here realm key r k = bytes_eq realm r && is_same key k
 
 -- the log with this, or nothing, at a key of a realm
-abbrev pub with_at : List ℕ → Place → Option Row → Log → Log
+abbrev pub with_at : List ℕ → Key → Option Row → Log → Log
 with_at realm key row log = record log {
   rows = λ r k. if is_here realm key r k then row else log.rows r k;
   unreadable = λ r k. if is_here realm key r k then false else log.unreadable r k;
 }
 
-abbrev pub with_row : List ℕ → Place → Row → Log → Log
+abbrev pub with_row : List ℕ → Key → Row → Log → Log
 with_row realm key row log = with_at realm key (Some row) log
 
-abbrev pub without_row : List ℕ → Place → Log → Log
+abbrev pub without_row : List ℕ → Key → Log → Log
 without_row realm key log = with_at realm key None log
 
 -- a realm that was not known has the epoch 0
@@ -75,22 +75,22 @@ IsAtEnd log realm = log.epochs realm ≡ Some (pos last_epoch)
 
 -- what is stored of a realm and is no epoch, no key or no row
 abbrev pub IsSpoiled : Log → List ℕ → Type 0
-IsSpoiled log realm = ((z : ℤ) × (log.epochs realm ≡ Some z) × ((n : ℕ) → n ≤ last_epoch → z ≢ pos n)) ⊎ ((log.strays realm ≡ true) ⊎ ((key : Place) × (log.unreadable realm key ≡ true)))
+IsSpoiled log realm = ((z : ℤ) × (log.epochs realm ≡ Some z) × ((n : ℕ) → n ≤ last_epoch → z ≢ pos n)) ⊎ ((log.strays realm ≡ true) ⊎ ((key : Key) × (log.unreadable realm key ≡ true)))
 
 -- the row that a list has at a key
-abbrev pub row_at : Place → List (Place × Row) → Option Row
+abbrev pub row_at : Key → List (Key × Row) → Option Row
 row_at key rows = option_map (λ e. e.1) (find (λ e. is_same e.0 key) rows)
 
 -- by strictly rising key
-abbrev pub is_rising : List (Place × Row) → Bool
+abbrev pub is_rising : List (Key × Row) → Bool
 is_rising [] = true
 is_rising (e ∷ rows) = list_all (λ f. comes_before e.0 f.0) rows && is_rising rows
 
 -- what is loaded of a realm: its rows by rising key, and its epoch, which is 0 where it is not known
-pub record IsPart (log : Log) (realm : List ℕ) (number : ℕ) (rows : List (Place × Row)) : Type 0 where
+pub record IsPart (log : Log) (realm : List ℕ) (number : ℕ) (rows : List (Key × Row)) : Type 0 where
   pub epoch : unwrap_or (log.epochs realm) (pos 0) ≡ pos number
   pub rising : is_rising rows ≡ true
-  pub same : (key : Place) → row_at key rows ≡ log.rows realm key
+  pub same : (key : Key) → row_at key rows ≡ log.rows realm key
   pub sound : ¬ IsSpoiled log realm
 
 -- one more where a call was refused; after the greatest value comes 0

@@ -3,7 +3,7 @@ use Rattle.std.specs.Prelude.{◌≡◌, ℕ, ℤ, pos, List, [], ◌∷◌, map
 use Rattle.std.specs.List.{list_all}
 use Rattle.std.specs.Str.{bytes_eq}
 use Rattle.tip_line.specs.Words.{is_realm}
-use Rattle.tip_rows.specs.Keys.{Place, is_same, comes_before}
+use Rattle.tip_rows.specs.Keys.{Key, is_same, comes_before}
 use Rattle.tip_rows.specs.Logs.{Log, row_at, is_rising, name_before, are_rising_names, last_epoch, raised_number}
 use Rattle.tip_rows.specs.declared.row.Row.{Row}
 use Rattle.tip_rows.specs.declared.memory.Known.{Known}
@@ -11,7 +11,7 @@ use Rattle.tip_rows.specs.declared.memory.Known.{Known}
 -- a row where it stands
 pub record Stored : Type 0 where
   pub realm : List ℕ
-  pub key : Place
+  pub key : Key
   pub row : Row
 
 abbrev pub is_named : List ℕ → Known → Bool
@@ -24,7 +24,7 @@ abbrev pub due_in : List Known → List ℕ → Bool
 due_in known realm = unwrap_or (option_map (λ k. k.is_refusing) (find (is_named realm) known)) false
 
 -- the rows of one realm, in order
-abbrev pub part : List ℕ → List Stored → List (Place × Row)
+abbrev pub part : List ℕ → List Stored → List (Key × Row)
 part realm [] = []
 part realm (s ∷ rows) = if bytes_eq s.realm realm then (s.key, s.row) ∷ part realm rows else part realm rows
 
@@ -75,7 +75,7 @@ abbrev pub put_in : Stored → List Stored → List Stored
 put_in s [] = s ∷ []
 put_in s (x ∷ rows) = if is_past s x then (if is_same x.key s.key then s ∷ rows else s ∷ x ∷ rows) else x ∷ put_in s rows
 
-abbrev pub is_other : List ℕ → Place → Stored → Bool
+abbrev pub is_other : List ℕ → Key → Stored → Bool
 is_other realm key s = not (bytes_eq s.realm realm && is_same s.key key)
 
 -- a known realm whose name does not come before this one

@@ -14,9 +14,9 @@ pub struct Key {
 }
 
 impl Model for Key {
-    ghost use Rattle.tip_rows.specs.Keys.{Place, IsKey};
+    ghost use Rattle.tip_rows.specs.Keys.{Key, IsKey};
 
-    ghost Value = { Place };
+    ghost Value = { Key };
 
     ghost view = { λ k. record { epoch = k.epoch; connection = k.connection; number = k.number } };
 

@@ -1,12 +1,12 @@
 -- Laws of the decision.
 use Rattle.std.proofs.Common.{◌≡◌, ℕ, Option, refl}
 use Rattle.tip_txn.specs.Decisions.{Decides}
-use Rattle.tip_txn.specs.declared.answer.Answer.{Answer}
+use Rattle.tip_txn.specs.declared.answer.Ballot.{Ballot}
 use Rattle.tip_txn.specs.declared.answer.Decision.{Decision}
 use Rattle.tip_txn.specs.declared.answer.Decision.TheVariants.{Wait, Commit, Abort, ReadOnly}
 
 -- answers decide one thing
-pub decides_one : (answers : ℕ → Option Answer → Type 0) (d e : Decision) → Decides answers d → Decides answers e → d ≡ e
+pub decides_one : (answers : ℕ → Option Ballot → Type 0) (d e : Decision) → Decides answers d → Decides answers e → d ≡ e
 decides_one answers Abort Abort p q = refl
 decides_one answers Abort Wait p q = absurd (q.0 p)
 decides_one answers Abort Commit p q = absurd (q.0 p)

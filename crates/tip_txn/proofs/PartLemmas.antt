@@ -2,7 +2,7 @@
 use Rattle.std.proofs.Common.{◌≡◌, ℕ, zero, suc, ◌-◌, ◌<◌, List, [], ◌∷◌, length, get_or, Option, Some, slice_set, ap, arith, inl, inr, ◌⊎◌}
 use Rattle.tip_txn.specs.Decisions.{Says}
 use Rattle.tip_txn.specs.Parts.{changed_at, answers_of}
-use Rattle.tip_txn.specs.declared.answer.Answer.{Answer}
+use Rattle.tip_txn.specs.declared.answer.Ballot.{Ballot}
 use Rattle.tip_txn.specs.declared.part.Participant.{Participant}
 
 changed_at-set : (others : List Participant) (place : ℕ) (change : Participant → Participant) (p : Participant) → place < length others → p ≡ get_or others place p → slice_set others place (change p) ≡ changed_at place change others
@@ -20,12 +20,12 @@ changed_at-behind local others (suc place) change p there inside is =
     rw e (ap (λ (ys : List Participant). local ∷ ys) (changed_at-set others place change p (omega arith) here))
 
 -- some party of all has this answer where the local one has it, or one of the others
-pub says_local : (local : Participant) (others : List Participant) (said : Option Answer) → local.answer ≡ said → Says (answers_of (local ∷ others)) said
+pub says_local : (local : Participant) (others : List Participant) (said : Option Ballot) → local.answer ≡ said → Says (answers_of (local ∷ others)) said
 says_local local others said h = (0, ap Some h)
 
-pub says_behind : (local : Participant) (others : List Participant) (said : Option Answer) → Says (answers_of others) said → Says (answers_of (local ∷ others)) said
+pub says_behind : (local : Participant) (others : List Participant) (said : Option Ballot) → Says (answers_of others) said → Says (answers_of (local ∷ others)) said
 says_behind local others said (part, h) = (suc part, h)
 
-pub says_either : (local : Participant) (others : List Participant) (said : Option Answer) → Says (answers_of (local ∷ others)) said → (local.answer ≡ said) ⊎ Says (answers_of others) said
+pub says_either : (local : Participant) (others : List Participant) (said : Option Ballot) → Says (answers_of (local ∷ others)) said → (local.answer ≡ said) ⊎ Says (answers_of others) said
 says_either local others said (zero, h) = inl cc
 says_either local others said (suc part, h) = inr (part, h)

@@ -4,21 +4,21 @@
 -- this is its answer, None where it has not answered. The parts of a transaction decide by it, and so do the branches of one
 -- party, whose decision is the party's own answer.
 use Rattle.std.specs.Prelude.{ℕ, Option, Some, None, ◌⊎◌}
-use Rattle.tip_txn.specs.declared.answer.Answer.{Answer}
-use Rattle.tip_txn.specs.declared.answer.Answer.TheVariants as answer
+use Rattle.tip_txn.specs.declared.answer.Ballot.{Ballot}
+use Rattle.tip_txn.specs.declared.answer.Ballot.TheVariants as answer
 use Rattle.tip_txn.specs.declared.answer.Decision.{Decision}
 use Rattle.tip_txn.specs.declared.answer.Decision.TheVariants as decision
 
 -- some party has this answer
-abbrev pub Says : (ℕ → Option Answer → Type 0) → Option Answer → Type 0
+abbrev pub Says : (ℕ → Option Ballot → Type 0) → Option Ballot → Type 0
 Says answers said = (party : ℕ) × answers party said
 
 -- some party said no, or was lost before it answered
-abbrev pub Refuses : (ℕ → Option Answer → Type 0) → Type 0
+abbrev pub Refuses : (ℕ → Option Ballot → Type 0) → Type 0
 Refuses answers = Says answers (Some answer.No) ⊎ Says answers (Some answer.Lost)
 
 -- abort where one refuses; else wait where an answer is missing; else commit where one is yes; else nobody has changed anything
-abbrev pub Decides : (ℕ → Option Answer → Type 0) → Decision → Type 0
+abbrev pub Decides : (ℕ → Option Ballot → Type 0) → Decision → Type 0
 Decides answers decision.Abort = Refuses answers
 Decides answers decision.Wait = ¬ Refuses answers × Says answers None
 Decides answers decision.Commit = ¬ Refuses answers × ¬ Says answers None × Says answers (Some answer.Yes)

@@ -3,15 +3,15 @@ use Rattle.std.specs.Prelude.{◌≡◌, ℕ, suc, zero, List, [], ◌∷◌, Bo
 use Rattle.std.specs.List.{list_any}
 use Rattle.std.specs.Option.{option_and_then}
 use Rattle.std.specs.Str.{bytes_eq}
-use Rattle.tip_txn.specs.declared.answer.Answer.{Answer}
+use Rattle.tip_txn.specs.declared.answer.Ballot.{Ballot}
 use Rattle.tip_txn.specs.declared.part.Participant.{Participant}
 
 -- the set of pairs of a part and its answer
-abbrev pub answers_of : List Participant → ℕ → Option Answer → Type 0
+abbrev pub answers_of : List Participant → ℕ → Option Ballot → Type 0
 answers_of parts part said = option_map (λ p. p.answer) (slice_get parts part) ≡ Some said
 
 -- the answer of a part, if it has one
-abbrev pub answer_at : List Participant → ℕ → Option Answer
+abbrev pub answer_at : List Participant → ℕ → Option Ballot
 answer_at parts part = option_and_then (λ p. p.answer) (slice_get parts part)
 
 -- both are there and have these octets
@@ -41,7 +41,7 @@ changed_at (suc part) change (p ∷ parts) = p ∷ changed_at part change parts
 abbrev pub named : List ℕ → Participant → Participant
 named id p = record p { id = Some id }
 
-abbrev pub answered : Answer → Participant → Participant
+abbrev pub answered : Ballot → Participant → Participant
 answered said p = record p { answer = Some said }
 
 abbrev pub acknowledged : Participant → Participant

@@ -1,6 +1,6 @@
 -- What is seen of a transaction.
 use Rattle.std.specs.Prelude.{ℕ, List, [], ◌∷◌, map, Bool, true, false, Some, None}
-use Rattle.tip_txn.specs.declared.answer.Answer.TheVariants.{Yes}
+use Rattle.tip_txn.specs.declared.answer.Ballot.TheVariants.{Yes}
 use Rattle.tip_txn.specs.declared.answer.Phase.{Phase}
 use Rattle.tip_txn.specs.declared.answer.Phase.TheVariants.{Active, Asking, Prepared, Committed, Aborted}
 use Rattle.tip_txn.specs.declared.part.Participant.{Participant}

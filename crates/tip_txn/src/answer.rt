@@ -2,7 +2,7 @@
 
 /// What a party answers to the question whether it is prepared.
 #[derive(Clone, Copy, Debug, PartialEq, Eq)]
-pub enum Answer {
+pub enum Ballot {
     Yes,
     No,
     /// It has nothing to commit and leaves.

@@ -8,6 +8,6 @@ mod part;
 mod tests;
 mod txn;
 
-pub use answer::{Answer, Decision, Phase};
+pub use answer::{Ballot, Decision, Phase};
 pub use part::{Part, Participant};
 pub use txn::{EnlistFault, Txn};

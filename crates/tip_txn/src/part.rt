@@ -1,7 +1,7 @@
 //! The parts of a transaction.
 ghost use Rattle.std.specs.Prelude.{◌≡◌};
 
-use crate::answer::Answer;
+use crate::answer::Ballot;
 use std::marker::Model;
 use tip_line::{Address, Id};
 
@@ -51,7 +51,7 @@ pub struct Participant {
     pub address: Option<Address>,
     /// The identifier that the subordinate gave.
     pub id: Option<Id>,
-    pub answer: Option<Answer>,
+    pub answer: Option<Ballot>,
     /// Whether it was told to commit and said that it has.
     pub acknowledged: bool,
 }

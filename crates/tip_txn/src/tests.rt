@@ -4,7 +4,7 @@ ghost use Rattle.tip_txn.specs.Parts.{enlisted};
 ghost use Rattle.tip_txn.specs.Transactions.{local_party};
 ghost use Rattle.tip_txn.specs.declared.answer.Phase.TheVariants.{Active};
 
-use crate::{Answer, Decision, EnlistFault, Part, Phase, Txn};
+use crate::{Ballot, Decision, EnlistFault, Part, Phase, Txn};
 use linked_list_allocator::LocalHeap;
 use std::alloc::Global;
 use std::test::Fail;
@@ -29,9 +29,9 @@ fn commits_where_one_said_yes(rt: HostRuntime) -> Result<(), Fail> {
     let mut txn = begun(rt.alloc())?;
     assert_eq!(rt; txn.phase(), Phase::Active);
     txn.ask();
-    txn.answer(Part::local(), Answer::ReadOnly);
+    txn.answer(Part::local(), Ballot::ReadOnly);
     assert_eq!(rt; txn.decide(), Decision::Wait);
-    txn.answer(Part::at(1), Answer::Yes);
+    txn.answer(Part::at(1), Ballot::Yes);
     assert_eq!(rt; txn.decide(), Decision::Commit);
     txn.enter(Phase::Committed);
     txn.acked(Part::at(1));
@@ -43,7 +43,7 @@ fn commits_where_one_said_yes(rt: HostRuntime) -> Result<(), Fail> {
 fn aborts_where_one_is_lost(rt: HostRuntime) -> Result<(), Fail> {
     let mut txn = begun(rt.alloc())?;
     assert!(rt; !txn.answered(Part::local()));
-    txn.answer(Part::at(1), Answer::Lost);
+    txn.answer(Part::at(1), Ballot::Lost);
     assert_eq!(rt; txn.decide(), Decision::Abort);
     txn.enter(Phase::Aborted);
     assert!(rt; !txn.exists());

@@ -8,7 +8,7 @@ ghost use Rattle.tip_txn.specs.Transactions.{fresh, recovered, exists_in};
 ghost use Rattle.tip_txn.specs.declared.answer.Phase.TheVariants.{Active, Asking};
 ghost use Rattle.tip_txn.specs.declared.txn.EnlistFault.TheVariants.{NotActive, Twice};
 
-use crate::answer::{Answer, Decision, Phase};
+use crate::answer::{Ballot, Decision, Phase};
 use crate::part::{Part, Participant};
 use std::alloc::{AllocError, Allocator, Global};
 use std::marker::Model;
@@ -120,7 +120,7 @@ impl<A: Allocator> Txn<A> {
     }
 
     /// A part's answer, of which each part gives one.
-    pub fn answer(&mut self, part: Part, answer: Answer)
+    pub fn answer(&mut self, part: Part, answer: Ballot)
         requires there { part < length self.old.parts }
         requires open { answer_at self.old.parts part ≡ None }
         ensures { self.new ≡ record self.old { parts = changed_at part (answered answer) self.old.parts } }
@@ -146,11 +146,11 @@ impl<A: Allocator> Txn<A> {
     pub fn decide(&self) -> Decision
         ensures { Decides (answers_of self.now.parts) result }
     {
-        if self.has(Some(Answer::No)) || self.has(Some(Answer::Lost)) {
+        if self.has(Some(Ballot::No)) || self.has(Some(Ballot::Lost)) {
             Decision::Abort
         } else if self.has(None) {
             Decision::Wait
-        } else if self.has(Some(Answer::Yes)) {
+        } else if self.has(Some(Ballot::Yes)) {
             Decision::Commit
         } else {
             Decision::ReadOnly
@@ -200,7 +200,7 @@ impl<A: Allocator> Txn<A> {
     }
 
     /// Whether some party has this answer, or none where it is None.
-    fn has(&self, answer: Option<Answer>) -> bool
+    fn has(&self, answer: Option<Ballot>) -> bool
         ensures { IsTrue result ↔ Says (answers_of self.now.parts) answer }
     {
         says(&self.local, answer) || have(&self.others, answer)
@@ -222,14 +222,14 @@ fn name(participant: &mut Participant, id: Id)
 }
 
 /// Whether a part has this answer, or none where it is None.
-fn says(part: &Participant, answer: Option<Answer>) -> bool
+fn says(part: &Participant, answer: Option<Ballot>) -> bool
     ensures { IsTrue result ↔ (part.now.answer ≡ answer) }
 {
     part.answer == answer
 }
 
 /// Whether one of the parts has this answer, or none where it is None.
-fn have(parts: &[Participant], answer: Option<Answer>) -> bool
+fn have(parts: &[Participant], answer: Option<Ballot>) -> bool
     ensures { IsTrue result ↔ Says (answers_of parts.now) answer }
 {
     parts.iter().any(|part| part.answer == answer)
@@ -266,12 +266,12 @@ fn unanswered(address: Option<Address>, id: Option<Id>) -> Participant
 
 /// A part that said yes.
 fn willing(address: Option<Address>, id: Option<Id>) -> Participant
-    ensures { result ≡ record { address = address; id = id; answer = Some Answer.Yes; acknowledged = false } }
+    ensures { result ≡ record { address = address; id = id; answer = Some Ballot.Yes; acknowledged = false } }
 {
     Participant {
         address,
         id,
-        answer: Some(Answer::Yes),
+        answer: Some(Ballot::Yes),
         acknowledged: false,
     }
 }

@@ -31,7 +31,7 @@ of_item realm id other = None
 abbrev pub told_by : List ℕ → List ℕ → Output → Option Verdict
 told_by realm id (Output.Called other number badge call) = if bytes_eq id other then of_call call else None
 told_by realm id (Output.Dropped other number badge) = if bytes_eq id other then Some Verdict.Abort else None
-told_by realm id (Output.Told told) = of_item realm id told.item
+told_by realm id (Output.Sent sent) = of_item realm id sent.item
 told_by realm id other = None
 
 -- ALL THAT IS TOLD of a transaction

@@ -16,7 +16,7 @@ use Rattle.tip_branch.specs.declared.member.Member.{Member}
 use Rattle.tip_line.specs.declared.command.Command.{Command}
 use Rattle.tip_line.specs.declared.command.Command.TheVariants as command
 use Rattle.tip_line.specs.declared.response.Response.{Response}
-use Rattle.tip_rows.specs.Keys.{Place as Key, is_same}
+use Rattle.tip_rows.specs.Keys.{Key, is_same}
 use Rattle.tip_rows.specs.Rows.{branches_of}
 use Rattle.tip_rows.specs.declared.row.Row.{Row}
 use Rattle.tip_machine.specs.Types.{Event}
@@ -217,13 +217,13 @@ connects seat peer boxes = opens boxes ∷ hears seat (command.Identify 3 3 peer
 -- Words for what is shown
 
 abbrev pub say : ℕ → Said → Output
-say number said = Output.Told (record { connection = number; item = Say said })
+say number said = Output.Sent (record { connection = number; item = Say said })
 
 abbrev pub ask : ℕ → Asked → Output
-ask number asked = Output.Told (record { connection = number; item = Ask asked })
+ask number asked = Output.Sent (record { connection = number; item = Ask asked })
 
 abbrev pub close : ℕ → Output
-close number = Output.Told (record { connection = number; item = Close })
+close number = Output.Sent (record { connection = number; item = Close })
 
 abbrev pub connected : Seat → List Output
 connected seat = Output.Opened seat ∷ say seat.number said.Identified ∷ []

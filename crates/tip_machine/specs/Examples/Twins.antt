@@ -35,9 +35,9 @@ never_stored (Output.Changed change Stored) = Output.Changed change Refused ∷ 
 never_stored other = other ∷ []
 
 -- no branch was asked for its vote
-abbrev pub never_asked : Output → List Output
-never_asked (Output.Called id member badge (call.Vote vote)) = []
-never_asked other = other ∷ []
+abbrev pub never_voted : Output → List Output
+never_voted (Output.Called id member badge (call.Vote vote)) = []
+never_voted other = other ∷ []
 
 -- each branch asks to be told again
 abbrev pub never_done : Output → List Output
@@ -47,17 +47,17 @@ never_done other = other ∷ []
 -- who asks for a transaction is told that there is none
 abbrev pub denied_by : ℕ → Item → Output
 denied_by number (Say said.QueriedExists) = say number said.QueriedNotFound
-denied_by number item = Output.Told (record { connection = number; item = item })
+denied_by number item = Output.Sent (record { connection = number; item = item })
 
 abbrev pub denied : Output → List Output
-denied (Output.Told told) = denied_by told.connection told.item ∷ []
+denied (Output.Sent sent) = denied_by sent.connection sent.item ∷ []
 denied other = other ∷ []
 
 -- subordinates are told to commit where they were told to abort
-abbrev pub committed_by : ℕ → Item → Output
-committed_by number (Ask (asked.Abort key)) = ask number (asked.Commit key)
-committed_by number item = Output.Told (record { connection = number; item = item })
+abbrev pub told_to_commit_by : ℕ → Item → Output
+told_to_commit_by number (Ask (asked.Abort key)) = ask number (asked.Commit key)
+told_to_commit_by number item = Output.Sent (record { connection = number; item = item })
 
-abbrev pub committed : Output → List Output
-committed (Output.Told told) = committed_by told.connection told.item ∷ []
-committed other = other ∷ []
+abbrev pub told_to_commit : Output → List Output
+told_to_commit (Output.Sent sent) = told_to_commit_by sent.connection sent.item ∷ []
+told_to_commit other = other ∷ []

@@ -6,8 +6,8 @@ use Rattle.std.specs.Str.{bytes_eq}
 use Rattle.tip_conn.specs.declared.state.State.TheVariants as state
 use Rattle.tip_branch.specs.declared.member.Errand.TheVariants as errand
 use Rattle.tip_line.specs.declared.command.CommandName.TheVariants as command
-use Rattle.tip_txn.specs.declared.answer.Answer.{Answer}
-use Rattle.tip_txn.specs.declared.answer.Answer.TheVariants.{Yes, ReadOnly}
+use Rattle.tip_txn.specs.declared.answer.Ballot.{Ballot}
+use Rattle.tip_txn.specs.declared.answer.Ballot.TheVariants.{Yes, ReadOnly}
 use Rattle.tip_txn.specs.declared.answer.Decision.{Decision}
 use Rattle.tip_txn.specs.declared.answer.Decision.TheVariants as decision
 use Rattle.tip_txn.specs.declared.answer.Phase.{Phase}
@@ -43,7 +43,7 @@ is_superior Aborted from Gone = true
 is_superior phase from link = false
 
 -- THE TABLE OF A PART: by the phase and by what the part's connection is, its answer
-abbrev pub is_part : Phase → Link → Option Answer → Bool
+abbrev pub is_part : Phase → Link → Option Ballot → Bool
 is_part Active (Awaits state.Idle (Some awaited.Push)) None = true
 is_part Active (Awaits state.Enlisted None) None = true
 is_part Active Gone (Some ReadOnly) = true
@@ -67,12 +67,12 @@ is_part Aborted Gone answer = true
 is_part phase link answer = false
 
 -- who has acknowledged had said yes, its transaction is committed, and it has no connection any more
-abbrev pub may_have_acknowledged : Phase → Link → Option Answer → Bool
+abbrev pub may_have_acknowledged : Phase → Link → Option Ballot → Bool
 may_have_acknowledged Committed Gone (Some Yes) = true
 may_have_acknowledged phase link answer = false
 
 -- THE TABLE OF THE LOCAL PARTY: by the phase and by where the party is, the answer of the local part
-abbrev pub is_party : Phase → PartyPlace → Option Answer → Bool
+abbrev pub is_party : Phase → PartyPlace → Option Ballot → Bool
 is_party Active (Here party) None = are_unasked party
 is_party Asking (Out errand.Vote) None = true
 is_party Asking (Here party) (Some Yes) = has_promised party

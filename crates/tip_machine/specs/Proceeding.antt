@@ -1,5 +1,5 @@
 -- Two-phase commit (RFC 2371, section 13). The rules of commands, responses and failures say what was asked and answered;
--- `settle` alone says what follows, by the transaction's phase. It may be called again and again: what was said is not said
+-- `proceed` alone says what follows, by the transaction's phase. It may be called again and again: what was said is not said
 -- twice. In one table, where a row is stored or removed before anything goes out:
 --
 -- phase      what happened                             next phase   row               what goes out
@@ -29,7 +29,7 @@ use Rattle.tip_branch.specs.declared.member.Errand.{Errand}
 use Rattle.tip_branch.specs.declared.member.Errand.TheVariants as errand
 use Rattle.tip_line.specs.declared.command.CommandName.{CommandName}
 use Rattle.tip_line.specs.declared.command.CommandName.TheVariants as command
-use Rattle.tip_rows.specs.Keys.{Place as Key}
+use Rattle.tip_rows.specs.Keys.{Key}
 use Rattle.tip_txn.specs.declared.answer.Decision.{Decision}
 use Rattle.tip_txn.specs.declared.answer.Decision.TheVariants as decision
 use Rattle.tip_txn.specs.declared.answer.Phase.{Phase}
@@ -132,16 +132,16 @@ unfoldable pub finish : Transaction → Work → Attempt
 finish transaction work = if is_done transaction then Attempt.Asks (Remove transaction.key) (end transaction.key work) work else Attempt.Done work
 
 -- what follows in each phase (section 13)
-abbrev pub settle_in : Phase → Transaction → Work → Attempt
-settle_in Active transaction work = conclude (decision_of transaction) transaction work
-settle_in Asking transaction work = conclude (decision_of transaction) transaction work
-settle_in Prepared transaction work = Attempt.Done work
-settle_in Committed transaction work = finish transaction (react commits transaction.key work)
-settle_in Aborted transaction work = Attempt.Done (abort transaction.key work)
+abbrev pub proceed_in : Phase → Transaction → Work → Attempt
+proceed_in Active transaction work = conclude (decision_of transaction) transaction work
+proceed_in Asking transaction work = conclude (decision_of transaction) transaction work
+proceed_in Prepared transaction work = Attempt.Done work
+proceed_in Committed transaction work = finish transaction (react commits transaction.key work)
+proceed_in Aborted transaction work = Attempt.Done (abort transaction.key work)
 
 -- WHAT FOLLOWS for a transaction, after something was asked or answered (section 13)
-unfoldable pub settle : Key → Work → Attempt
-settle key work = attempt_on_key key (λ transaction. settle_in transaction.phase transaction) work
+unfoldable pub proceed : Key → Work → Attempt
+proceed key work = attempt_on_key key (λ transaction. proceed_in transaction.phase transaction) work
 
 -- a party that is here goes out to vote (ours)
 abbrev pub asked_for_votes : PartyPlace → Key → Work → Work
@@ -151,4 +151,4 @@ asked_for_votes Spent key work = work
 
 -- all parties are asked whether they can commit (section 13, PREPARE and COMMIT)
 unfoldable pub ask : Transaction → Work → Attempt
-ask transaction work = settle transaction.key (asked_for_votes transaction.place transaction.key (enter Asking transaction.key work))
+ask transaction work = proceed transaction.key (asked_for_votes transaction.place transaction.key (enter Asking transaction.key work))
