@@ -1,0 +1,3 @@
+pub mod Journal
+pub mod Journals
+pub mod Pass

@@ -1,0 +1,14 @@
+//! The journals of all realms, and the passes of those who made events: that each entry stands in one pass, once.
+//!
+//! What an entry is and what a realm begins with is the caller's affair: here they are compared, counted and kept.
+#![tactic(auto)]
+
+mod journal;
+mod journals;
+mod pass;
+mod plain;
+
+pub use journal::Journal;
+pub use journals::Journals;
+pub use pass::{Noted, Pass};
+pub use plain::Plain;
