@@ -1,1 +1,5 @@
 pub mod HistoryLemmas
+pub mod Lists
+pub mod Marks
+pub mod Walk
+pub mod ReportLemmas

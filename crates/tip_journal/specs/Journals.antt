@@ -1,8 +1,9 @@
 -- The journals of all realms: realm by realm, in the order declared, its journals, oldest first.
-use Rattle.std.specs.Prelude.{ℕ, zero, suc, ◌+◌, ◌-◌, ◌<◌, ◌^◌, List, [], ◌∷◌, ◌++◌, length, map, All, Option, Some, None, slice_get}
+use Rattle.std.specs.Prelude.{◌≡◌, ℕ, zero, suc, ◌+◌, ◌-◌, ◌<◌, ◌^◌, List, [], ◌∷◌, ◌++◌, length, map, All, Option, Some, None, slice_get, IsSomeAnd}
 use Rattle.std.specs.List.Sorted.{IsStrictlyIncreasing}
 use Rattle.std.specs.Option.{option_and_then}
 use Rattle.tip_journal.specs.Journal.{Written}
+use Rattle.tip_journal.specs.declared.pass.Noted.{Noted}
 
 -- the list with the element at an index changed
 abbrev pub changed_at : {A : Type 0} → ℕ → (A → A) → List A → List A
@@ -47,6 +48,18 @@ with_current realm change journals = changed_at realm (with_last change) journal
 -- all journals with a realm's current one ended, and a new one begun
 abbrev pub renewed : {S E : Type 0} → ℕ → Written S E → List (List (Written S E)) → List (List (Written S E))
 renewed realm journal journals = changed_at realm (λ history. history ++ journal ∷ []) journals
+
+-- the journal at a place of a realm
+abbrev pub at : {A : Type 0} → List (List A) → ℕ → ℕ → Option A
+at lists realm place = option_and_then (λ list. slice_get list place) (slice_get lists realm)
+
+-- the journal at a place of a realm is of this epoch
+abbrev pub IsOfEpoch : {S E : Type 0} → List (Written S E) → ℕ → ℕ → Type 0
+IsOfEpoch history epoch place = IsSomeAnd (slice_get history place) (λ journal. journal.epoch ≡ epoch)
+
+-- the journal that an entry names stands at this place of its realm
+abbrev pub Names : {S E : Type 0} → List (List (Written S E)) → Noted E → ℕ → Type 0
+Names journals noted place = IsSomeAnd (at journals noted.realm place) (λ journal. journal.epoch ≡ noted.epoch)
 
 -- A realm has a journal, its epochs rise, and each entry's number fits 32 bits.
 pub record IsHistory {S E : Type 0} (history : List (Written S E)) : Type 0 where

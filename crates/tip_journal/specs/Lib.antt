@@ -1,3 +1,6 @@
+pub mod Audit
+pub mod Fits
 pub mod Journal
 pub mod Journals
 pub mod Pass
+pub mod Sheets

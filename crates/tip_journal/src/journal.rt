@@ -1,7 +1,8 @@
 //! The journal of one realm and one epoch.
-ghost use Rattle.std.specs.Prelude.{◌≡◌, ◌<◌, ◌≤◌, IsOk, OnOk, OnErr};
-ghost use Rattle.tip_journal.specs.Journal.{begun, with_room, with_entry};
+ghost use Rattle.std.specs.Prelude.{◌≡◌, ◌↔◌, ◌<◌, ◌≤◌, Some, IsTrue, IsOk, OnOk, OnErr};
+ghost use Rattle.tip_journal.specs.Journal.{at_number, begun, with_room, with_entry};
 
+use crate::Plain;
 use std::alloc::{AllocError, Global};
 use std::marker::Model;
 
@@ -53,6 +54,21 @@ impl<S: Drop, E: Drop> Journal<S, E> {
         ensures { result.now ≡ self.now.entries }
     {
         &self.entries
+    }
+
+    /// Whether an entry stands at this number.
+    pub fn stands(&self, number: u32, entry: &E) -> bool
+    where
+        E: Plain,
+        ensures { IsTrue result ↔ (at_number self.now.entries number ≡ Some entry.now) }
+    {
+        if number == 0 {
+            return false;
+        }
+        match self.entries.get(number as usize - 1) {
+            Some(there) => there.is(entry),
+            None => false,
+        }
     }
 
     /// Makes room for one entry more.

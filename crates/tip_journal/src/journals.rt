@@ -1,76 +1,13 @@
 //! The journals of all realms.
-ghost use Rattle.std.specs.Prelude.{◌≡◌, ◌+◌, ◌^◌, ◌<◌, ◌≤◌, [], ◌∷◌, ◌++◌, length, All, IsOk, OnOk, OnErr, IfOk, IsSomeAnd};
+ghost use Rattle.std.specs.Prelude.{◌≡◌, ℕ, Some, ◌+◌, ◌^◌, ◌<◌, ◌≤◌, [], ◌∷◌, ◌++◌, length, All, IsOk, OnOk, OnErr, IsSome, IsSomeAnd, MatchOption};
 ghost use Rattle.std.specs.Option.{option_copied};
 ghost use Rattle.tip_journal.specs.Journal.{begun, with_room, with_entry};
-ghost use Rattle.tip_journal.specs.Journals.{IsHistory, current, last_number, last_of, renewed, room, room_of, entries_of, with_current, with_last};
+ghost use Rattle.tip_journal.specs.Journals.{IsHistory, Names, at, current, last_number, renewed, room, with_current};
 
-use crate::Journal;
+use crate::history::History;
+use crate::{Journal, Noted};
 use std::alloc::{AllocError, Global};
 use std::marker::Model;
-
-/// The journals of one realm, oldest first.
-#[derive(Drop)]
-struct History<S, E> {
-    journals: Vec<Journal<S, E>>,
-}
-
-impl<S, E> Model for History<S, E> {
-    ghost use Rattle.std.specs.Prelude.{List};
-    ghost use Rattle.tip_journal.specs.Journal.{Written};
-
-    ghost Value = { List (Written S E) };
-
-    ghost view = { λ h. h.journals.items };
-}
-
-impl<S: Drop, E: Drop> History<S, E> {
-    fn begin(alloc: Global, journal: Journal<S, E>) -> Result<Self, AllocError>
-        ensures { IfOk result (λ history. history ≡ journal ∷ []) }
-    {
-        let mut journals = Vec::new(alloc);
-        journals.push(journal)?;
-        Ok(History { journals })
-    }
-
-    fn last(&self) -> Option<&Journal<S, E>>
-        ensures { option_copied result ≡ last_of self.now }
-    {
-        self.journals.last()
-    }
-
-    fn reserve(&mut self) -> Result<(), AllocError>
-        requires { 0 < length self.old }
-        ensures ok { OnOk result (0 < room_of (last_of self.new)) }
-        ensures room_is_kept { room_of (last_of self.old) ≤ room_of (last_of self.new) }
-        ensures has_room { 0 < room_of (last_of self.old) → IsOk result }
-        ensures same { self.new ≡ with_last (with_room (room_of (last_of self.new))) self.old }
-        ensures err { OnErr result (self.new ≡ self.old) }
-    {
-        let place = self.journals.len() - 1;
-        let journal = &mut self.journals[place];
-        journal.reserve()
-    }
-
-    fn add(&mut self, entry: E) -> u32
-        requires room { 0 < room_of (last_of self.old) }
-        requires number { entries_of (last_of self.old) + 1 < 2 ^ 32 }
-        ensures new { self.new ≡ with_last (with_entry entry) self.old }
-        ensures number { result ≡ entries_of (last_of self.old) + 1 }
-    {
-        let place = self.journals.len() - 1;
-        let journal = &mut self.journals[place];
-        journal.add(entry);
-        journal.entries().len() as u32
-    }
-
-    fn renew(&mut self, journal: Journal<S, E>) -> Result<(), AllocError>
-        ensures ok { OnOk result (self.new ≡ self.old ++ journal ∷ []) }
-        ensures err { OnErr result (self.new ≡ self.old) }
-    {
-        self.journals.push(journal)?;
-        Ok(())
-    }
-}
 
 /// The journals of all realms. A realm is known by its place in the order of declaration, from 0. Its last journal is the current one; the others have ended.
 #[derive(Drop)]
@@ -106,6 +43,32 @@ impl<S: Drop, E: Drop> Journals<S, E> {
         ensures histories { All IsHistory self.now }
     {
         self.realms.len()
+    }
+
+    /// The journals realm by realm, in the order declared.
+    pub(crate) fn histories(&self) -> &[History<S, E>]
+        ensures same { result.now ≡ self.now }
+        ensures histories { All IsHistory self.now }
+    {
+        &self.realms
+    }
+
+    /// The place, among its realm's journals, of the one that an entry names, if there is one.
+    pub(crate) fn place_of(&self, noted: &Noted<E>) -> Option<usize>
+        ensures named { MatchOption result ((place : ℕ) → ¬ Names self.now noted.now place) (Names self.now noted.now) }
+        ensures histories { All IsHistory self.now }
+    {
+        let history = self.realms.get(noted.realm)?;
+        history.place_of(noted.epoch)
+    }
+
+    /// The journal at a place of its realm.
+    pub(crate) fn at(&self, realm: usize, place: usize) -> &Journal<S, E>
+        requires { IsSome (at self.now realm place) }
+        ensures { at self.now realm place ≡ Some result.now }
+    {
+        let history = &self.realms[realm];
+        &history.journals()[place]
     }
 
     /// Adds a realm, the last, with a journal of its first epoch. Without memory all is as before, and the start is dropped.

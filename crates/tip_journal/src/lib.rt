@@ -1,13 +1,19 @@
 //! The journals of all realms, and the passes of those who made events: that each entry stands in one pass, once.
 //!
-//! What an entry is and what a realm begins with is the caller's affair: here they are compared, counted and kept.
+//! What an entry is and what a realm begins with is the caller's affair: here they are kept, counted and compared.
 #![tactic(auto)]
 
+mod auditing;
+mod fitting;
+mod history;
 mod journal;
 mod journals;
 mod pass;
 mod plain;
+mod sheet;
 
+pub use auditing::{AuditFault, Reported, audit};
+pub use fitting::fits;
 pub use journal::Journal;
 pub use journals::Journals;
 pub use pass::{Noted, Pass};

@@ -2,7 +2,7 @@ use Rattle.std.proofs.Common.{◌≡◌, ◌+◌, ◌-◌, ◌∷◌, [], ap, �
 use Rattle.tip_journal.specs.Journal.{with_entry}
 use Rattle.tip_journal.specs.Journals.{entries_of}
 use Rattle.tip_journal.proofs.HistoryLemmas.{last_of-read, with_last-read, length-room}
-use Rattle.tip_journal.proofs.journals.History.add.Goals as goal
+use Rattle.tip_journal.proofs.history.History.add.Goals as goal
 
 pub returns-clause-new : goal.returns-clause-new
 returns-clause-new g c =

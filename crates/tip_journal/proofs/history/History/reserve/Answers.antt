@@ -1,7 +1,7 @@
 use Rattle.std.proofs.Common.{◌≡◌, ◌+◌, ◌-◌, ap, arith, length}
 use Rattle.tip_journal.specs.Journal.{with_room}
 use Rattle.tip_journal.proofs.HistoryLemmas.{last_of-set, with_last-read}
-use Rattle.tip_journal.proofs.journals.History.reserve.Goals as goal
+use Rattle.tip_journal.proofs.history.History.reserve.Goals as goal
 
 pub returns-clause-same : goal.returns-clause-same
 returns-clause-same g c =
