@@ -1,5 +1,5 @@
 -- A realm's journals with one changed or one more, and the realms with one realm's journals changed.
-use Rattle.std.proofs.Common.{◌≡◌, ◌≢◌, ℕ, zero, suc, ◌+◌, ◌-◌, ◌^◌, ◌<◌, ◌≤◌, List, [], ◌∷◌, ◌++◌, length, get_or, Option, Some, None, Result, Ok, Err, refl, sym, ap, ◌∙◌, subst, arith, inl, inr, length-append}
+use Rattle.std.proofs.Common.{◌≡◌, ◌≢◌, ℕ, zero, suc, ◌+◌, ◌-◌, ◌^◌, ◌<◌, List, [], ◌∷◌, ◌++◌, length, get_or, Option, Some, None, Result, Ok, Err, refl, sym, ap, ◌∙◌, subst, arith, inl, inr, length-append}
 use Rattle.std.specs.Prelude.{slice_set, slice_get, map, All, OnOk, OnErr, IsSomeAnd}
 use Rattle.std.specs.declared.alloc.AllocError.{AllocError}
 use Rattle.std.specs.List.Sorted.{IsStrictlyIncreasing}
@@ -7,9 +7,9 @@ use Rattle.std.specs.Option.{option_map}
 use Rattle.std.proofs.lemmas.Bool.{cases_lt}
 use Rattle.std.proofs.lemmas.Grind.{common_steps}
 use Rattle.std.proofs.lemmas.List.{map-append, length-map, get_or_append_left, get_or-append_right}
-use Rattle.std.proofs.lemmas.List.Elements.{All-nil, All-cons, All-head, All-tail, All-push}
-use Rattle.std.proofs.lemmas.Option.{slice_get_read, slice_get_within, slice_get-map, get_or_from_slice_get, none-some}
-use Rattle.tip_journal.specs.Journal.{Written}
+use Rattle.std.proofs.lemmas.List.Elements.{All-cons, All-head, All-tail, All-push}
+use Rattle.std.proofs.lemmas.Option.{slice_get_read, slice_get_within, slice_get-map, get_or_from_slice_get}
+use Rattle.tip_journal.specs.Journal.{Written, with_room}
 use Rattle.tip_journal.specs.Journals.{changed_at, last_of, with_last, current, room, room_of, entries_of, IsHistory}
 
 -- what is written at an index, where it is the old element changed
@@ -68,7 +68,16 @@ with_last-read history place change x y end read is =
     let last : length history - 1 ≡ place = omega arith in
     changed_at-read history place change x y read is ∙ ap (λ n. changed_at n change history) (sym last)
 
--- a realm that has room or a last number has a journal
+-- the last journal, changed
+pub last_of-with_last : {S E : Type 0} (history : List (Written S E)) (change : Written S E → Written S E) → last_of (with_last change history) ≡ option_map change (last_of history)
+last_of-with_last history change =
+    ap (λ n. slice_get (with_last change history) (n - 1)) (length-changed_at history (length history - 1) change) ∙ slice_get-changed_at history (length history - 1) change
+
+pub entries_of-with_room : {S E : Type 0} (journal : Option (Written S E)) (free : ℕ) → entries_of (option_map (with_room free) journal) ≡ entries_of journal
+entries_of-with_room None free = refl
+entries_of-with_room (Some journal) free = refl
+
+-- a realm that has room has a journal
 pub length-room : {S E : Type 0} (history : List (Written S E)) → 0 < room_of (last_of history) → 0 < length history
 length-room [] room = room
 length-room (x ∷ xs) room = omega arith

@@ -3,3 +3,5 @@ pub mod Lists
 pub mod Marks
 pub mod Walk
 pub mod ReportLemmas
+pub mod LawLemmas
+pub mod Counting

@@ -1,6 +1,6 @@
 -- The marks of one journal, and the entries of passes for which they stand.
-use Rattle.std.proofs.Common.{◌≡◌, ◌≢◌, ℕ, zero, suc, ◌+◌, ◌-◌, ◌<◌, ◌≤◌, List, [], ◌∷◌, ◌++◌, length, Some, None, Bool, true, false, refl, sym, ap, ◌∙◌, subst, arith, replicate, length-append, length-set}
-use Rattle.std.specs.Prelude.{◌==◌, slice_set, slice_get, if◌then◌else◌, All, cond, sum_by}
+use Rattle.std.proofs.Common.{◌≡◌, ℕ, zero, suc, ◌+◌, ◌-◌, ◌<◌, ◌≤◌, List, [], ◌∷◌, ◌++◌, length, Some, Bool, true, false, refl, sym, ap, ◌∙◌, subst, arith, replicate, length-set}
+use Rattle.std.specs.Prelude.{◌==◌, slice_set, slice_get, if◌then◌else◌, All, cond}
 use Rattle.std.proofs.lemmas.Bool.Decides.{nat_tests}
 use Rattle.std.proofs.lemmas.List.{append-nil, length-replicate}
 use Rattle.std.proofs.lemmas.List.Elements.{All-nil, All-push, filter-append}

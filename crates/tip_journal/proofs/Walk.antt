@@ -1,5 +1,5 @@
 -- The walk over all passes: what was marked so far, entry by entry and pass by pass.
-use Rattle.std.proofs.Common.{◌≡◌, ◌≢◌, ℕ, zero, suc, ◌+◌, ◌-◌, ◌<◌, ◌≤◌, List, [], ◌∷◌, ◌++◌, length, get_or, take, Option, Some, None, Bool, true, false, refl, sym, ap, ◌∙◌, subst, arith, inl, inr}
+use Rattle.std.proofs.Common.{◌≡◌, ◌≢◌, ℕ, zero, suc, ◌+◌, ◌<◌, List, [], ◌∷◌, ◌++◌, length, get_or, Option, Some, None, Bool, true, false, refl, sym, ap, ◌∙◌, subst, arith, inl, inr}
 use Rattle.std.specs.Prelude.{◌==◌, ◌↔◌, IsTrue, slice_get, map, All, Any, IfSome, IsSomeAnd}
 use Rattle.std.specs.Option.{option_map}
 use Rattle.std.proofs.lemmas.Bool.{cases_Bool, cases_lt}
@@ -136,7 +136,7 @@ named-hosted journals x hosted =
     (found.0, subst (λ o. IsSomeAnd o (λ j. j.epoch ≡ x.epoch)) (sym (at-join journals x.realm found.0 history.0 found.1 history.1 there)) found.4)
 
 -- what is said realm by realm, said place by place
-each-at : {S E : Type 0} (journals : List (List (Written S E))) (passes : List (Held E)) (realm place : ℕ) (journal : Written S E) → AreAudited journals passes → at journals realm place ≡ Some journal → IsAudited realm journal.epoch journal.entries passes
+pub each-at : {S E : Type 0} (journals : List (List (Written S E))) (passes : List (Held E)) (realm place : ℕ) (journal : Written S E) → AreAudited journals passes → at journals realm place ≡ Some journal → IsAudited realm journal.epoch journal.entries passes
 each-at journals passes realm place journal is there =
     let parts = at-parts journals realm place journal there in
     All-at (λ j. IsAudited realm j.epoch j.entries passes) parts.0 place journal (rw parts.1 at (is.each realm)) parts.2

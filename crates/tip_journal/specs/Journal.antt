@@ -1,5 +1,5 @@
 -- A journal as contracts see it.
-use Rattle.std.specs.Prelude.{ℕ, zero, suc, ◌+◌, ◌-◌, ◌<◌, ◌^◌, List, [], ◌∷◌, ◌++◌, length, Option, None, slice_get}
+use Rattle.std.specs.Prelude.{ℕ, zero, suc, ◌-◌, List, [], ◌∷◌, ◌++◌, Option, None, slice_get}
 
 pub record Written (S E : Type 0) : Type 0 where
   pub epoch : ℕ
@@ -25,8 +25,3 @@ with_entry entry journal = record journal { entries = journal.entries ++ entry �
 abbrev pub at_number : {E : Type 0} → List E → ℕ → Option E
 at_number entries zero = None
 at_number entries (suc place) = slice_get entries place
-
--- it has room for one entry more, and a number for it
-pub record CanAdd {S E : Type 0} (journal : Written S E) : Type 0 where
-  pub room : 0 < journal.free
-  pub number : length journal.entries + 1 < 2 ^ 32

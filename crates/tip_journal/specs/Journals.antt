@@ -1,5 +1,5 @@
 -- The journals of all realms: realm by realm, in the order declared, its journals, oldest first.
-use Rattle.std.specs.Prelude.{◌≡◌, ℕ, zero, suc, ◌+◌, ◌-◌, ◌<◌, ◌^◌, List, [], ◌∷◌, ◌++◌, length, map, All, Option, Some, None, slice_get, IsSomeAnd}
+use Rattle.std.specs.Prelude.{◌≡◌, ℕ, zero, suc, ◌-◌, ◌<◌, ◌^◌, List, [], ◌∷◌, ◌++◌, length, map, All, Option, Some, None, slice_get, IsSomeAnd}
 use Rattle.std.specs.List.Sorted.{IsStrictlyIncreasing}
 use Rattle.std.specs.Option.{option_and_then}
 use Rattle.tip_journal.specs.Journal.{Written}
@@ -24,6 +24,11 @@ abbrev pub entries_of : {S E : Type 0} → Option (Written S E) → ℕ
 entries_of None = 0
 entries_of (Some journal) = length journal.entries
 
+-- the epoch of a journal, 0 where there is none
+abbrev pub epoch_of : {S E : Type 0} → Option (Written S E) → ℕ
+epoch_of None = 0
+epoch_of (Some journal) = journal.epoch
+
 -- how many entries can be added to it without memory
 abbrev pub room_of : {S E : Type 0} → Option (Written S E) → ℕ
 room_of None = 0
@@ -37,6 +42,10 @@ current journals realm = option_and_then last_of (slice_get journals realm)
 abbrev pub last_number : {S E : Type 0} → List (List (Written S E)) → ℕ → ℕ
 last_number journals realm = entries_of (current journals realm)
 
+-- its epoch, 0 where the realm is not there
+abbrev pub epoch_at : {S E : Type 0} → List (List (Written S E)) → ℕ → ℕ
+epoch_at journals realm = epoch_of (current journals realm)
+
 -- how many entries can be added to it without memory, 0 where the realm is not there
 abbrev pub room : {S E : Type 0} → List (List (Written S E)) → ℕ → ℕ
 room journals realm = room_of (current journals realm)
@@ -49,11 +58,11 @@ with_current realm change journals = changed_at realm (with_last change) journal
 abbrev pub renewed : {S E : Type 0} → ℕ → Written S E → List (List (Written S E)) → List (List (Written S E))
 renewed realm journal journals = changed_at realm (λ history. history ++ journal ∷ []) journals
 
--- the journal at a place of a realm
+-- what stands at a place of a realm's list
 abbrev pub at : {A : Type 0} → List (List A) → ℕ → ℕ → Option A
 at lists realm place = option_and_then (λ list. slice_get list place) (slice_get lists realm)
 
--- the journal at a place of a realm is of this epoch
+-- the journal at this place of a realm is of this epoch
 abbrev pub IsOfEpoch : {S E : Type 0} → List (Written S E) → ℕ → ℕ → Type 0
 IsOfEpoch history epoch place = IsSomeAnd (slice_get history place) (λ journal. journal.epoch ≡ epoch)
 

@@ -1,5 +1,5 @@
 -- What the audit keeps of each journal while it walks over the passes. No public contract speaks of it.
-use Rattle.std.specs.Prelude.{◌≡◌, ℕ, zero, suc, ◌==◌, ◌+◌, ◌-◌, ◌<◌, List, [], ◌∷◌, length, Bool, true, false, if◌then◌else◌, Option, Some, None, replicate, slice_get, slice_set}
+use Rattle.std.specs.Prelude.{◌≡◌, ℕ, ◌==◌, ◌-◌, ◌<◌, List, length, Bool, true, false, if◌then◌else◌, Option, Some, None, replicate, slice_get, slice_set}
 use Rattle.tip_journal.specs.Journal.{Written, at_number}
 use Rattle.tip_journal.specs.Journals.{at, changed_at}
 use Rattle.tip_journal.specs.declared.pass.Noted.{Noted}

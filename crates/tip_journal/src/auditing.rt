@@ -41,7 +41,7 @@ impl From<AllocError> for AuditFault {
 
 /// Whether the passes have the journals' entries, and then how many each journal has, by declaration, then by epoch.
 ///
-/// It walks once over all passes, and keeps a mark for each entry. What is given is told apart from `PassMismatch` only where there is memory for the marks.
+/// It walks once over all passes, and keeps a mark for each entry. Without memory for the marks and the report it says `Memory`, whatever the passes have.
 pub fn audit<S: Drop, E: Drop + Plain>(
     alloc: Global,
     journals: &Journals<S, E>,

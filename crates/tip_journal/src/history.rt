@@ -72,8 +72,8 @@ impl<S: Drop, E: Drop> History<S, E> {
         ensures new { self.new ≡ with_last (with_entry entry) self.old }
         ensures number { result ≡ entries_of (last_of self.old) + 1 }
     {
-        let place = self.journals.len() - 1;
-        let journal = &mut self.journals[place];
+        let last = self.journals.len() - 1;
+        let journal = &mut self.journals[last];
         journal.add(entry);
         journal.entries().len() as u32
     }

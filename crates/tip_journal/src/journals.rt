@@ -112,6 +112,7 @@ impl<S: Drop, E: Drop> Journals<S, E> {
         ensures room_is_kept { room self.old realm ≤ room self.new realm }
         ensures has_room { 0 < room self.old realm → IsOk result }
         ensures same { self.new ≡ with_current realm (with_room (room self.new realm)) self.old }
+        ensures number { last_number self.new realm ≡ last_number self.old realm }
         ensures err { OnErr result (self.new ≡ self.old) }
     {
         let history = &mut self.realms[realm];

@@ -8,9 +8,12 @@ mod fitting;
 mod history;
 mod journal;
 mod journals;
+pub mod laws;
 mod pass;
 mod plain;
 mod sheet;
+#[cfg(test)]
+mod tests;
 
 pub use auditing::{AuditFault, Reported, audit};
 pub use fitting::fits;

@@ -1,9 +1,8 @@
-use Rattle.std.proofs.Common.{◌≡◌, ◌+◌, List, [], ◌∷◌, ◌++◌, take, drop, true, false, sym, ap, ◌∙◌, subst}
+use Rattle.std.proofs.Common.{◌≡◌, ◌+◌, [], ◌∷◌, ◌++◌, take, drop, true, false, sym, ap, ◌∙◌, subst}
 use Rattle.std.specs.Prelude.{All, IsTrue}
 use Rattle.std.proofs.lemmas.List.{take_all, take_more}
 use Rattle.tip_journal.specs.Audit.{AreAudited}
 use Rattle.tip_journal.specs.Sheets.{Marked}
-use Rattle.tip_journal.specs.declared.pass.Noted.{Noted}
 use Rattle.tip_journal.proofs.Lists.{cut-at}
 use Rattle.tip_journal.proofs.Walk.{Walked, audited-walked, walked-audited, walked-goes, walked-next, walked-start, walked-step}
 use Rattle.tip_journal.proofs.auditing.audit.Goals as goal

@@ -1,4 +1,4 @@
-use Rattle.std.proofs.Common.{ap, ◌∙◌, sym}
+use Rattle.std.proofs.Common.{ap, ◌∙◌}
 use Rattle.tip_journal.specs.Journals.{changed_at}
 use Rattle.tip_journal.specs.Sheets.{marked, marked_at}
 use Rattle.tip_journal.proofs.HistoryLemmas.{changed_at-read}

@@ -1,4 +1,4 @@
-use Rattle.std.proofs.Common.{◌≡◌, ◌+◌, ◌<◌, ◌^◌, ◌∷◌, [], ap, sym, subst, ◌∙◌, arith, length, length-append, Some, refl}
+use Rattle.std.proofs.Common.{◌∷◌, [], ap, sym, subst, arith, length, length-append, refl}
 use Rattle.std.proofs.lemmas.List.Elements.{All-get_or, All-set}
 use Rattle.tip_journal.specs.Journal.{with_entry}
 use Rattle.tip_journal.specs.Journals.{IsHistory, entries_of, with_last}

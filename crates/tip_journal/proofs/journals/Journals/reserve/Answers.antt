@@ -1,8 +1,8 @@
-use Rattle.std.proofs.Common.{◌≡◌, ◌<◌, ap, sym, subst, ◌∙◌, arith, length, refl}
+use Rattle.std.proofs.Common.{ap, sym, subst, ◌∙◌, arith, length, refl}
 use Rattle.std.proofs.lemmas.List.Elements.{All-get_or, All-set}
 use Rattle.tip_journal.specs.Journal.{with_room}
-use Rattle.tip_journal.specs.Journals.{IsHistory, room_of, last_of, with_last}
-use Rattle.tip_journal.proofs.HistoryLemmas.{changed_at-read, current-read, current-set, is_history-with_last, numbered-last}
+use Rattle.tip_journal.specs.Journals.{IsHistory, entries_of, room_of, last_of, with_last}
+use Rattle.tip_journal.proofs.HistoryLemmas.{entries_of-with_room, last_of-with_last, changed_at-read, current-read, current-set, is_history-with_last, numbered-last}
 use Rattle.tip_journal.proofs.journals.Journals.reserve.Goals as goal
 
 pub invariant_of-self : goal.invariant_of-self
@@ -28,3 +28,10 @@ pub returns-clause-same : goal.returns-clause-same
 returns-clause-same g c =
     rw (current-set c.self.inside.realms.items c.args.realm c.reserve.new.self (omega (arith, ap length c.self.view_is, c.requires)), c.self.view_is)
     (changed_at-read c.args.self.now c.args.realm (with_last (with_room (room_of (last_of c.reserve.new.self)))) c.index_mut-history.result.now c.reserve.new.self (rw (← c.self.view_is) c.index_mut-history.ensures.value) c.reserve.ensures.same)
+
+pub returns-clause-number : goal.returns-clause-number
+returns-clause-number g c =
+    let old = c.index_mut-history.result.now in
+    let room = room_of (last_of c.reserve.new.self) in
+    rw (current-set c.self.inside.realms.items c.args.realm c.reserve.new.self (omega (arith, ap length c.self.view_is, c.requires)), current-read c.args.self.now c.args.realm old c.requires (rw (← c.self.view_is) c.index_mut-history.ensures.value))
+    (ap (λ history. entries_of (last_of history)) c.reserve.ensures.same ∙ ap entries_of (last_of-with_last old (with_room room)) ∙ entries_of-with_room (last_of old) room)
