@@ -1,2 +1,3 @@
 pub mod EntryLemmas
 pub mod Standing
+pub mod Visiting

@@ -1,5 +1,5 @@
 -- How a table lies: entries of all realms in one list. No contract speaks of it but by what `Kept` makes of it.
-use Rattle.std.specs.Prelude.{ℕ, zero, suc, ◌==◌, if◌then◌else◌, List, [], ◌∷◌, Option, Some, None, option_map}
+use Rattle.std.specs.Prelude.{ℕ, zero, suc, ◌≡◌, ◌≢◌, length, ◌==◌, if◌then◌else◌, List, [], ◌∷◌, Option, Some, None, option_map, map}
 use Rattle.tip_table.specs.declared.table.Entry.{Entry}
 
 -- an item is known by its realm and by how many of the realm's items stand before it
@@ -27,3 +27,10 @@ abbrev pub written_in : {T : Type 0} → List (Entry T) → ℕ → T → List (
 written_in [] place value = []
 written_in (entry ∷ entries) zero value = record entry { item = value } ∷ entries
 written_in (entry ∷ entries) (suc place) value = entry ∷ written_in entries place value
+
+-- each item of a realm is changed, and where each item stands is as before
+pub record IsVisited {T : Type 0} (left : T → T) (realm : ℕ) (old new : List (Entry T)) : Type 0 where
+  pub items : items_in new realm ≡ map left (items_in old realm)
+  pub others : (other : ℕ) → other ≢ realm → items_in new other ≡ items_in old other
+  pub standing : (place : ℕ) → standing_in new place ≡ standing_in old place
+  pub count : length new ≡ length old

@@ -2,3 +2,4 @@ pub mod Lists
 pub mod Entries
 pub mod Kept
 pub mod Lending
+pub mod Visits

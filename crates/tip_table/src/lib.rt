@@ -6,6 +6,8 @@ mod table;
 mod test;
 #[cfg(test)]
 mod tests;
+mod visit;
 
 pub use table::Table;
 pub use test::Test;
+pub use visit::Visit;

@@ -1,10 +1,12 @@
 //! One table for the items of many realms.
-ghost use Rattle.std.specs.Prelude.{◌≡◌, ◌≢◌, ◌↔◌, ◌==◌, ◌&&◌, ℕ, ◌+◌, ◌<◌, ◌≤◌, [], ◌∷◌, ◌++◌, Some, None, length, position, count_by, IsSome, IsOk, IfSome, OnOk};
+ghost use Rattle.std.specs.Prelude.{◌≡◌, ◌≢◌, ◌↔◌, ◌==◌, ◌&&◌, ℕ, ◌+◌, ◌<◌, ◌≤◌, [], ◌∷◌, ◌++◌, Some, None, length, map, position, count_by, IsSome, IsOk, IfSome, OnOk};
 ghost use Rattle.std.specs.List.{find};
-ghost use Rattle.tip_table.specs.Entries.{Item};
+ghost use Rattle.tip_table.specs.Entries.{IsVisited, Item, items_in};
 ghost use Rattle.tip_table.specs.Kept.{StandsAt, capacity, of, places, item_at, taken_out};
+ghost use Rattle.tip_table.specs.Visits.{MayVisit, notes_of};
 
 use crate::test::Test;
+use crate::visit::Visit;
 use std::alloc::{AllocError, Allocator, Global};
 use std::marker::Model;
 
@@ -103,6 +105,20 @@ impl<T: Drop, A: Allocator> Table<T, A> {
         &mut entry.item
     }
 
+    /// Each item of a realm is visited, in the order made.
+    #[tactic(auto, unfolding(crate::specs::Kept::of, crate::specs::Kept::places))]
+    pub fn visit<N, V: Visit<T, N>>(&mut self, realm: usize, visitor: &V, notes: &mut N)
+        requires { MayVisit (V.may visitor.now) (V.noted visitor.now) notes.old (of self.old realm) }
+        ensures items { of self.new realm ≡ map (V.left visitor.now) (of self.old realm) }
+        ensures notes { notes.new ≡ notes_of (V.noted visitor.now) notes.old (of self.old realm) }
+        ensures others { (other : ℕ) → other ≢ realm → of self.new other ≡ of self.old other }
+        ensures places { (place : ℕ) → places self.new place ≡ places self.old place }
+        ensures free { self.new.free ≡ self.old.free }
+        ensures room { capacity self.new ≡ capacity self.old }
+    {
+        visit_in(&mut self.entries, realm, visitor, notes)
+    }
+
     /// Takes the item at a place out. Places of other items may change.
     #[tactic(auto, using(crate::proofs::EntryLemmas::of_entries), unfolding(crate::specs::Kept::of, crate::specs::Kept::places))]
     pub fn remove(&mut self, place: usize) -> T
@@ -130,4 +146,22 @@ fn find_in<T, Q: Test<T>>(entries: &[Entry<T>], realm: usize, query: &Q) -> Opti
     entries
         .iter()
         .position(|entry| entry.realm == realm && query.passes(&entry.item))
+}
+
+/// Visits each item of a realm.
+fn visit_in<T, N, V: Visit<T, N>>(
+    entries: &mut [Entry<T>],
+    realm: usize,
+    visitor: &V,
+    notes: &mut N,
+)
+    requires { MayVisit (V.may visitor.now) (V.noted visitor.now) notes.old (items_in entries.old realm) }
+    ensures visited { IsVisited (V.left visitor.now) realm entries.old entries.new }
+    ensures notes { notes.new ≡ notes_of (V.noted visitor.now) notes.old (items_in entries.old realm) }
+{
+    for entry in entries.iter_mut() {
+        if entry.realm == realm {
+            visitor.visit(&mut entry.item, notes);
+        }
+    }
 }
