@@ -1,3 +1,6 @@
+pub mod Works
+pub mod Proceeding
+pub mod Losing
 pub mod Tables
 pub mod Doing
 pub mod Stepping

@@ -15,7 +15,8 @@ use Rattle.tip_machine.specs.Types.{Answer, Connection, Event}
 use Rattle.tip_machine.specs.declared.event.Outcome.{Outcome}
 use Rattle.tip_table.specs.Kept.{Kept, of}
 use Rattle.tip_core.specs.Makings.{Made}
-use Rattle.tip_core.specs.Tables.{no_head, state_at, Does, AreAllAlone, AreCounted, Realms}
+use Rattle.tip_core.specs.Tables.{state_at, Does, AreAllAlone, AreCounted, Realms}
+use Rattle.tip_core.specs.Works.{no_head}
 use Rattle.tip_core.specs.Hosted.{Hosted, realm, Steps}
 
 -- what the tables stand for

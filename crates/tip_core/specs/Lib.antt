@@ -1,4 +1,6 @@
 pub mod Makings
+pub mod Works
+pub mod Reacting
 pub mod Tables
 pub mod Hosted
 pub mod Isolation

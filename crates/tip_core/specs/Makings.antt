@@ -1,8 +1,18 @@
 -- What is seen of an answer in the making.
-use Rattle.std.specs.Prelude.{ℕ}
+use Rattle.std.specs.Prelude.{ℕ, ◌≡◌, ◌-◌, ◌++◌, List, length, map}
+use Rattle.tip_machine.specs.declared.answer.Item.{Item}
+use Rattle.tip_machine.specs.declared.answer.Sent.{Sent}
 use Rattle.tip_machine.specs.Types.{Answer}
 
 pub record Made : Type 0 where
   pub answer : Answer
   -- how many lines and closings can still go out
   pub free : ℕ
+
+-- these items on a connection
+abbrev pub items_on : ℕ → List Item → List Sent
+items_on number items = map (λ item. record { connection = number; item = item }) items
+
+-- these lines and closings more go out
+abbrev pub Notes : Made → Made → List Sent → Type 0
+Notes old new said = new ≡ record { answer = record old.answer { sent = old.answer.sent ++ said }; free = old.free - length said }

@@ -5,24 +5,12 @@ use Rattle.tip_machine.specs.Alone.{AreAlone}
 use Rattle.tip_machine.specs.Heads.{IsCounted}
 use Rattle.tip_machine.specs.States.{Attempt, State, Work}
 use Rattle.tip_machine.specs.Types.{Connection}
-use Rattle.tip_machine.specs.declared.head.Head.{Head}
 use Rattle.tip_core.specs.Makings.{Made}
+use Rattle.tip_core.specs.Works.{no_head}
 use Rattle.tip_core.specs.declared.realms.Realms as declared
 
 abbrev pub Realms : Type 0
 Realms = declared.Realms Connection
-
--- stands where there is no realm
-abbrev pub no_head : Head
-no_head = record {
-  name = [];
-  address = [];
-  limits = record { connections = 0; transactions = 0; boxes = 0; entries = 0 };
-  branches = [];
-  epoch = 0;
-  given = 0;
-  entries = 0;
-}
 
 -- one realm. No transaction is made yet
 abbrev pub state_at : ℕ → Realms → State

@@ -1,13 +1,18 @@
 //! The machines of all realms, over tables that the realms share. Contracts see them realm by realm.
 #![tactic(auto)]
 
+mod connections;
+mod failing;
 mod machine;
 mod making;
 mod query;
+mod reaction;
 mod realms;
 mod room;
 mod rules;
+mod seats;
 mod starts;
+mod work;
 
 pub use machine::{Core, Run};
 pub use room::Room;

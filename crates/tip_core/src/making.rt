@@ -1,5 +1,5 @@
 //! An answer in the making.
-ghost use Rattle.std.specs.Prelude.{◌≡◌, ◌+◌, ◌<◌, ◌≤◌, [], ◌∷◌, ◌++◌, Some, IfOk};
+ghost use Rattle.std.specs.Prelude.{◌≡◌, ◌+◌, ◌<◌, ◌≤◌, [], ◌∷◌, ◌++◌, None, Some, IfOk};
 ghost use Rattle.tip_machine.specs.Answers.{silence};
 ghost use Rattle.tip_machine.specs.Steps.{returned};
 
@@ -76,8 +76,17 @@ impl Making {
         self.entry = Some(entry);
     }
 
-    /// A party is to be let go.
-    pub fn spend(&mut self, party: HeldParty)
+    /// A party goes out for an errand. There is none out for this answer yet.
+    pub fn send_out(&mut self, party: HeldParty)
+        requires { self.old.answer.work ≡ None }
+        ensures { self.new ≡ record self.old { answer = record self.old.answer { work = Some party } } }
+    {
+        self.work = Some(party);
+    }
+
+    /// A party is to be let go. There is none yet.
+    pub fn let_go(&mut self, party: HeldParty)
+        requires { self.old.answer.spent ≡ None }
         ensures { self.new ≡ record self.old { answer = record self.old.answer { spent = Some party } } }
     {
         self.spent = Some(party);
@@ -103,8 +112,8 @@ impl Making {
                 purpose: _,
                 boxes,
             } => self.hand_back(boxes),
-            Event::Voted(party) => self.spend(party),
-            Event::Settled(party) => self.spend(party),
+            Event::Voted(party) => self.let_go(party),
+            Event::Settled(party) => self.let_go(party),
             Event::Line { .. }
             | Event::Lost { .. }
             | Event::AskPush { .. }

@@ -254,10 +254,11 @@ impl Realms<Connection> {
 
     /// A party comes back that no transaction has given out.
     fn meet(&self, party: HeldParty, making: &mut Making)
+        requires { making.old.answer.spent ≡ None }
         ensures { making.new ≡ record making.old { answer = record making.old.answer { refusal = Some Stranger; spent = Some party } } }
     {
         making.refuse(Refusal::Stranger);
-        making.spend(party);
+        making.let_go(party);
     }
 
     /// One event of a realm that is there.
@@ -286,6 +287,7 @@ impl Realms<Connection> {
         requires here { realm < length self.old.heads.items }
         requires counted { (state_at realm self.old).head.given < (state_at realm self.old).head.entries }
         requires alone { AreAlone (state_at realm self.old).connections }
+        requires unspent { making.old.answer.spent ≡ None }
         requires lines { 2 ≤ making.old.free }
         requires room { connections_for event ≤ self.old.connections.free }
         ensures { IsDone self.old self.new realm making.new (attempt today event (work_at realm self.old making.old)) }

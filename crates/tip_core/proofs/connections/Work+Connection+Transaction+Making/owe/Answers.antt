@@ -1,0 +1,7 @@
+use Rattle.std.proofs.Common.{refl}
+use Rattle.tip_machine.specs.Connections.{owing}
+use Rattle.tip_core.proofs.Works.{changed_at}
+use Rattle.tip_core.proofs.connections.Work+Connection+Transaction+Making.owe.Goals as goal
+
+pub returns : goal.returns
+returns g c = changed_at c.args.self.now c.args.number (owing c.args.command) c.args.place _ _ c.requires c.item_mut-connection.ensures.value refl

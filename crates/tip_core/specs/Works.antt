@@ -1,0 +1,90 @@
+-- How the tables stand for the work of an event in its realm.
+use Rattle.std.specs.Prelude.{ℕ, ◌≡◌, ◌≢◌, ◌+◌, Bool, [], Option, None, Some, filter, length, map, slice_index_or}
+use Rattle.std.specs.Option.{option_and_then, option_map_or}
+use Rattle.tip_branch.specs.Notes.{PartyNotes}
+use Rattle.tip_rows.specs.Keys.{Key}
+use Rattle.tip_table.specs.Kept.{capacity, item_at, of}
+use Rattle.tip_machine.specs.Connections.{is_on}
+use Rattle.tip_machine.specs.States.{State, Work, connection_of}
+use Rattle.tip_machine.specs.Transactions.{has_key}
+use Rattle.tip_machine.specs.Types.{Answer, Connection, PartyPlace, seen}
+use Rattle.tip_machine.specs.declared.head.Head.{Head}
+use Rattle.tip_machine.specs.declared.connection.Role.{Role}
+use Rattle.tip_machine.specs.declared.connection.Role.TheVariants.{Superior, Subordinate}
+use Rattle.tip_machine.specs.declared.transaction.PartyPlace.TheVariants.{Here, Out, Spent}
+use Rattle.tip_machine.specs.declared.transaction.Transaction as transaction
+use Rattle.tip_core.specs.Makings.{Made}
+use Rattle.tip_core.specs.declared.work.Work as declared
+
+abbrev pub HeldTransaction : Type 0
+HeldTransaction = transaction.Transaction PartyNotes
+
+abbrev pub Held : Type 0
+Held = declared.Work Connection HeldTransaction Made
+
+-- is this the transaction of that key?
+abbrev pub HasKey : Key → HeldTransaction → Bool
+HasKey key transaction = has_key key (seen transaction)
+
+-- stands where there is no realm
+abbrev pub no_head : Head
+no_head = record {
+  name = [];
+  address = [];
+  limits = record { connections = 0; transactions = 0; boxes = 0; entries = 0 };
+  branches = [];
+  epoch = 0;
+  given = 0;
+  entries = 0;
+}
+
+-- one realm
+abbrev pub realm_of : ℕ → Held → State
+realm_of realm held = record { head = slice_index_or held.heads.items realm no_head; connections = of held.connections realm; transactions = map seen (of held.transactions realm) }
+
+-- what the event at hand has done so far in its realm
+abbrev pub work_of : Held → Work
+work_of held = record { state = realm_of held.realm held; answer = held.making.answer }
+
+-- how many lines and closings the answer can have
+abbrev pub lines_in : Held → ℕ
+lines_in held = length held.making.answer.sent + held.making.free
+
+-- Work was done in the realm at hand: every other realm stays, and no memory was taken.
+pub record Does (old new : Held) (work : Work) : Type 0 where
+  pub own : work_of new ≡ work
+  pub others : (other : ℕ) → other ≢ old.realm → realm_of other new ≡ realm_of other old
+  pub realm : new.realm ≡ old.realm
+  pub count : length new.heads.items ≡ length old.heads.items
+  pub connections : capacity new.connections ≡ capacity old.connections
+  pub transactions : capacity new.transactions ≡ capacity old.transactions
+  pub lines : lines_in new ≡ lines_in old
+
+-- how many lines the connections on a transaction may need, where each reacts once
+abbrev pub lines_for : Key → State → ℕ
+lines_for key state = length (filter (is_on key) state.connections)
+
+-- the party, where it is with its transaction
+abbrev pub party_at : PartyPlace → Option PartyNotes
+party_at (Here party) = Some party
+party_at (Out errand) = None
+party_at Spent = None
+
+-- the party of the transaction at a place, where it is with it
+abbrev pub party_here : ℕ → Held → Option PartyNotes
+party_here place held = option_and_then (λ transaction. party_at transaction.place) (item_at held.transactions place)
+
+-- no party goes out or is let go so far
+pub record IsIdle (answer : Answer) : Type 0 where
+  pub work : answer.work ≡ None
+  pub spent : answer.spent ≡ None
+
+-- the same, of the transaction that a connection of this role is on
+abbrev pub lines_as : Option Role → State → ℕ
+lines_as None state = 0
+lines_as (Some (Superior key)) state = lines_for key state
+lines_as (Some (Subordinate key part)) state = lines_for key state
+
+-- the same, of the transaction that the connection of a number is on
+abbrev pub lines_at : ℕ → State → ℕ
+lines_at number state = option_map_or (λ connection. lines_as connection.role state) (connection_of number state) 0

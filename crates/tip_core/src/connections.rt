@@ -1,0 +1,77 @@
+//! Connections of the realm at hand: how they are found, how they go on, and what their failure means.
+ghost use Rattle.std.specs.Prelude.{◌≡◌, ◌≤◌, ◌<◌, ◌+◌, Some, length, option_map};
+ghost use Rattle.std.specs.List.{filter};
+ghost use Rattle.tip_table.specs.Kept.{StandsAt};
+ghost use Rattle.tip_machine.specs.Changes.{change, reply};
+ghost use Rattle.tip_machine.specs.Connections.{advanced, has_number, identified, is_on, owing, taking};
+ghost use Rattle.tip_machine.specs.Failing.{closed, fail, gone, wrong};
+ghost use Rattle.tip_machine.specs.States.{connection_of};
+ghost use Rattle.tip_machine.specs.Types.{Connection as AConnection};
+ghost use Rattle.tip_core.specs.Works.{Does, IsIdle, lines_for, work_of};
+
+use crate::making::Making;
+use crate::work::Work;
+use tip_line::{Address, CommandName, ResponseName};
+use tip_machine::{Connection, Item, Role, Said, Transaction};
+
+impl Work<Connection, Transaction, Making> {
+    /// The connection of a number, which stands at this place.
+    #[tactic(auto, using(tip_table::proofs::Standing::standing))]
+    pub fn connection(&self, number: u32, place: usize) -> &Connection
+        requires { StandsAt self.now.connections self.now.realm (has_number number) place }
+        ensures { connection_of number (work_of self.now).state ≡ Some result.now }
+    {
+        self.connections.item(place)
+    }
+
+    /// A connection goes on by the connection table, now that this command was answered so.
+    fn go(&mut self, number: u32, place: usize, command: CommandName, response: ResponseName)
+        requires { StandsAt self.old.connections self.old.realm (has_number number) place }
+        ensures { Does self.old self.new (change number (advanced command response) (work_of self.old)) }
+    {
+        let connection = self.connections.item_mut(place);
+        connection.go(command, response);
+    }
+
+    /// IDENTIFY was answered; the connection's primary is there, if it said where.
+    pub fn identify(&mut self, number: u32, place: usize, peer: Option<Address>)
+        requires { StandsAt self.old.connections self.old.realm (has_number number) place }
+        ensures { Does self.old self.new (change number (identified peer) (work_of self.old)) }
+    {
+        let connection = self.connections.item_mut(place);
+        connection.identify(peer);
+    }
+
+    /// A response is owed to this command.
+    pub fn owe(&mut self, number: u32, place: usize, command: CommandName)
+        requires { StandsAt self.old.connections self.old.realm (has_number number) place }
+        ensures { Does self.old self.new (change number (owing command) (work_of self.old)) }
+    {
+        let connection = self.connections.item_mut(place);
+        connection.owed = Some(command);
+    }
+
+    /// A command is answered, and its connection goes by the connection table.
+    #[tactic(auto, using(crate::proofs::Works::replied))]
+    pub fn reply(&mut self, number: u32, place: usize, command: CommandName, said: Said)
+        requires stands { StandsAt self.old.connections self.old.realm (has_number number) place }
+        requires room { 0 < self.old.making.free }
+        ensures { Does self.old self.new (reply number command said (work_of self.old)) }
+    {
+        let response = said.name();
+        self.tell(number, Item::Say(said));
+        self.go(number, place, command, response);
+    }
+
+    /// A connection is there no more, and its boxes are handed back. What it was on the transaction that it was on is given.
+    pub(crate) fn remove(&mut self, number: u32, place: usize) -> Option<Role>
+        requires { StandsAt self.old.connections self.old.realm (has_number number) place }
+        ensures role { option_map (λ connection. connection.role) (connection_of number (work_of self.old).state) ≡ Some result }
+        ensures gone { (connection : AConnection) → connection_of number (work_of self.old).state ≡ Some connection → Does self.old self.new (gone connection (work_of self.old)) }
+    {
+        let connection = self.connections.remove(place);
+        let role = connection.role;
+        self.making.hand_back(connection.into_boxes());
+        role
+    }
+}
