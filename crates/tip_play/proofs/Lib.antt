@@ -9,3 +9,4 @@ pub mod Cutting
 pub mod Transcribing
 pub mod Players
 pub mod Reading
+pub mod Showing

@@ -7,6 +7,7 @@ use Rattle.tip_line.specs.Command as command
 use Rattle.tip_line.specs.Response as response
 use Rattle.tip_line.specs.declared.refusal.Refusal.{Refusal}
 use Rattle.tip_machine.specs.Answers.{command_of, response_of}
+use Rattle.tip_machine.specs.Outputs.{Output}
 use Rattle.tip_machine.specs.Types.{Answer}
 use Rattle.tip_machine.specs.declared.answer.Item.{Item}
 use Rattle.tip_machine.specs.declared.answer.Item.TheVariants.{Say, Ask, Close}
@@ -34,6 +35,14 @@ sent_text realm sent = item_text realm sent.connection sent.item
 
 abbrev pub answer_text : List ℕ → Answer → List ℕ
 answer_text realm answer = refusal_text realm answer.refusal ++ opened_text realm answer.opened ++ flat_map (sent_text realm) answer.sent
+
+-- The same read off what an event shows. Calls, changes of the rows and parties have no text yet: none of them comes in what a
+-- script does today.
+abbrev pub output_text : List ℕ → Output → List ℕ
+output_text realm (Output.Refused why) = refusal_text realm (Some why)
+output_text realm (Output.Opened seat) = opened_text realm (Some seat)
+output_text realm (Output.Sent sent) = sent_text realm sent
+output_text realm other = []
 
 -- REALM epoch 1
 abbrev pub start_text : List ℕ → List ℕ

@@ -1,8 +1,7 @@
 -- THE TRANSCRIPT OF A SCRIPT: what its octets make tipd print, and where it ends.
-use Rattle.std.specs.Prelude.{◌≡◌, ℕ, zero, suc, ◌+◌, ◌==◌, ◌&&◌, List, [], ◌∷◌, ◌++◌, length, map, take, count_by, slice_index_or, Bool, not, nat_le, nat_lt, Option, Some, None, option_map, Result, Ok, Err, if◌then◌else◌}
+use Rattle.std.specs.Prelude.{◌≡◌, ℕ, zero, suc, ◌+◌, ◌==◌, ◌&&◌, List, [], ◌∷◌, ◌++◌, length, map, take, count_by, slice_index_or, Bool, nat_le, nat_lt, Option, Some, None, option_map, Result, Ok, Err, if◌then◌else◌}
 use Rattle.std.specs.List.{list_all, flat_map, slice_split}
 use Rattle.std.specs.Io.KnownBytes.{Appends, Consumes}
-use Rattle.std.specs.Str.{bytes_eq}
 use Rattle.tip_line.specs.Words.{is_address, is_realm}
 use Rattle.tip_machine.specs.Heads.{are_allowed, is_other, starting}
 use Rattle.tip_rows.specs.Rows.{first_label}

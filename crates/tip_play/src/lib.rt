@@ -4,6 +4,7 @@
 mod branches;
 mod declared;
 mod fault;
+pub mod laws;
 mod open_line;
 mod player;
 mod playing;
