@@ -27,7 +27,7 @@ use Rattle.tip_machine.specs.Answers.{response_name}
 use Rattle.tip_machine.specs.declared.answer.Item.TheVariants.{Say}
 use Rattle.tip_machine.specs.declared.answer.Said.{Said}
 use Rattle.tip_core.specs.Makings.{Made}
-use Rattle.tip_core.specs.Works.{Does, HasKey, Held, HeldTransaction, lines_for, realm_of, work_of}
+use Rattle.tip_core.specs.Works.{Does, is_keyed, Held, HeldTransaction, lines_for, realm_of, work_of}
 
 -- Steps in a row
 
@@ -63,24 +63,24 @@ module _ {T U : Type 0} (view : T → U) (test : U → Bool) where
 -- Transactions
 
 -- where the transaction of a key stands, it is open
-pub found_key : (held : Held) (key : Key) (place : Option ℕ) → ((place ≡ None → find (HasKey key) (of held.transactions held.realm) ≡ None) × (find (HasKey key) (of held.transactions held.realm) ≡ None → place ≡ None)) →
+pub found_key : (held : Held) (key : Key) (place : Option ℕ) → ((place ≡ None → find (is_keyed key) (of held.transactions held.realm) ≡ None) × (find (is_keyed key) (of held.transactions held.realm) ≡ None → place ≡ None)) →
     (place ≡ None → transaction_of key (work_of held).state ≡ None) × (transaction_of key (work_of held).state ≡ None → place ≡ None)
 found_key held key place both = (
   λ none. find-seen seen (has_key key) (of held.transactions held.realm) ∙ ap (option_map seen) (both.0 none),
-  λ none. both.1 (unseen (find (HasKey key) (of held.transactions held.realm)) (sym (find-seen seen (has_key key) (of held.transactions held.realm)) ∙ none)),
+  λ none. both.1 (unseen (find (is_keyed key) (of held.transactions held.realm)) (sym (find-seen seen (has_key key) (of held.transactions held.realm)) ∙ none)),
 ) where
   unseen : (o : Option HeldTransaction) → option_map seen o ≡ None → o ≡ None
   unseen None is = refl
   unseen (Some t) is = absurd (cc)
 
 -- a transaction is written where it stands
-pub altered : (old : Held) (key : Key) (f : Transaction → Transaction) (place : ℕ) (item value : HeldTransaction) → StandsAt old.transactions old.realm (HasKey key) place → item_at old.transactions place ≡ Some item → seen value ≡ f (seen item) →
+pub altered : (old : Held) (key : Key) (f : Transaction → Transaction) (place : ℕ) (item value : HeldTransaction) → StandsAt old.transactions old.realm (is_keyed key) place → item_at old.transactions place ≡ Some item → seen value ≡ f (seen item) →
     Does old (record old { transactions = with_item_at old.transactions place value }) (alter key f (work_of old))
 altered old key f place item value here is same =
-    let first : find (HasKey key) (of old.transactions old.realm) ≡ Some item = found_first old.transactions old.realm (HasKey key) place here ∙ is in
+    let first : find (is_keyed key) (of old.transactions old.realm) ≡ Some item = found_first old.transactions old.realm (is_keyed key) place here ∙ is in
     record {
       own = ap (λ ts. record (work_of old) { state = record (work_of old).state { transactions = ts } })
-          (ap (map seen) (write old.transactions old.realm (HasKey key) (λ _. value) place item value here is refl) ∙ changed-seen seen (has_key key) f (of old.transactions old.realm) item value first same);
+          (ap (map seen) (write old.transactions old.realm (is_keyed key) (λ _. value) place item value here is refl) ∙ changed-seen seen (has_key key) f (of old.transactions old.realm) item value first same);
       others = λ other differ. ap (λ ts. record (realm_of other old) { transactions = map seen ts }) (write_others old.transactions place value other (record { realm = old.realm; at = here.at }) here.there (λ is. differ (sym is)));
       realm = refl;
       count = refl;
@@ -102,8 +102,8 @@ unaltered old key f none = record {
 }
 
 -- what stands where the transaction of a key stands
-pub standing_key : (held : Held) (key : Key) (place : ℕ) (item : HeldTransaction) → StandsAt held.transactions held.realm (HasKey key) place → item_at held.transactions place ≡ Some item → transaction_of key (work_of held).state ≡ Some (seen item)
-standing_key held key place item here is = find-seen seen (has_key key) (of held.transactions held.realm) ∙ ap (option_map seen) (found_first held.transactions held.realm (HasKey key) place here ∙ is)
+pub standing_key : (held : Held) (key : Key) (place : ℕ) (item : HeldTransaction) → StandsAt held.transactions held.realm (is_keyed key) place → item_at held.transactions place ≡ Some item → transaction_of key (work_of held).state ≡ Some (seen item)
+standing_key held key place item here is = find-seen seen (has_key key) (of held.transactions held.realm) ∙ ap (option_map seen) (found_first held.transactions held.realm (is_keyed key) place here ∙ is)
 
 take_out_others : {T : Type 0} (kept : Kept T) (realm : ℕ) (test : T → Bool) (place other : ℕ) → StandsAt kept realm test place → other ≢ realm → taken_out (places kept place) other (of kept other) ≡ of kept other
 take_out_others kept realm test place other here differ =
@@ -111,12 +111,12 @@ take_out_others kept realm test place other here differ =
     rw (here.there, no) refl
 
 -- it is taken out
-pub ended : (old : Held) (key : Key) (place : ℕ) (transactions : Kept HeldTransaction) → StandsAt old.transactions old.realm (HasKey key) place → ((realm : ℕ) → of transactions realm ≡ taken_out (places old.transactions place) realm (of old.transactions realm)) → capacity transactions ≡ capacity old.transactions →
+pub ended : (old : Held) (key : Key) (place : ℕ) (transactions : Kept HeldTransaction) → StandsAt old.transactions old.realm (is_keyed key) place → ((realm : ℕ) → of transactions realm ≡ taken_out (places old.transactions place) realm (of old.transactions realm)) → capacity transactions ≡ capacity old.transactions →
     Does old (record old { transactions = transactions }) (end key (work_of old))
 ended old key place transactions here left room = record {
   own = ap (λ ts. record (work_of old) { state = record (work_of old).state { transactions = ts } })
-      (ap (map seen) (left old.realm ∙ take_out old.transactions old.realm (HasKey key) place here) ∙ without-seen seen (has_key key) (of old.transactions old.realm));
-  others = λ other differ. ap (λ ts. record (realm_of other old) { transactions = map seen ts }) (left other ∙ take_out_others old.transactions old.realm (HasKey key) place other here differ);
+      (ap (map seen) (left old.realm ∙ take_out old.transactions old.realm (is_keyed key) place here) ∙ without-seen seen (has_key key) (of old.transactions old.realm));
+  others = λ other differ. ap (λ ts. record (realm_of other old) { transactions = map seen ts }) (left other ∙ take_out_others old.transactions old.realm (is_keyed key) place other here differ);
   realm = refl;
   count = refl;
   connections = refl;

@@ -14,5 +14,5 @@ abbrev pub items_on : ℕ → List Item → List Sent
 items_on number items = map (λ item. record { connection = number; item = item }) items
 
 -- these lines and closings more go out
-abbrev pub Notes : Made → Made → List Sent → Type 0
-Notes old new said = new ≡ record { answer = record old.answer { sent = old.answer.sent ++ said }; free = old.free - length said }
+abbrev pub GoOut : Made → Made → List Sent → Type 0
+GoOut old new said = new ≡ record { answer = record old.answer { sent = old.answer.sent ++ said }; free = old.free - length said }

@@ -23,8 +23,8 @@ abbrev pub Held : Type 0
 Held = declared.Work Connection HeldTransaction Made
 
 -- is this the transaction of that key?
-abbrev pub HasKey : Key → HeldTransaction → Bool
-HasKey key transaction = has_key key (seen transaction)
+abbrev pub is_keyed : Key → HeldTransaction → Bool
+is_keyed key transaction = has_key key (seen transaction)
 
 -- stands where there is no realm
 abbrev pub no_head : Head
@@ -64,6 +64,16 @@ pub record Does (old new : Held) (work : Work) : Type 0 where
 abbrev pub lines_for : Key → State → ℕ
 lines_for key state = length (filter (is_on key) state.connections)
 
+-- the same, of the transaction that a connection of this role is on
+abbrev pub lines_as : Option Role → State → ℕ
+lines_as None state = 0
+lines_as (Some (Superior key)) state = lines_for key state
+lines_as (Some (Subordinate key part)) state = lines_for key state
+
+-- the same, of the transaction that the connection of a number is on
+abbrev pub lines_at : ℕ → State → ℕ
+lines_at number state = option_map_or (λ connection. lines_as connection.role state) (connection_of number state) 0
+
 -- the party, where it is with its transaction
 abbrev pub party_at : PartyPlace → Option PartyNotes
 party_at (Here party) = Some party
@@ -78,13 +88,3 @@ party_here place held = option_and_then (λ transaction. party_at transaction.pl
 pub record IsIdle (answer : Answer) : Type 0 where
   pub work : answer.work ≡ None
   pub spent : answer.spent ≡ None
-
--- the same, of the transaction that a connection of this role is on
-abbrev pub lines_as : Option Role → State → ℕ
-lines_as None state = 0
-lines_as (Some (Superior key)) state = lines_for key state
-lines_as (Some (Subordinate key part)) state = lines_for key state
-
--- the same, of the transaction that the connection of a number is on
-abbrev pub lines_at : ℕ → State → ℕ
-lines_at number state = option_map_or (λ connection. lines_as connection.role state) (connection_of number state) 0

@@ -6,7 +6,7 @@ ghost use Rattle.tip_machine.specs.Connections.{has_number};
 ghost use Rattle.tip_machine.specs.Failing.{closed, fail, lost_unanswered, missed, part_lost, superior_lost, wrong};
 ghost use Rattle.tip_machine.specs.States.{connection_of, transaction_of};
 ghost use Rattle.tip_machine.specs.Types.{Connection as AConnection, Transaction as ATransaction};
-ghost use Rattle.tip_core.specs.Works.{Does, HasKey, IsIdle, lines_as, lines_at, lines_for, work_of};
+ghost use Rattle.tip_core.specs.Works.{Does, is_keyed, IsIdle, lines_as, lines_at, lines_for, work_of};
 
 use crate::making::Making;
 use crate::work::{Work, has_answered};
@@ -51,7 +51,7 @@ impl Work<Connection, Transaction, Making> {
     /// A part is lost before an outcome.
     #[tactic(auto, using(crate::proofs::Losing::unanswered_losing))]
     fn lose_unanswered(&mut self, key: Key, place: usize, part: Part)
-        requires stands { StandsAt self.old.transactions self.old.realm (HasKey key) place }
+        requires stands { StandsAt self.old.transactions self.old.realm (is_keyed key) place }
         requires lines { lines_for key (work_of self.old).state ≤ self.old.making.free }
         requires none { IsIdle self.old.making.answer }
         ensures { (transaction : ATransaction) → transaction_of key (work_of self.old).state ≡ Some transaction → Does self.old self.new (lost_unanswered part transaction (work_of self.old)) }

@@ -10,7 +10,6 @@ mod reaction;
 mod realms;
 mod room;
 mod rules;
-mod seats;
 mod starts;
 mod work;
 

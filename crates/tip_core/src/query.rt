@@ -1,6 +1,6 @@
 //! What is looked for in the tables.
 ghost use Rattle.tip_machine.specs.Connections.{has_number, is_on};
-ghost use Rattle.tip_core.specs.Works.{HasKey};
+ghost use Rattle.tip_core.specs.Works.{is_keyed};
 
 use crate::reaction::is_on;
 use tip_machine::{Connection, Transaction};
@@ -28,7 +28,7 @@ pub struct Keyed {
 }
 
 impl Test<Transaction> for Keyed {
-    ghost passes = { λ query transaction. HasKey query.key transaction };
+    ghost passes = { λ query transaction. is_keyed query.key transaction };
 
     fn passes(&self, transaction: &Transaction) -> bool {
         transaction.key == self.key

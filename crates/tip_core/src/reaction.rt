@@ -2,7 +2,7 @@
 ghost use Rattle.std.specs.Prelude.{◌≡◌, ◌-◌, ◌++◌, ◌<◌, true, length, None, Some, option_map};
 ghost use Rattle.tip_machine.specs.Connections.{is_on, names};
 ghost use Rattle.tip_machine.specs.Reactions.{demanded, demanded_as, reacted, reacts, sent_by};
-ghost use Rattle.tip_core.specs.Makings.{Notes, items_on};
+ghost use Rattle.tip_core.specs.Makings.{GoOut, items_on};
 ghost use Rattle.tip_core.specs.Reacting.{demand_of, reaction_of};
 
 use crate::making::Making;
@@ -132,7 +132,7 @@ impl Progress {
     fn answer(&self, connection: &mut Connection, command: CommandName, making: &mut Making)
         requires { 0 < making.old.free }
         ensures connection { connection.new ≡ (reacts (reaction_of self.now.reaction) self.now.key (Some command) connection.old).connection }
-        ensures making { Notes making.old making.new (items_on connection.old.number (reacts (reaction_of self.now.reaction) self.now.key (Some command) connection.old).items) }
+        ensures making { GoOut making.old making.new (items_on connection.old.number (reacts (reaction_of self.now.reaction) self.now.key (Some command) connection.old).items) }
     {
         if let Some(said) = self.reaction.owed(command) {
             connection.go(command, said.name());
@@ -144,7 +144,7 @@ impl Progress {
     fn demand(&self, connection: &mut Connection, making: &mut Making)
         requires { 0 < making.old.free }
         ensures connection { connection.new ≡ (reacts (reaction_of self.now.reaction) self.now.key None connection.old).connection }
-        ensures making { Notes making.old making.new (items_on connection.old.number (reacts (reaction_of self.now.reaction) self.now.key None connection.old).items) }
+        ensures making { GoOut making.old making.new (items_on connection.old.number (reacts (reaction_of self.now.reaction) self.now.key None connection.old).items) }
     {
         if let Some(demand) = self.reaction.demanded_on(connection) {
             connection.awaited = Some(demand.awaited());

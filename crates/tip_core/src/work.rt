@@ -12,7 +12,7 @@ ghost use Rattle.tip_core.specs.Reacting.{reaction_of};
 ghost use Rattle.tip_machine.specs.States.{transaction_of};
 ghost use Rattle.tip_machine.specs.Transactions.{has_ready, is_spent, noting, standing_at};
 ghost use Rattle.tip_machine.specs.Types.{seen, Transaction as ATransaction};
-ghost use Rattle.tip_core.specs.Works.{Does, HasKey, IsIdle, lines_for, party_here, work_of};
+ghost use Rattle.tip_core.specs.Works.{Does, is_keyed, IsIdle, lines_for, party_here, work_of};
 
 use crate::making::Making;
 use crate::query::{Keyed, OnKey};
@@ -48,14 +48,14 @@ impl Work<Connection, Transaction, Making> {
     /// Where the transaction of a key stands, if it is open.
     pub fn transaction(&self, key: Key) -> Option<usize>
         ensures none { (result ≡ None) ↔ (transaction_of key (work_of self.now).state ≡ None) }
-        ensures some { IfSome result (λ place. StandsAt self.now.transactions self.now.realm (HasKey key) place) }
+        ensures some { IfSome result (λ place. StandsAt self.now.transactions self.now.realm (is_keyed key) place) }
     {
         self.transactions.find(self.realm, &Keyed { key })
     }
 
     /// The transaction of a key, which stands at this place.
     pub fn at(&self, key: Key, place: usize) -> &Transaction
-        requires { StandsAt self.now.transactions self.now.realm (HasKey key) place }
+        requires { StandsAt self.now.transactions self.now.realm (is_keyed key) place }
         ensures found { transaction_of key (work_of self.now).state ≡ Some (seen result.now) }
         ensures item { item_at self.now.transactions place ≡ Some result.now }
     {
@@ -75,7 +75,7 @@ impl Work<Connection, Transaction, Making> {
 
     /// The answer of a part is noted, where there is such a part; it has none yet.
     pub(crate) fn note(&mut self, key: Key, place: usize, part: Part, answer: Ballot)
-        requires stands { StandsAt self.old.transactions self.old.realm (HasKey key) place }
+        requires stands { StandsAt self.old.transactions self.old.realm (is_keyed key) place }
         requires open { (transaction : ATransaction) → transaction_of key (work_of self.old).state ≡ Some transaction → answer_at transaction.parts part ≡ None }
         ensures { Does self.old self.new (alter key (noting part (answered answer)) (work_of self.old)) }
     {
@@ -85,7 +85,7 @@ impl Work<Connection, Transaction, Making> {
 
     /// The transaction of a key is open no more.
     fn end(&mut self, key: Key, place: usize) -> Transaction
-        requires { StandsAt self.old.transactions self.old.realm (HasKey key) place }
+        requires { StandsAt self.old.transactions self.old.realm (is_keyed key) place }
         ensures taken { transaction_of key (work_of self.old).state ≡ Some (seen result) }
         ensures left { Does self.old self.new (end key (work_of self.old)) }
     {
@@ -112,7 +112,7 @@ impl Work<Connection, Transaction, Making> {
 
     /// Takes the party, which is with the transaction, and says where it is then.
     fn take_party(&mut self, key: Key, place: usize, left: PartyPlace) -> HeldParty
-        requires stands { StandsAt self.old.transactions self.old.realm (HasKey key) place }
+        requires stands { StandsAt self.old.transactions self.old.realm (is_keyed key) place }
         requires here { IsSome (party_here place self.old) }
         ensures party { party_here place self.old ≡ Some result }
         ensures left { Does self.old self.new (alter key (standing_at left) (work_of self.old)) }
@@ -126,7 +126,7 @@ impl Work<Connection, Transaction, Making> {
 
     /// The party, which is with the transaction, goes out for an errand.
     fn give_out(&mut self, key: Key, place: usize, errand: Errand)
-        requires stands { StandsAt self.old.transactions self.old.realm (HasKey key) place }
+        requires stands { StandsAt self.old.transactions self.old.realm (is_keyed key) place }
         requires here { IsSome (party_here place self.old) }
         requires none { self.old.making.answer.work ≡ None }
         ensures { (party : PartyNotes) → party_here place self.old ≡ Some party → Does self.old self.new (give_out errand party key (work_of self.old)) }
@@ -138,7 +138,7 @@ impl Work<Connection, Transaction, Making> {
 
     /// The party, which is with the transaction, is let go.
     fn let_go(&mut self, key: Key, place: usize)
-        requires stands { StandsAt self.old.transactions self.old.realm (HasKey key) place }
+        requires stands { StandsAt self.old.transactions self.old.realm (is_keyed key) place }
         requires here { IsSome (party_here place self.old) }
         requires none { self.old.making.answer.spent ≡ None }
         ensures { (party : PartyNotes) → party_here place self.old ≡ Some party → Does self.old self.new (let_go party key (work_of self.old)) }
