@@ -132,7 +132,7 @@ impl Member {
     }
 
     /// Its answer in its party's vote. One that is still active is a no; one that came ready has none.
-    pub(crate) fn ballot(&self) -> Option<Ballot>
+    pub fn ballot(&self) -> Option<Ballot>
         ensures { result ≡ ballot self.now }
     {
         if self.is_active() {

@@ -1,6 +1,7 @@
 pub mod Works
 pub mod Proceeding
 pub mod Losing
+pub mod Outcomes
 pub mod Tables
 pub mod Doing
 pub mod Stepping

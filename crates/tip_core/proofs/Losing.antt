@@ -24,7 +24,7 @@ use Rattle.tip_machine.specs.declared.connection.Role.TheVariants.{Subordinate, 
 use Rattle.tip_machine.proofs.Walks.{found-number, on_found}
 use Rattle.tip_core.specs.Works.{Does, Held, IsIdle, lines_as, lines_at, work_of}
 use Rattle.tip_core.proofs.Proceeding.{on_none, on_some}
-use Rattle.tip_core.proofs.Works.{nothing, then}
+use Rattle.tip_core.proofs.Works.{may_idle, nothing, then}
 
 -- A rule of a transaction
 
@@ -71,7 +71,7 @@ fewer_as (Some (Superior key)) number w = fewer key number w.state.connections
 fewer_as (Some (Subordinate key part)) number w = fewer key number w.state.connections
 
 -- where nothing went out, there is room for as much as before
-same_room : (a b : Held) (w : Work) → Does a b w → w.answer.sent ≡ a.making.answer.sent → b.making.free ≡ a.making.free
+pub same_room : (a b : Held) (w : Work) → Does a b w → w.answer.sent ≡ a.making.answer.sent → b.making.free ≡ a.making.free
 same_room a b w does same =
     let sent : b.making.answer.sent ≡ a.making.answer.sent = ap (λ v. v.answer.sent) does.own ∙ same in
     let count : length b.making.answer.sent ≡ length a.making.answer.sent = ap length sent in
@@ -131,11 +131,11 @@ unfolding wrong
 rejected a b c number connection found first second =
     subst (λ n. Does a c (closed connection (tell n (Say said.Error) (work_of a)))) (sym (found-number number (work_of a).state.connections connection found)) (then a b c (closed connection) _ first second)
 
-pub ruleset superior_losing = (unkeyed, keyed)
+pub ruleset superior_losing = (unkeyed, keyed, may_idle)
 
-pub ruleset part_losing = (unkeyed, keyed)
+pub ruleset part_losing = (unkeyed, keyed, may_idle)
 
-pub ruleset unanswered_losing = (answered_already, lost_first, still_idle)
+pub ruleset unanswered_losing = (answered_already, lost_first, still_idle, may_idle)
 
 pub ruleset missing = (nothing)
 

@@ -15,8 +15,8 @@ use Rattle.tip_machine.specs.States.{Work, transaction_of}
 use Rattle.tip_machine.specs.Transactions.{has_ready, is_spent}
 use Rattle.tip_machine.specs.Types.{PartyPlace, Transaction, seen}
 use Rattle.tip_machine.specs.declared.transaction.PartyPlace.TheVariants.{Here, Out, Spent}
-use Rattle.tip_core.specs.Works.{Does, Held, HeldTransaction, IsIdle, work_of}
-use Rattle.tip_core.proofs.Works.{nothing, then}
+use Rattle.tip_core.specs.Works.{Does, Held, HeldTransaction, work_of}
+use Rattle.tip_core.proofs.Works.{may_entered, may_reacted, nothing, then}
 
 pub on_none : (key : Key) (rule : Transaction → Work → Work) (w : Work) → transaction_of key w.state ≡ None → on_key key rule w ≡ w
 on_none key rule w none = ap (λ found. on found rule w) none
@@ -68,13 +68,6 @@ released_none s key none = subst (Does s s) (sym (on_none key _ (work_of s) none
 
 -- Abort
 
-pub idle_told : (a b c : Held) (key : Key) (phase : Phase) (reaction : Reaction) → IsIdle a.making.answer → Does a b (enter phase key (work_of a)) → Does b c (react reaction key (work_of b)) → IsIdle c.making.answer
-unfolding react
-idle_told a b c key phase reaction idle first second = record {
-  work = ap (λ w. w.answer.work) second.own ∙ ap (λ w. w.answer.work) first.own ∙ idle.work;
-  spent = ap (λ w. w.answer.spent) second.own ∙ ap (λ w. w.answer.spent) first.own ∙ idle.spent;
-}
-
 pub aborted : (a b c d e : Held) (key : Key) → Does a b (enter Aborted key (work_of a)) → Does b c (react aborts key (work_of b)) → Does c d (dispatch key (work_of c)) → Does d e (release key (work_of d)) → Does a e (abort key (work_of a))
 unfolding abort
 aborted a b c d e key first second third fourth =
@@ -84,4 +77,4 @@ pub ruleset dispatching = (dispatched_none, dispatched_out, dispatched_spent, di
 
 pub ruleset releasing = (released_none, released, kept_reached, kept_unspent)
 
-pub ruleset aborting = (idle_told, aborted)
+pub ruleset aborting = (may_entered, may_reacted, aborted)

@@ -1,13 +1,13 @@
 -- What the operations on the tables come to in the realm at hand.
-use Rattle.std.proofs.Common.{◌≡◌, ◌≢◌, ◌≤◌, ◌<◌, ◌+◌, ◌-◌, Bool, true, false, cond, ℕ, zero, suc, List, [], ◌∷◌, ◌++◌, Option, Some, None, length, map, refl, ap, sym, ◌∙◌, arith, Bor, append-nil, append_assoc}
+use Rattle.std.proofs.Common.{◌≡◌, ◌≢◌, ◌≤◌, ◌<◌, ◌+◌, ◌-◌, Bool, true, false, cond, ℕ, zero, suc, List, [], ◌∷◌, ◌++◌, Option, Some, None, length, map, refl, ap, sym, subst, ◌∙◌, arith, Bor, append-nil, append_assoc}
 use Rattle.std.specs.Prelude.{◌==◌, filter, find, is_some, option_map, slice_get}
 use Rattle.std.specs.List.{flat_map, list_any}
 use Rattle.std.specs.Option.{option_copied, option_map_or}
-use Rattle.std.proofs.lemmas.Option.{same_Some}
+use Rattle.std.proofs.lemmas.Option.{none-some, same_Some}
 use Rattle.std.proofs.lemmas.Bool.Decides.{nat_tests}
 use Rattle.std.proofs.lemmas.List.{length-append, length-map}
 use Rattle.tip_line.specs.declared.command.CommandName.{CommandName}
-use Rattle.tip_rows.specs.Keys.{Key}
+use Rattle.tip_rows.specs.Keys.{Key, is_same}
 use Rattle.tip_table.specs.Kept.{Kept, StandsAt, capacity, item_at, of, places, taken_out, with_item_at}
 use Rattle.tip_table.specs.Lists.{changed, without}
 use Rattle.tip_table.proofs.Standing.{capacity-written, change_none, take_out, write, write_others}
@@ -16,18 +16,20 @@ use Rattle.tip_table.specs.Visits.{MayVisit, notes_of}
 use Rattle.tip_txn.specs.Parts.{changed_at as changed_at_part}
 use Rattle.tip_txn.specs.declared.part.Participant.{Participant}
 use Rattle.tip_machine.specs.Changes.{alter, change, end, reply, tell}
-use Rattle.tip_machine.proofs.Walks.{found-number}
+use Rattle.tip_machine.proofs.Walks.{found-number, found_changed, found_passes}
 use Rattle.tip_machine.specs.Failing.{gone}
+use Rattle.tip_machine.specs.Proceeding.{enter}
+use Rattle.tip_txn.specs.declared.answer.Phase.{Phase}
 use Rattle.tip_machine.specs.Connections.{advanced, has_number, is_on}
 use Rattle.tip_machine.specs.Reactions.{Demand, Reaction, answers, demanded_as, demands, react, reacted, reacts, sent_by, stays}
 use Rattle.tip_machine.specs.States.{Work, connection_of, transaction_of}
-use Rattle.tip_machine.specs.Transactions.{has_key}
+use Rattle.tip_machine.specs.Transactions.{entering, has_key}
 use Rattle.tip_machine.specs.Types.{Connection, Transaction, seen}
 use Rattle.tip_machine.specs.Answers.{response_name}
 use Rattle.tip_machine.specs.declared.answer.Item.TheVariants.{Say}
 use Rattle.tip_machine.specs.declared.answer.Said.{Said}
 use Rattle.tip_core.specs.Makings.{Made}
-use Rattle.tip_core.specs.Works.{Does, is_keyed, Held, HeldTransaction, lines_for, realm_of, work_of}
+use Rattle.tip_core.specs.Works.{Does, is_keyed, Held, HeldTransaction, IsIdle, lines_for, MayDispatch, realm_of, work_of}
 
 -- Steps in a row
 
@@ -40,10 +42,11 @@ then a b c rule work first second = record {
   connections = second.connections ∙ first.connections;
   transactions = second.transactions ∙ first.transactions;
   lines = second.lines ∙ first.lines;
+  outcome = second.outcome ∙ first.outcome;
 }
 
 pub nothing : (held : Held) → Does held held (work_of held)
-nothing held = record { own = refl; others = λ other differ. refl; realm = refl; count = refl; connections = refl; transactions = refl; lines = refl }
+nothing held = record { own = refl; others = λ other differ. refl; realm = refl; count = refl; connections = refl; transactions = refl; lines = refl; outcome = refl }
 
 -- Lists that are seen through a view
 
@@ -87,6 +90,7 @@ altered old key f place item value here is same =
       connections = refl;
       transactions = capacity-written old.transactions place value;
       lines = refl;
+      outcome = refl;
     }
 
 -- where it is not open, nothing is written
@@ -99,6 +103,7 @@ unaltered old key f none = record {
   connections = refl;
   transactions = refl;
   lines = refl;
+  outcome = refl;
 }
 
 -- what stands where the transaction of a key stands
@@ -122,6 +127,7 @@ ended old key place transactions here left room = record {
   connections = refl;
   transactions = room;
   lines = refl;
+  outcome = refl;
 }
 
 -- Connections
@@ -137,6 +143,7 @@ changed_at old number f place item value here is same = record {
   connections = capacity-written old.connections place value;
   transactions = refl;
   lines = refl;
+  outcome = refl;
 }
 
 -- a connection is taken out where it stands, and its boxes are handed back
@@ -156,7 +163,29 @@ removed old number place connections made connection there here found is left ro
       connections = room;
       transactions = refl;
       lines = ap (λ m. length m.answer.sent + m.free) back;
+      outcome = refl;
     }
+
+-- Whether a party may go out
+
+pub may_idle : (key : Key) (w : Work) → IsIdle w.answer → MayDispatch key w
+may_idle key w idle t party found here = idle
+
+-- what the transaction of a key was before one change of it
+pub altered_from : (key : Key) (f : Transaction → Transaction) (w : Work) (t : Transaction) → ((u : Transaction) → (f u).key ≡ u.key) → transaction_of key (alter key f w).state ≡ Some t → (u : Transaction) × (transaction_of key w.state ≡ Some u) × (t ≡ f u)
+altered_from key f w t keyed found = step (transaction_of key w.state) refl where
+  step : (before : Option Transaction) → transaction_of key w.state ≡ before → (u : Transaction) × (transaction_of key w.state ≡ Some u) × (t ≡ f u)
+  step None is = absurd (none-some t (sym is ∙ ap (find (has_key key)) (sym (change_none (has_key key) f w.state.transactions is)) ∙ found))
+  step (Some u) is = (u, is, same_Some t (f u) (sym found ∙ found_changed key f w.state.transactions u is (ap (is_same key) (keyed u) ∙ found_passes (has_key key) w.state.transactions u is)))
+
+pub may_entered : (a b : Held) (key : Key) (phase : Phase) → MayDispatch key (work_of a) → Does a b (enter phase key (work_of a)) → MayDispatch key (work_of b)
+may_entered a b key phase may does = subst (MayDispatch key) (sym does.own) (λ t party found here.
+    let before = altered_from key (entering phase) (work_of a) t (λ u. refl) found in
+    may before.0 party before.1 (sym (ap (λ (u : Transaction). u.place) before.2) ∙ here))
+
+pub may_reacted : (a b : Held) (key : Key) (reaction : Reaction) → MayDispatch key (work_of a) → Does a b (react reaction key (work_of a)) → MayDispatch key (work_of b)
+unfolding react
+may_reacted a b key reaction may does = subst (MayDispatch key) (sym does.own) (λ t party found here. let idle = may t party found here in record { work = idle.work; spent = idle.spent })
 
 -- Replies
 
@@ -228,6 +257,7 @@ module _ (reaction : Reaction) (key : Key) where
     connections = room;
     transactions = refl;
     lines = ap (λ m. length m.answer.sent + m.free) notes ∙ noted_room old.making (of old.connections old.realm) enough;
+    outcome = refl;
   }
 
 pub gone_part : {A : Type 0} (found : Option (Bor A)) (there : Option A) → option_copied found ≡ there → is_some found ≡ false → there ≡ None

@@ -1,16 +1,18 @@
 -- How the tables stand for the work of an event in its realm.
-use Rattle.std.specs.Prelude.{ℕ, ◌≡◌, ◌≢◌, ◌+◌, Bool, [], Option, None, Some, filter, length, map, slice_index_or}
+use Rattle.std.specs.Prelude.{ℕ, ◌≡◌, ◌≢◌, ◌+◌, Bool, true, false, [], Option, None, Some, filter, length, map, slice_index_or}
 use Rattle.std.specs.Option.{option_and_then, option_map_or}
 use Rattle.tip_branch.specs.Notes.{PartyNotes}
 use Rattle.tip_rows.specs.Keys.{Key}
 use Rattle.tip_table.specs.Kept.{capacity, item_at, of}
 use Rattle.tip_machine.specs.Connections.{is_on}
-use Rattle.tip_machine.specs.States.{State, Work, connection_of}
+use Rattle.tip_machine.specs.States.{State, Work, connection_of, transaction_of}
 use Rattle.tip_machine.specs.Transactions.{has_key}
-use Rattle.tip_machine.specs.Types.{Answer, Connection, PartyPlace, seen}
+use Rattle.tip_machine.specs.Types.{Answer, Connection, PartyPlace, Transaction, seen}
 use Rattle.tip_machine.specs.declared.head.Head.{Head}
 use Rattle.tip_machine.specs.declared.connection.Role.{Role}
 use Rattle.tip_machine.specs.declared.connection.Role.TheVariants.{Superior, Subordinate}
+use Rattle.tip_machine.specs.declared.transaction.Origin.{Origin}
+use Rattle.tip_machine.specs.declared.transaction.Origin.TheVariants as origin
 use Rattle.tip_machine.specs.declared.transaction.PartyPlace.TheVariants.{Here, Out, Spent}
 use Rattle.tip_machine.specs.declared.transaction.Transaction as transaction
 use Rattle.tip_core.specs.Makings.{Made}
@@ -59,6 +61,7 @@ pub record Does (old new : Held) (work : Work) : Type 0 where
   pub connections : capacity new.connections ≡ capacity old.connections
   pub transactions : capacity new.transactions ≡ capacity old.transactions
   pub lines : lines_in new ≡ lines_in old
+  pub outcome : new.outcome ≡ old.outcome
 
 -- how many lines the connections on a transaction may need, where each reacts once
 abbrev pub lines_for : Key → State → ℕ
@@ -88,3 +91,13 @@ party_here place held = option_and_then (λ transaction. party_at transaction.pl
 pub record IsIdle (answer : Answer) : Type 0 where
   pub work : answer.work ≡ None
   pub spent : answer.spent ≡ None
+
+-- where the party of a transaction is here, none goes out or is let go so far
+abbrev pub MayDispatch : Key → Work → Type 0
+MayDispatch key work = (transaction : Transaction) (party : PartyNotes) → transaction_of key work.state ≡ Some transaction → transaction.place ≡ Here party → IsIdle work.answer
+
+-- is its superior at an address, where it can be reached again?
+abbrev pub has_superior : Origin → Bool
+has_superior origin.Root = false
+has_superior (origin.Subordinate None superior) = false
+has_superior (origin.Subordinate (Some address) superior) = true

@@ -5,6 +5,7 @@ mod connections;
 mod failing;
 mod machine;
 mod making;
+mod outcome;
 mod query;
 mod reaction;
 mod realms;

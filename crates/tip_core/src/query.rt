@@ -1,9 +1,10 @@
 //! What is looked for in the tables.
-ghost use Rattle.tip_machine.specs.Connections.{has_number, is_on};
+ghost use Rattle.std.specs.Prelude.{◌≡◌};
+ghost use Rattle.tip_machine.specs.Connections.{asks_for, has_number, is_on, is_superior_of};
 ghost use Rattle.tip_core.specs.Works.{is_keyed};
 
 use crate::reaction::is_on;
-use tip_machine::{Connection, Transaction};
+use tip_machine::{Connection, Role, Transaction};
 use tip_rows::Key;
 use tip_table::Test;
 
@@ -47,4 +48,25 @@ impl Test<Connection> for OnKey {
     fn passes(&self, connection: &Connection) -> bool {
         is_on(connection.role, self.key)
     }
+}
+
+/// The connection of the superior of a transaction.
+#[derive(Clone, Copy, Debug)]
+pub struct SuperiorOf {
+    pub key: Key,
+}
+
+impl Test<Connection> for SuperiorOf {
+    ghost passes = { λ query connection. is_superior_of query.key connection };
+
+    fn passes(&self, connection: &Connection) -> bool {
+        asks_for(connection.role, self.key)
+    }
+}
+
+/// Whether a connection of this role is the one of the superior of that transaction.
+fn asks_for(role: Option<Role>, key: Key) -> bool
+    ensures { result ≡ asks_for key role }
+{
+    role == Some(Role::Superior(key))
 }

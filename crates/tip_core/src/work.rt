@@ -11,15 +11,15 @@ ghost use Rattle.tip_machine.specs.Reactions.{react};
 ghost use Rattle.tip_core.specs.Reacting.{reaction_of};
 ghost use Rattle.tip_machine.specs.States.{transaction_of};
 ghost use Rattle.tip_machine.specs.Transactions.{has_ready, is_spent, noting, standing_at};
-ghost use Rattle.tip_machine.specs.Types.{seen, Transaction as ATransaction};
-ghost use Rattle.tip_core.specs.Works.{Does, is_keyed, IsIdle, lines_for, party_here, work_of};
+ghost use Rattle.tip_machine.specs.Types.{seen};
+ghost use Rattle.tip_core.specs.Works.{Does, is_keyed, lines_for, MayDispatch, party_here, work_of};
 
 use crate::making::Making;
 use crate::query::{Keyed, OnKey};
 use crate::reaction::{Progress, Reaction};
 use std::mem;
 use tip_branch::{Errand, HeldParty, Member};
-use tip_machine::{Connection, Head, Item, PartyPlace, Transaction};
+use tip_machine::{Connection, Head, Item, Outcome, PartyPlace, Transaction};
 use tip_rows::Key;
 use tip_table::Table;
 use tip_txn::{Ballot, Part, Phase, Txn};
@@ -32,6 +32,8 @@ pub struct Work<C = Connection, T = Transaction, M = Making> {
     pub transactions: Table<T>,
     /// The realm whose event is at hand.
     pub realm: usize,
+    /// What became of the change of the stored rows that the event wants.
+    pub outcome: Outcome,
     pub making: M,
 }
 
@@ -73,10 +75,9 @@ impl Work<Connection, Transaction, Making> {
         }
     }
 
-    /// The answer of a part is noted, where there is such a part; it has none yet.
+    /// The answer of a part is noted, where there is such a part.
     pub(crate) fn note(&mut self, key: Key, place: usize, part: Part, answer: Ballot)
-        requires stands { StandsAt self.old.transactions self.old.realm (is_keyed key) place }
-        requires open { (transaction : ATransaction) → transaction_of key (work_of self.old).state ≡ Some transaction → answer_at transaction.parts part ≡ None }
+        requires { StandsAt self.old.transactions self.old.realm (is_keyed key) place }
         ensures { Does self.old self.new (alter key (noting part (answered answer)) (work_of self.old)) }
     {
         let transaction = self.transactions.item_mut(place);
@@ -84,7 +85,7 @@ impl Work<Connection, Transaction, Making> {
     }
 
     /// The transaction of a key is open no more.
-    fn end(&mut self, key: Key, place: usize) -> Transaction
+    pub(crate) fn end(&mut self, key: Key, place: usize) -> Transaction
         requires { StandsAt self.old.transactions self.old.realm (is_keyed key) place }
         ensures taken { transaction_of key (work_of self.old).state ≡ Some (seen result) }
         ensures left { Does self.old self.new (end key (work_of self.old)) }
@@ -95,7 +96,8 @@ impl Work<Connection, Transaction, Making> {
     /// Each connection on the transaction reacts.
     pub fn react(&mut self, reaction: Reaction, key: Key)
         requires { lines_for key (work_of self.old).state ≤ self.old.making.free }
-        ensures { Does self.old self.new (react (reaction_of reaction) key (work_of self.old)) }
+        ensures does { Does self.old self.new (react (reaction_of reaction) key (work_of self.old)) }
+        ensures others { self.new ≡ record self.old { connections = self.new.connections; making = self.new.making } }
     {
         let progress = Progress { reaction, key };
         self.connections
@@ -125,7 +127,7 @@ impl Work<Connection, Transaction, Making> {
     }
 
     /// The party, which is with the transaction, goes out for an errand.
-    fn give_out(&mut self, key: Key, place: usize, errand: Errand)
+    pub(crate) fn give_out(&mut self, key: Key, place: usize, errand: Errand)
         requires stands { StandsAt self.old.transactions self.old.realm (is_keyed key) place }
         requires here { IsSome (party_here place self.old) }
         requires none { self.old.making.answer.work ≡ None }
@@ -137,7 +139,7 @@ impl Work<Connection, Transaction, Making> {
     }
 
     /// The party, which is with the transaction, is let go.
-    fn let_go(&mut self, key: Key, place: usize)
+    pub(crate) fn let_go(&mut self, key: Key, place: usize)
         requires stands { StandsAt self.old.transactions self.old.realm (is_keyed key) place }
         requires here { IsSome (party_here place self.old) }
         requires none { self.old.making.answer.spent ≡ None }
@@ -150,7 +152,7 @@ impl Work<Connection, Transaction, Making> {
     /// A party that is here goes out to be told the outcome, where a branch waits for it; else it is let go.
     #[tactic(auto, using(crate::proofs::Proceeding::dispatching))]
     pub fn dispatch(&mut self, key: Key)
-        requires none { IsIdle self.old.making.answer }
+        requires none { MayDispatch key (work_of self.old) }
         ensures { Does self.old self.new (dispatch key (work_of self.old)) }
     {
         let Some(place) = self.transaction(key) else {
@@ -182,7 +184,7 @@ impl Work<Connection, Transaction, Making> {
     #[tactic(auto, using(crate::proofs::Proceeding::aborting))]
     pub fn abort(&mut self, key: Key)
         requires lines { lines_for key (work_of self.old).state ≤ self.old.making.free }
-        requires none { IsIdle self.old.making.answer }
+        requires none { MayDispatch key (work_of self.old) }
         ensures { Does self.old self.new (abort key (work_of self.old)) }
     {
         self.enter(key, Phase::Aborted);
@@ -210,7 +212,7 @@ fn has_ready(party: &HeldParty) -> bool
 }
 
 /// Whether a party is done, and let go.
-fn is_spent(place: &PartyPlace) -> bool
+pub(crate) fn is_spent(place: &PartyPlace) -> bool
     ensures { result ≡ is_spent place.now }
 {
     matches!(place, PartyPlace::Spent)
@@ -218,7 +220,6 @@ fn is_spent(place: &PartyPlace) -> bool
 
 /// A part gives its answer, where there is such a part.
 fn answer_part(txn: &mut Txn, part: Part, answer: Ballot)
-    requires { answer_at txn.old.parts part ≡ None }
     ensures { txn.new ≡ record txn.old { parts = changed_at part (answered answer) txn.old.parts } }
 {
     if txn.part(part).is_some() {

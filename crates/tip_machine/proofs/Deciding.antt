@@ -4,12 +4,12 @@ use Rattle.std.specs.Prelude.{◌||◌, map, is_none}
 use Rattle.std.specs.List.{list_any}
 use Rattle.std.proofs.lemmas.Option.{same_Some, none-some}
 use Rattle.tip_txn.specs.Decisions.{Decides, Refuses, Says}
-use Rattle.tip_txn.specs.Parts.{answers_of}
+use Rattle.tip_txn.specs.Parts.{answers_of, is_yes}
 use Rattle.tip_txn.specs.declared.answer.Ballot.{Ballot}
 use Rattle.tip_txn.specs.declared.answer.Ballot.TheVariants as answers
 use Rattle.tip_txn.specs.declared.answer.Decision.TheVariants as decisions
 use Rattle.tip_txn.specs.declared.part.Participant.{Participant}
-use Rattle.tip_machine.specs.Transactions.{is_yes, decision, refuses}
+use Rattle.tip_machine.specs.Transactions.{decision, refuses}
 
 -- what the parts answer
 abbrev said_by : List Participant → List (Option Ballot)

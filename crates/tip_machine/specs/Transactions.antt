@@ -10,7 +10,7 @@ use Rattle.tip_branch.specs.Votes.{ballot}
 use Rattle.tip_rows.specs.Keys.{Key, is_same}
 use Rattle.tip_rows.specs.declared.row.Row.{Row}
 use Rattle.tip_rows.specs.declared.row.Row.TheVariants as row
-use Rattle.tip_txn.specs.Parts.{is_text, changed_at}
+use Rattle.tip_txn.specs.Parts.{is_text, is_yes, changed_at}
 use Rattle.tip_txn.specs.Transactions.{local_party}
 use Rattle.tip_txn.specs.declared.answer.Ballot.{Ballot}
 use Rattle.tip_txn.specs.declared.answer.Ballot.TheVariants as answer
@@ -129,13 +129,6 @@ refuses (Some answer.Yes) = false
 refuses (Some answer.No) = true
 refuses (Some answer.ReadOnly) = false
 refuses (Some answer.Lost) = true
-
-abbrev pub is_yes : Option Ballot → Bool
-is_yes None = false
-is_yes (Some answer.Yes) = true
-is_yes (Some answer.No) = false
-is_yes (Some answer.ReadOnly) = false
-is_yes (Some answer.Lost) = false
 
 abbrev pub decision : List (Option Ballot) → Decision
 decision answers =

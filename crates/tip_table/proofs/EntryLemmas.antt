@@ -1,6 +1,6 @@
 -- Lists of entries: what a change does to the items of each realm and to where they stand.
 use Rattle.std.proofs.Common.{◌≡◌, ℕ, zero, suc, ◌<◌, List, [], ◌∷◌, ◌++◌, length, get_or, Option, Some, None, Bool, true, false, cond, refl, ap, arith, ◌∙◌, sym, inl, inr}
-use Rattle.std.specs.Prelude.{◌+◌, option_map, ◌==◌, ◌&&◌, if◌then◌else◌, IsSome, count_by, position, slice_get, slice_set, remove}
+use Rattle.std.specs.Prelude.{◌+◌, option_map, ◌==◌, ◌&&◌, if◌then◌else◌, IsSome, count_by, filter, position, slice_get, slice_set, remove}
 use Rattle.std.specs.List.{find, position_from}
 use Rattle.std.specs.Option.{option_and_then}
 use Rattle.std.proofs.lemmas.Bool.{and_parts, cases_Bool}
@@ -28,6 +28,10 @@ length-items_in_cons realm x xs = grind (arith, nat_tests)
 -- how many items a realm has
 pub length-items_in : {T : Type 0} (realm : ℕ) (entries : List (Entry T)) → length (items_in entries realm) ≡ count_by (λ entry. entry.realm == realm) entries
 length-items_in realm entries = is_count_by (λ ys. length (items_in ys realm)) (λ entry. entry.realm == realm) refl (length-items_in_cons realm) entries
+
+-- how many of them pass
+pub counted_in : {T : Type 0} (realm : ℕ) (test : T → Bool) (entries : List (Entry T)) → count_by (λ entry. (entry.realm == realm) && test entry.item) entries ≡ length (filter test (items_in entries realm))
+counted_in realm test entries = sym (is_count_by (λ ys. length (filter test (items_in ys realm))) (λ entry. (entry.realm == realm) && test entry.item) refl (λ x xs. grind (arith, nat_tests)) entries)
 
 -- one entry more at the end
 pub items_in-push : {T : Type 0} (realm : ℕ) (entries : List (Entry T)) (entry : Entry T) → items_in (entries ++ entry ∷ []) realm ≡ (if entry.realm == realm then items_in entries realm ++ entry.item ∷ [] else items_in entries realm)

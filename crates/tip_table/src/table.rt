@@ -1,5 +1,5 @@
 //! One table for the items of many realms.
-ghost use Rattle.std.specs.Prelude.{◌≡◌, ◌≢◌, ◌↔◌, ◌==◌, ◌&&◌, ℕ, ◌+◌, ◌<◌, ◌≤◌, [], ◌∷◌, ◌++◌, Some, None, length, map, position, count_by, IsSome, IsOk, IfSome, OnOk};
+ghost use Rattle.std.specs.Prelude.{◌≡◌, ◌≢◌, ◌↔◌, ◌==◌, ◌&&◌, ℕ, ◌+◌, ◌<◌, ◌≤◌, [], ◌∷◌, ◌++◌, Some, None, filter, length, map, position, count_by, IsSome, IsOk, IfSome, OnOk};
 ghost use Rattle.std.specs.List.{find};
 ghost use Rattle.tip_table.specs.Entries.{IsVisited, Item, items_in};
 ghost use Rattle.tip_table.specs.Kept.{StandsAt, capacity, of, places, item_at, taken_out};
@@ -86,6 +86,14 @@ impl<T: Drop, A: Allocator> Table<T, A> {
         find_in(&self.entries, realm, query)
     }
 
+    /// How many of a realm's items pass.
+    #[tactic(auto, using(crate::proofs::EntryLemmas::counted_in), unfolding(crate::specs::Kept::of))]
+    pub fn count_passing<Q: Test<T>>(&self, realm: usize, query: &Q) -> usize
+        ensures { result ≡ length (filter (Q.passes query.now) (of self.now realm)) }
+    {
+        count_passing_in(&self.entries, realm, query)
+    }
+
     /// The item at a place.
     #[tactic(auto, using(crate::proofs::EntryLemmas::of_entries), unfolding(crate::specs::Kept::of, crate::specs::Kept::places))]
     pub fn item(&self, place: usize) -> &T
@@ -137,6 +145,16 @@ fn count_in<T>(entries: &[Entry<T>], realm: usize) -> usize
     ensures { result ≡ count_by (λ entry. entry.realm == realm) entries.now }
 {
     entries.iter().filter(|entry| entry.realm == realm).count()
+}
+
+/// How many of the entries are a realm's, and pass.
+fn count_passing_in<T, Q: Test<T>>(entries: &[Entry<T>], realm: usize, query: &Q) -> usize
+    ensures { result ≡ count_by (λ entry. (entry.realm == realm) && Q.passes query.now entry.item) entries.now }
+{
+    entries
+        .iter()
+        .filter(|entry| entry.realm == realm && query.passes(&entry.item))
+        .count()
 }
 
 /// The place of the first entry of a realm that passes.

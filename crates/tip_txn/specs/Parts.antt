@@ -1,9 +1,10 @@
 -- The parts of a transaction, the first of which is its local party.
-use Rattle.std.specs.Prelude.{◌≡◌, ℕ, suc, zero, List, [], ◌∷◌, Bool, true, false, ◌&&◌, Option, Some, None, option_map, slice_get}
+use Rattle.std.specs.Prelude.{◌≡◌, ℕ, suc, zero, List, [], ◌∷◌, Bool, true, false, ◌&&◌, ◌||◌, not, Option, Some, None, option_map, slice_get}
 use Rattle.std.specs.List.{list_any}
 use Rattle.std.specs.Option.{option_and_then}
 use Rattle.std.specs.Str.{bytes_eq}
 use Rattle.tip_txn.specs.declared.answer.Ballot.{Ballot}
+use Rattle.tip_txn.specs.declared.answer.Ballot.TheVariants as answer
 use Rattle.tip_txn.specs.declared.part.Participant.{Participant}
 
 -- the set of pairs of a part and its answer
@@ -46,3 +47,14 @@ answered said p = record p { answer = Some said }
 
 abbrev pub acknowledged : Participant → Participant
 acknowledged p = record p { acknowledged = true }
+
+abbrev pub is_yes : Option Ballot → Bool
+is_yes None = false
+is_yes (Some answer.Yes) = true
+is_yes (Some answer.No) = false
+is_yes (Some answer.ReadOnly) = false
+is_yes (Some answer.Lost) = false
+
+-- has it nothing to acknowledge any more? who said yes has, until it has acknowledged the commit (RFC 2371, section 13, COMMIT)
+abbrev pub is_settled : Participant → Bool
+is_settled p = not (is_yes p.answer) || p.acknowledged

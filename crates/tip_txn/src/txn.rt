@@ -1,10 +1,10 @@
 //! A transaction: its phase, its parts and what they answered.
-ghost use Rattle.std.specs.Prelude.{◌≡◌, ◌≢◌, ◌+◌, ◌-◌, ◌<◌, ◌≤◌, ◌↔◌, false, [], ◌∷◌, ◌++◌, length, IsTrue, IsOk, OnOk, OnErr, IfOk, Some, None, is_some, slice_get};
-ghost use Rattle.std.specs.List.{list_any};
+ghost use Rattle.std.specs.Prelude.{◌≡◌, ◌≢◌, ◌+◌, ◌-◌, ◌<◌, ◌≤◌, ◌↔◌, false, [], ◌∷◌, ◌++◌, drop, length, IsTrue, IsOk, OnOk, OnErr, IfOk, Some, None, is_some, slice_get};
+ghost use Rattle.std.specs.List.{list_all, list_any};
 ghost use Rattle.std.specs.Option.{option_copied};
-ghost use Rattle.tip_txn.specs.Parts.{answers_of, answer_at, is_pair, is_enlisted, changed_at, named, answered, acknowledged, enlisted};
+ghost use Rattle.tip_txn.specs.Parts.{answers_of, answer_at, is_pair, is_enlisted, is_settled, changed_at, named, answered, acknowledged, enlisted};
 ghost use Rattle.tip_txn.specs.Decisions.{Decides, Says};
-ghost use Rattle.tip_txn.specs.Transactions.{fresh, recovered, exists_in};
+ghost use Rattle.tip_txn.specs.Transactions.{fresh, local_party, recovered, exists_in};
 ghost use Rattle.tip_txn.specs.declared.answer.Phase.TheVariants.{Active, Asking};
 ghost use Rattle.tip_txn.specs.declared.txn.EnlistFault.TheVariants.{NotActive, Twice};
 
@@ -119,10 +119,9 @@ impl<A: Allocator> Txn<A> {
         self.phase = Phase::Asking;
     }
 
-    /// A part's answer, of which each part gives one.
+    /// A part's answer, in place of an earlier one.
     pub fn answer(&mut self, part: Part, answer: Ballot)
-        requires there { part < length self.old.parts }
-        requires open { answer_at self.old.parts part ≡ None }
+        requires { part < length self.old.parts }
         ensures { self.new ≡ record self.old { parts = changed_at part (answered answer) self.old.parts } }
     {
         match part.place() {
@@ -146,15 +145,15 @@ impl<A: Allocator> Txn<A> {
     pub fn decide(&self) -> Decision
         ensures { Decides (answers_of self.now.parts) result }
     {
-        if self.has(Some(Ballot::No)) || self.has(Some(Ballot::Lost)) {
-            Decision::Abort
-        } else if self.has(None) {
-            Decision::Wait
-        } else if self.has(Some(Ballot::Yes)) {
-            Decision::Commit
-        } else {
-            Decision::ReadOnly
-        }
+        decision(&self.local, &self.others)
+    }
+
+    /// What they decide once the local party has given this answer.
+    #[tactic(auto, using(crate::proofs::PartLemmas::decides_same))]
+    pub fn decide_with(&self, local: Ballot) -> Decision
+        ensures { Decides (answers_of (changed_at 0 (answered local) self.now.parts)) result }
+    {
+        decision(&answering(local), &self.others)
     }
 
     /// Enters the phase that an outcome leads to.
@@ -199,11 +198,11 @@ impl<A: Allocator> Txn<A> {
         self.phase != Phase::Aborted
     }
 
-    /// Whether some party has this answer, or none where it is None.
-    fn has(&self, answer: Option<Ballot>) -> bool
-        ensures { IsTrue result ↔ Says (answers_of self.now.parts) answer }
+    /// Whether each subordinate that said yes has acknowledged the commit.
+    pub fn is_acknowledged(&self) -> bool
+        ensures { result ≡ list_all is_settled (drop 1 self.now.parts) }
     {
-        says(&self.local, answer) || have(&self.others, answer)
+        are_settled(&self.others)
     }
 
     /// Whether a part has this address and identifier.
@@ -221,11 +220,41 @@ fn name(participant: &mut Participant, id: Id)
     participant.id = Some(id);
 }
 
-/// Whether a part has this answer, or none where it is None.
-fn says(part: &Participant, answer: Option<Ballot>) -> bool
-    ensures { IsTrue result ↔ (part.now.answer ≡ answer) }
+/// Whether each part that said yes has acknowledged the commit.
+fn are_settled(parts: &[Participant]) -> bool
+    ensures { result ≡ list_all is_settled parts.now }
 {
-    part.answer == answer
+    parts.iter().all(is_settled)
+}
+
+/// Whether a part has nothing to acknowledge any more.
+fn is_settled(part: &Participant) -> bool
+    ensures { result ≡ is_settled part.now }
+{
+    part.answer != Some(Ballot::Yes) || part.acknowledged
+}
+
+/// What the local party and the others decide.
+fn decision(local: &Participant, others: &[Participant]) -> Decision
+    ensures { Decides (answers_of (local.now ∷ others.now)) result }
+{
+    if says(local, others, Some(Ballot::No)) || says(local, others, Some(Ballot::Lost)) {
+        Decision::Abort
+    } else if says(local, others, None) {
+        Decision::Wait
+    } else if says(local, others, Some(Ballot::Yes)) {
+        Decision::Commit
+    } else {
+        Decision::ReadOnly
+    }
+}
+
+/// Whether the local party, or one of the others, has this answer, or none where it is None.
+#[tactic(auto, using(crate::proofs::PartLemmas::saying))]
+fn says(local: &Participant, others: &[Participant], answer: Option<Ballot>) -> bool
+    ensures { IsTrue result ↔ Says (answers_of (local.now ∷ others.now)) answer }
+{
+    local.answer == answer || have(others, answer)
 }
 
 /// Whether one of the parts has this answer, or none where it is None.
@@ -260,6 +289,18 @@ fn unanswered(address: Option<Address>, id: Option<Id>) -> Participant
         address,
         id,
         answer: None,
+        acknowledged: false,
+    }
+}
+
+/// A party of this answer.
+fn answering(answer: Ballot) -> Participant
+    ensures { result ≡ answered answer local_party }
+{
+    Participant {
+        address: None,
+        id: None,
+        answer: Some(answer),
         acknowledged: false,
     }
 }

@@ -6,6 +6,7 @@ use Rattle.std.specs.Str.{bytes_eq}
 use Rattle.tip_conn.specs.declared.state.State.TheVariants as state
 use Rattle.tip_branch.specs.declared.member.Errand.TheVariants as errand
 use Rattle.tip_line.specs.declared.command.CommandName.TheVariants as command
+use Rattle.tip_txn.specs.Parts.{is_yes}
 use Rattle.tip_txn.specs.declared.answer.Ballot.{Ballot}
 use Rattle.tip_txn.specs.declared.answer.Ballot.TheVariants.{Yes, ReadOnly}
 use Rattle.tip_txn.specs.declared.answer.Decision.{Decision}
@@ -19,7 +20,7 @@ use Rattle.tip_machine.specs.Invariants.Links.{Link, link}
 use Rattle.tip_machine.specs.Invariants.Links.Link.{Gone, Owes, Awaits}
 use Rattle.tip_machine.specs.Invariants.Parties.{are_unasked, has_left, has_promised, is_its_own}
 use Rattle.tip_machine.specs.States.{State}
-use Rattle.tip_machine.specs.Transactions.{is_yes, decision_of, is_spent}
+use Rattle.tip_machine.specs.Transactions.{decision_of, is_spent}
 use Rattle.tip_machine.specs.declared.connection.Awaited.TheVariants as awaited
 use Rattle.tip_machine.specs.declared.transaction.Origin.{Origin}
 use Rattle.tip_machine.specs.declared.transaction.Origin.TheVariants as origin

@@ -2,13 +2,10 @@ use Rattle.std.proofs.Common.{ap}
 use Rattle.tip_machine.specs.Transactions.{noting}
 use Rattle.tip_machine.specs.Types.{seen}
 use Rattle.tip_txn.specs.Parts.{answered}
-use Rattle.tip_core.proofs.Works.{altered, standing_key}
+use Rattle.tip_core.proofs.Works.{altered}
 use Rattle.tip_core.proofs.work.Work+Connection+Transaction+Making.note.Goals as goal
-
-pub answer_part-requires : goal.answer_part-requires
-answer_part-requires g c = c.requires.open (seen c.item_mut-transaction.result.now) (standing_key c.args.self.now c.args.key c.args.place c.item_mut-transaction.result.now c.requires.stands c.item_mut-transaction.ensures.value)
 
 pub returns : goal.returns
 returns g c =
     let item = c.item_mut-transaction.result.now in
-    altered c.args.self.now c.args.key (noting c.args.part (answered c.args.answer)) c.args.place item (record item { txn = c.answer_part.new.txn }) c.requires.stands c.item_mut-transaction.ensures.value (ap (λ txn. seen (record item { txn = txn })) c.answer_part.ensures)
+    altered c.args.self.now c.args.key (noting c.args.part (answered c.args.answer)) c.args.place item (record item { txn = c.answer_part.new.txn }) c.requires c.item_mut-transaction.ensures.value (ap (λ txn. seen (record item { txn = txn })) c.answer_part.ensures)

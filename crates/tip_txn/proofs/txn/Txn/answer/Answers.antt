@@ -8,6 +8,6 @@ use Rattle.tip_txn.proofs.txn.Txn.answer.Goals as goal
 pub returns-in_default : goal.returns-in_default
 returns-in_default g c =
     let t = c.self.inside in
-    let there : c.args.part < length (t.local ∷ t.others.items) = rw (← c.self.view_is) at c.requires.there in
+    let there : c.args.part < length (t.local ∷ t.others.items) = rw (← c.self.view_is) at c.requires in
     let parts = changed_at-behind t.local t.others.items c.place.result (answered c.args.answer) c.index_mut.result.now (omega arith) (omega arith) c.index_mut.ensures.value in
     rw (← c.self.view_is, ← c.place.ensures) (ap (λ (ps : List Participant). let seen : Transaction = record { phase = t.phase; parts = ps; spare = vec_capacity t.others - vec_len t.others } in seen) parts)
