@@ -1,7 +1,9 @@
+pub mod Rooms
 pub mod Works
 pub mod Proceeding
 pub mod Losing
 pub mod Outcomes
+pub mod Openings
 pub mod Tables
 pub mod Doing
 pub mod Stepping

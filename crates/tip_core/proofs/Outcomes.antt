@@ -300,6 +300,7 @@ may_asked a b key may does = subst (MayDispatch key) (sym does.own) (step (trans
       absurd (out_here errand.Vote other (sym (ap (λ (v : Transaction). v.place) before.2) ∙ here))
   at t found (Out errand) is = may
   at t found Spent is = may
+
   step : (found : Option Transaction) → transaction_of key (work_of a).state ≡ found → MayDispatch key (on found (λ t. asked_for_votes t.place key) (work_of a))
   step None is = may
   step (Some t) is = at t is t.place refl

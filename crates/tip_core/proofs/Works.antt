@@ -197,7 +197,7 @@ replied a b c number command said first second = then a b c (change number (adva
 
 module _ (reaction : Reaction) (key : Key) where
   abbrev pub notes : Made → Connection → Made
-  notes made connection = record { answer = record made.answer { sent = made.answer.sent ++ sent_by reaction key connection }; free = made.free - length (sent_by reaction key connection) }
+  notes made connection = record made { answer = record made.answer { sent = made.answer.sent ++ sent_by reaction key connection }; free = made.free - length (sent_by reaction key connection) }
 
   abbrev pub may : Made → Connection → Type 0
   may made connection = is_on key connection ≡ true → 0 < made.free

@@ -1,3 +1,4 @@
+pub mod Rooms
 pub mod Makings
 pub mod Works
 pub mod Reacting

@@ -1,13 +1,16 @@
 -- What is seen of an answer in the making.
-use Rattle.std.specs.Prelude.{ℕ, ◌≡◌, ◌-◌, ◌++◌, List, length, map}
+use Rattle.std.specs.Prelude.{ℕ, ◌≡◌, ◌-◌, ◌++◌, List, Option, length, map}
 use Rattle.tip_machine.specs.declared.answer.Item.{Item}
 use Rattle.tip_machine.specs.declared.answer.Sent.{Sent}
 use Rattle.tip_machine.specs.Types.{Answer}
+use Rattle.tip_core.specs.Rooms.{TransactionRoom}
 
 pub record Made : Type 0 where
   pub answer : Answer
   -- how many lines and closings can still go out
   pub free : ℕ
+  -- room for a transaction, where the event may begin one
+  pub room : Option TransactionRoom
 
 -- these items on a connection
 abbrev pub items_on : ℕ → List Item → List Sent
@@ -15,4 +18,4 @@ items_on number items = map (λ item. record { connection = number; item = item 
 
 -- these lines and closings more go out
 abbrev pub GoOut : Made → Made → List Sent → Type 0
-GoOut old new said = new ≡ record { answer = record old.answer { sent = old.answer.sent ++ said }; free = old.free - length said }
+GoOut old new said = new ≡ record old { answer = record old.answer { sent = old.answer.sent ++ said }; free = old.free - length said }

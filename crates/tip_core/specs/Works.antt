@@ -1,12 +1,12 @@
 -- How the tables stand for the work of an event in its realm.
-use Rattle.std.specs.Prelude.{ℕ, ◌≡◌, ◌≢◌, ◌+◌, Bool, true, false, [], Option, None, Some, filter, length, map, slice_index_or}
+use Rattle.std.specs.Prelude.{ℕ, ◌≡◌, ◌≢◌, ◌+◌, ◌<◌, ◌∷◌, ◌++◌, Bool, true, false, [], Option, None, Some, filter, length, map, slice_index_or}
 use Rattle.std.specs.Option.{option_and_then, option_map_or}
 use Rattle.tip_branch.specs.Notes.{PartyNotes}
 use Rattle.tip_rows.specs.Keys.{Key}
 use Rattle.tip_table.specs.Kept.{capacity, item_at, of}
 use Rattle.tip_machine.specs.Connections.{is_on}
-use Rattle.tip_machine.specs.States.{State, Work, connection_of, transaction_of}
-use Rattle.tip_machine.specs.Transactions.{has_key}
+use Rattle.tip_machine.specs.States.{State, Work, connection_of, has_room, transaction_of}
+use Rattle.tip_machine.specs.Transactions.{has_key, next_key}
 use Rattle.tip_machine.specs.Types.{Answer, Connection, PartyPlace, Transaction, seen}
 use Rattle.tip_machine.specs.declared.head.Head.{Head}
 use Rattle.tip_machine.specs.declared.connection.Role.{Role}
@@ -15,7 +15,9 @@ use Rattle.tip_machine.specs.declared.transaction.Origin.{Origin}
 use Rattle.tip_machine.specs.declared.transaction.Origin.TheVariants as origin
 use Rattle.tip_machine.specs.declared.transaction.PartyPlace.TheVariants.{Here, Out, Spent}
 use Rattle.tip_machine.specs.declared.transaction.Transaction as transaction
+use Rattle.tip_machine.specs.declared.event.Seat.{Seat}
 use Rattle.tip_core.specs.Makings.{Made}
+use Rattle.tip_core.specs.Rooms.{room_for}
 use Rattle.tip_core.specs.declared.work.Work as declared
 
 abbrev pub HeldTransaction : Type 0
@@ -101,3 +103,33 @@ abbrev pub has_superior : Origin → Bool
 has_superior origin.Root = false
 has_superior (origin.Subordinate None superior) = false
 has_superior (origin.Subordinate (Some address) superior) = true
+
+-- Steps that make something new
+
+-- a connection more is given
+abbrev pub counting : Work → Work
+counting work = record work { state = record work.state { head = record work.state.head { given = work.state.head.given + 1 } } }
+
+-- a connection joins
+abbrev pub joining : Connection → Work → Work
+joining connection work = record work { state = record work.state { connections = work.state.connections ++ connection ∷ [] } }
+
+-- a transaction begins
+abbrev pub beginning : Transaction → Work → Work
+beginning transaction work = record work { state = record work.state { transactions = work.state.transactions ++ transaction ∷ [] } }
+
+-- a new connection is shown
+abbrev pub showing : Seat → Work → Work
+showing seat work = record work { answer = record work.answer { opened = Some seat } }
+
+-- A transaction can be made on a connection.
+pub record CanMake (held : Held) (connection : Connection) : Type 0 where
+  pub made : connection.made < (work_of held).state.head.entries
+  pub number : 0 < connection.number
+  pub epoch : 0 < (work_of held).state.head.epoch
+  pub place : 0 < held.transactions.free
+  pub room : held.making.room ≡ Some (room_for (work_of held).state.head (next_key (work_of held).state.head connection))
+
+-- the same of the connection of a number, where the realm has room
+abbrev pub MayMake : ℕ → Held → Type 0
+MayMake number held = (connection : Connection) → connection_of number (work_of held).state ≡ Some connection → has_room connection (work_of held).state ≡ true → CanMake held connection

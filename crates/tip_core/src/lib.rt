@@ -5,6 +5,7 @@ mod connections;
 mod failing;
 mod machine;
 mod making;
+mod opening;
 mod outcome;
 mod query;
 mod reaction;
@@ -12,6 +13,7 @@ mod realms;
 mod room;
 mod rules;
 mod starts;
+mod transaction_room;
 mod work;
 
 pub use machine::{Core, Run};

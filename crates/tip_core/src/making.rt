@@ -1,8 +1,9 @@
 //! An answer in the making.
-ghost use Rattle.std.specs.Prelude.{◌≡◌, ◌+◌, ◌<◌, ◌≤◌, [], ◌∷◌, ◌++◌, None, Some, IfOk};
+ghost use Rattle.std.specs.Prelude.{◌≡◌, ◌+◌, ◌<◌, ◌≤◌, [], ◌∷◌, ◌++◌, None, Some, IfOk, IsSome};
 ghost use Rattle.tip_machine.specs.Answers.{silence};
 ghost use Rattle.tip_machine.specs.Steps.{returned};
 
+use crate::transaction_room::TransactionRoom;
 use std::alloc::{AllocError, Global};
 use std::marker::Model;
 use tip_branch::{HeldFresh, HeldParty};
@@ -19,6 +20,7 @@ pub struct Making {
     spent: Option<HeldParty>,
     unused: Option<HeldFresh>,
     entry: Option<u32>,
+    room: Option<TransactionRoom>,
 }
 
 impl Model for Making {
@@ -30,14 +32,20 @@ impl Model for Making {
     ghost view = { λ m. record {
       answer = record { refusal = m.refusal; opened = m.opened; sent = m.sent.items; work = m.work; spent = m.spent; unused = m.unused; entry = m.entry };
       free = vec_capacity m.sent - vec_len m.sent;
+      room = m.room;
     } };
 }
 
 impl Making {
-    /// An answer with nothing in it, which has room for so many lines and closings.
-    pub fn new(alloc: Global, lines: usize) -> Result<Making, AllocError>
+    /// An answer with nothing in it, which has room for so many lines and closings, and for a transaction if it is given.
+    pub fn new(
+        alloc: Global,
+        lines: usize,
+        room: Option<TransactionRoom>,
+    ) -> Result<Making, AllocError>
         ensures answer { IfOk result (λ making. making.answer ≡ silence) }
-        ensures room { IfOk result (λ making. lines ≤ making.free) }
+        ensures lines { IfOk result (λ making. lines ≤ making.free) }
+        ensures room { IfOk result (λ making. making.room ≡ room) }
     {
         Ok(Making {
             refusal: None,
@@ -47,6 +55,7 @@ impl Making {
             spent: None,
             unused: None,
             entry: None,
+            room,
         })
     }
 
@@ -54,8 +63,21 @@ impl Making {
         requires { 0 < self.old.free }
         ensures answer { self.new.answer ≡ record self.old.answer { sent = self.old.answer.sent ++ record { connection = connection; item = item } ∷ [] } }
         ensures free { self.new.free + 1 ≡ self.old.free }
+        ensures room { self.new.room ≡ self.old.room }
     {
         self.sent.push_reserved(Sent { connection, item });
+    }
+
+    /// The room for a transaction that begins.
+    pub fn take_room(&mut self) -> TransactionRoom
+        requires { IsSome self.old.room }
+        ensures taken { self.old.room ≡ Some result }
+        ensures left { self.new ≡ record self.old { room = None } }
+    {
+        match self.room.take() {
+            Some(room) => room,
+            None => unreachable!(),
+        }
     }
 
     pub fn refuse(&mut self, why: Refusal)
@@ -134,6 +156,7 @@ impl Making {
             spent,
             unused,
             entry,
+            room: _,
         } = self;
         Answer {
             refusal,

@@ -112,7 +112,7 @@ impl Visit<Connection, Making> for Progress {
 
     ghost noted = { λ progress making connection.
         let said = sent_by (reaction_of progress.reaction) progress.key connection in
-        record { answer = record making.answer { sent = making.answer.sent ++ said }; free = making.free - length said } };
+        record making { answer = record making.answer { sent = making.answer.sent ++ said }; free = making.free - length said } };
 
     ghost may = { λ progress making connection. is_on progress.key connection ≡ true → 0 < making.free };
 

@@ -36,7 +36,7 @@ impl Room {
         ensures change { IfOk result (λ room. room.change ≡ change) }
     {
         Ok(Room {
-            making: Making::new(alloc, lines)?,
+            making: Making::new(alloc, lines, None)?,
             change,
         })
     }
