@@ -4,6 +4,7 @@ pub mod Proceeding
 pub mod Losing
 pub mod Outcomes
 pub mod Openings
+pub mod Beginnings
 pub mod Tables
 pub mod Doing
 pub mod Stepping

@@ -62,3 +62,5 @@ opened_all a b c d boxes seat is next first second third =
 pub ruleset joining_one = (joined)
 
 pub ruleset opening = (opened_not, opened_all)
+
+pub ruleset beginning_one = (begun_more)

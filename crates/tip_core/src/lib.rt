@@ -1,6 +1,7 @@
 //! The machines of all realms, over tables that the realms share. Contracts see them realm by realm.
 #![tactic(auto)]
 
+mod beginning;
 mod connections;
 mod failing;
 mod machine;

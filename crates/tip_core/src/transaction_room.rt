@@ -1,6 +1,6 @@
 //! Room for a new transaction.
-ghost use Rattle.std.specs.Prelude.{◌≡◌, IfOk, length};
-ghost use Rattle.tip_machine.specs.Transactions.{next_key};
+ghost use Rattle.std.specs.Prelude.{◌≡◌, IfOk};
+ghost use Rattle.tip_branch.specs.Always.{Always};
 ghost use Rattle.tip_core.specs.Rooms.{room_for};
 
 use std::alloc::{AllocError, Global};
@@ -24,6 +24,7 @@ impl TransactionRoom<PartyRoom> {
     /// Room for the transaction of a key in a realm.
     #[tactic(auto, using(crate::proofs::Rooms::few))]
     pub fn new(alloc: Global, head: &Head, key: Key) -> Result<TransactionRoom, AllocError>
+        requires { Always }
         ensures { IfOk result (λ room. room ≡ room_for head.now key) }
     {
         let branches = head.branches.copy(alloc)?;
