@@ -5,6 +5,7 @@ pub mod Losing
 pub mod Outcomes
 pub mod Openings
 pub mod Beginnings
+pub mod Commanding
 pub mod Tables
 pub mod Doing
 pub mod Stepping

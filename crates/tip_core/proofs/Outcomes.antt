@@ -43,7 +43,7 @@ use Rattle.tip_table.proofs.Standing.{found as found_first}
 use Rattle.tip_core.proofs.Works.{altered_from, may_entered, may_idle, may_reacted, nothing, then}
 
 -- a transaction that is found by its key has it
-key_is : (s : Held) (key : Key) (t : Transaction) → transaction_of key (work_of s).state ≡ Some t → key ≡ t.key
+pub key_is : (s : Held) (key : Key) (t : Transaction) → transaction_of key (work_of s).state ≡ Some t → key ≡ t.key
 key_is s key t found = on_found (λ k. key ≡ k) key (work_of s).state.transactions t found refl
 
 -- What follows

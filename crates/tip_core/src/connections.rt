@@ -43,9 +43,11 @@ impl Work<Connection, Transaction, Making> {
     }
 
     /// A response is owed to this command.
+    #[tactic(auto, using(crate::proofs::Commanding::owing_one))]
     pub fn owe(&mut self, number: u32, place: usize, command: CommandName)
         requires { StandsAt self.old.connections self.old.realm (has_number number) place }
-        ensures { Does self.old self.new (change number (owing command) (work_of self.old)) }
+        ensures does { Does self.old self.new (change number (owing command) (work_of self.old)) }
+        ensures stands { StandsAt self.new.connections self.new.realm (has_number number) place }
     {
         let connection = self.connections.item_mut(place);
         connection.owed = Some(command);

@@ -2,6 +2,7 @@
 #![tactic(auto)]
 
 mod beginning;
+mod commands;
 mod connections;
 mod failing;
 mod machine;

@@ -1,12 +1,14 @@
 //! Room for a new transaction.
-ghost use Rattle.std.specs.Prelude.{◌≡◌, IfOk};
-ghost use Rattle.tip_branch.specs.Always.{Always};
+ghost use Rattle.std.specs.Prelude.{◌≡◌, ◌<◌, IfOk, length};
 ghost use Rattle.tip_core.specs.Rooms.{room_for};
+ghost use Rattle.tip_core.specs.Works.{work_of};
 
+use crate::making::Making;
+use crate::work::Work;
 use std::alloc::{AllocError, Global};
 use tip_branch::PartyRoom;
 use tip_line::{Id, Realm};
-use tip_machine::Head;
+use tip_machine::{Connection, Transaction};
 use tip_rows::{Branches, Key};
 use tip_txn::Txn;
 
@@ -20,13 +22,14 @@ pub struct TransactionRoom<P = PartyRoom> {
     pub txn: Txn,
 }
 
-impl TransactionRoom<PartyRoom> {
-    /// Room for the transaction of a key in a realm.
+impl Work<Connection, Transaction, Making> {
+    /// Room for the transaction of a key in the realm at hand.
     #[tactic(auto, using(crate::proofs::Rooms::few))]
-    pub fn new(alloc: Global, head: &Head, key: Key) -> Result<TransactionRoom, AllocError>
-        requires { Always }
-        ensures { IfOk result (λ room. room ≡ room_for head.now key) }
+    pub fn room_for(&self, alloc: Global, key: Key) -> Result<TransactionRoom, AllocError>
+        requires { self.now.realm < length self.now.heads.items }
+        ensures { IfOk result (λ room. room ≡ room_for (work_of self.now).state.head key) }
     {
+        let head = &self.heads[self.realm];
         let branches = head.branches.copy(alloc)?;
         let count = branches.as_slice().len() as u8;
         Ok(TransactionRoom {
