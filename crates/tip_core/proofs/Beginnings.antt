@@ -1,25 +1,22 @@
 -- What becomes of a realm where a transaction begins.
-use Rattle.std.proofs.Common.{◌≡◌, ◌≢◌, ◌≤◌, ◌<◌, ◌+◌, Bool, true, false, cond, ℕ, suc, List, [], ◌∷◌, ◌++◌, Option, Some, None, Fits, w32, get_or, length, map, refl, ap, arith, sym, subst, ◌∙◌}
-use Rattle.std.specs.Prelude.{◌&&◌, not, drop, find, nat_le, nat_lt, take}
-use Rattle.std.proofs.lemmas.Bool.{and_parts}
+use Rattle.std.proofs.Common.{◌≡◌, ◌≤◌, ◌<◌, ◌+◌, Bool, true, false, cond, ℕ, suc, List, [], ◌∷◌, Some, None, Fits, w32, get_or, length, map, refl, ap, arith, sym, subst, ◌∙◌}
+use Rattle.std.specs.Prelude.{◌&&◌, drop, nat_le, nat_lt, take}
 use Rattle.std.proofs.lemmas.Bool.Decides.{nat_tests}
-use Rattle.std.proofs.lemmas.List.{length-map}
 use Rattle.std.proofs.lemmas.Option.{same_Some, slice_get-get_or}
 use Rattle.tip_branch.specs.Members.{fresh_members}
 use Rattle.tip_branch.specs.Notes.{PartyNotes, idle_party}
 use Rattle.tip_line.specs.declared.command.CommandName.TheVariants as command
-use Rattle.tip_rows.specs.Keys.{IsKey, Key}
-use Rattle.tip_table.specs.Kept.{Kept, StandsAt, item_at, of, with_item_at}
+use Rattle.tip_rows.specs.Keys.{Key}
+use Rattle.tip_table.specs.Kept.{StandsAt, item_at, of, with_item_at}
 use Rattle.tip_table.proofs.Standing.{stands_written}
 use Rattle.tip_table.proofs.Standing.{found as found_first}
 use Rattle.tip_machine.proofs.Walks.{found-number, found_passes}
 use Rattle.tip_machine.specs.Changes.{change, reply}
 use Rattle.tip_machine.specs.Commands.{begin, make, making}
-use Rattle.tip_machine.specs.Connections.{has_number, taking}
+use Rattle.tip_machine.specs.Connections.{has_number}
 use Rattle.tip_machine.specs.States.{Work, connection_of, has_room}
 use Rattle.tip_machine.specs.Transactions.{begun, next_key}
-use Rattle.tip_machine.specs.Types.{Connection, Transaction, seen}
-use Rattle.tip_machine.specs.declared.answer.Said.{Said}
+use Rattle.tip_machine.specs.Types.{Connection, seen}
 use Rattle.tip_machine.specs.declared.answer.Said.TheVariants as said
 use Rattle.tip_machine.specs.declared.connection.Role.TheVariants.{Superior}
 use Rattle.tip_machine.specs.declared.transaction.Origin.{Origin}

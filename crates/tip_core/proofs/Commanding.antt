@@ -1,18 +1,15 @@
 -- What commands come to, case by case.
-use Rattle.std.proofs.Common.{◌≡◌, ◌≢◌, ◌≤◌, ◌+◌, Bool, true, false, cond, ℕ, List, [], ◌∷◌, ◌++◌, Option, Some, None, length, map, refl, ap, arith, sym, subst, ◌∙◌, ◌⊎◌, inl, inr}
+use Rattle.std.proofs.Common.{◌≡◌, ◌≤◌, ◌+◌, Bool, true, false, cond, ℕ, List, [], ◌∷◌, Option, Some, None, length, refl, ap, arith, sym, subst, ◌∙◌, ◌⊎◌, inl, inr}
 use Rattle.std.specs.Prelude.{◌&&◌, filter, find, nat_le}
 use Rattle.std.specs.Option.{option_and_then, option_map_or}
-use Rattle.std.proofs.lemmas.Bool.Decides.{nat_tests}
 use Rattle.std.proofs.lemmas.Option.{same_Some}
 use Rattle.tip_line.specs.declared.command.CommandName.{CommandName}
-use Rattle.tip_line.specs.declared.command.CommandName.TheVariants as command
 use Rattle.tip_rows.specs.Keys.{Key}
 use Rattle.tip_table.specs.Kept.{StandsAt, item_at, with_item_at}
 use Rattle.tip_table.specs.Lists.{changed}
-use Rattle.tip_table.proofs.Standing.{stands_written}
 use Rattle.tip_txn.specs.declared.answer.Phase.{Phase}
 use Rattle.tip_txn.specs.declared.answer.Phase.TheVariants.{Active, Asking, Prepared, Committed, Aborted}
-use Rattle.tip_machine.proofs.Walks.{found-number, found_passes}
+use Rattle.tip_machine.proofs.Walks.{found-number}
 use Rattle.tip_machine.specs.Changes.{attempt_on, change, tell}
 use Rattle.tip_machine.specs.Commands.{decide_abort, decide_commit, identify, obey, superior_role}
 use Rattle.tip_machine.specs.Connections.{has_number, identified, is_on, owing}
@@ -26,7 +23,6 @@ use Rattle.tip_machine.specs.declared.answer.Item.TheVariants.{Say}
 use Rattle.tip_machine.specs.declared.answer.Said.TheVariants as said
 use Rattle.tip_machine.specs.declared.connection.Role.{Role}
 use Rattle.tip_machine.specs.declared.connection.Role.TheVariants.{Subordinate, Superior}
-use Rattle.tip_machine.specs.declared.event.Change.{Change}
 use Rattle.tip_machine.specs.declared.event.Change.TheVariants.{Put, Remove}
 use Rattle.tip_machine.specs.declared.event.Outcome.{Outcome}
 use Rattle.tip_core.specs.Works.{Does, Held, IsIdle, lines_as, lines_at, lines_for, work_of}

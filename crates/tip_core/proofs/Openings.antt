@@ -1,5 +1,5 @@
 -- What becomes of a realm that gets a connection or a transaction more.
-use Rattle.std.proofs.Common.{◌≡◌, ◌≢◌, ◌+◌, Bool, true, false, cond, ℕ, List, [], ◌∷◌, ◌++◌, Option, Some, None, length, map, refl, ap, sym, subst, ◌∙◌}
+use Rattle.std.proofs.Common.{◌≡◌, ◌≢◌, ◌+◌, Bool, true, false, cond, ℕ, List, [], ◌∷◌, ◌++◌, length, map, refl, ap, sym, subst, ◌∙◌}
 use Rattle.tip_branch.specs.declared.branch.Badge.{Badge}
 use Rattle.tip_line.specs.declared.refusal.Refusal.TheVariants.{Full}
 use Rattle.tip_table.specs.Kept.{Kept, capacity, of}
@@ -7,7 +7,7 @@ use Rattle.tip_machine.specs.Changes.{refuse}
 use Rattle.tip_machine.specs.Connections.{accepted}
 use Rattle.tip_machine.specs.Requests.{added, hand_back, opened}
 use Rattle.tip_machine.specs.States.{Work, has_place}
-use Rattle.tip_machine.specs.Types.{Connection, Transaction, seen}
+use Rattle.tip_machine.specs.Types.{Connection, seen}
 use Rattle.tip_machine.specs.declared.event.Seat.{Seat}
 use Rattle.tip_core.specs.Works.{beginning, counting, Does, Held, HeldTransaction, joining, realm_of, showing, work_of}
 use Rattle.tip_core.proofs.Works.{then}

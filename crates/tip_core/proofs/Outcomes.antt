@@ -1,5 +1,5 @@
 -- What follows for a transaction, case by case.
-use Rattle.std.proofs.Common.{◌≡◌, ◌≢◌, ◌≤◌, ◌+◌, Bool, true, false, cond, List, [], ◌∷◌, Option, Some, None, length, map, refl, ap, arith, sym, subst, ◌∙◌, ◌⊎◌, inl, inr, ◌↔◌}
+use Rattle.std.proofs.Common.{◌≡◌, ◌≢◌, ◌≤◌, ◌+◌, Bool, true, false, cond, List, [], ◌∷◌, Option, Some, None, length, refl, ap, arith, sym, subst, ◌∙◌, ◌⊎◌, inl, inr}
 use Rattle.std.specs.Prelude.{◌&&◌, ◌||◌, not, drop, filter, find, ℕ}
 use Rattle.std.specs.List.{list_all}
 use Rattle.std.specs.Option.{option_and_then}
@@ -21,14 +21,14 @@ use Rattle.tip_txn.specs.declared.answer.Phase.TheVariants.{Active, Asking, Prep
 use Rattle.tip_txn.specs.declared.part.Participant.{Participant}
 use Rattle.tip_machine.proofs.Deciding.{decides}
 use Rattle.tip_machine.proofs.Walks.{found_changed, found_passes, on_found}
-use Rattle.tip_machine.specs.Changes.{alter, attempt_on, end, on, on_key}
+use Rattle.tip_machine.specs.Changes.{attempt_on, end, on, on_key}
 use Rattle.tip_machine.specs.Connections.{is_on, is_superior_of}
 use Rattle.tip_machine.specs.Proceeding.{abort, agree, ask, asked_for_votes, commit, conclude, dispatch, enter, finish, give_out, leave, owed_to_superior, proceed, proceed_in, promise, wait}
-use Rattle.tip_machine.specs.Reactions.{Reaction, asks, commits, needs_nothing, promises, react}
+use Rattle.tip_machine.specs.Reactions.{asks, commits, needs_nothing, promises, react}
 use Rattle.tip_machine.specs.States.{Attempt, Work, transaction_of}
 use Rattle.tip_machine.specs.Steps.{chosen}
 use Rattle.tip_machine.specs.Transactions.{decision_of, entering, has_key, is_done, is_spent, row_committed, row_in_doubt, standing_at, subordinates, willing_from}
-use Rattle.tip_machine.specs.Types.{Connection, PartyPlace, Transaction, seen}
+use Rattle.tip_machine.specs.Types.{Connection, PartyPlace, Transaction}
 use Rattle.tip_machine.specs.declared.event.Change.{Change}
 use Rattle.tip_machine.specs.declared.event.Change.TheVariants.{Put, Remove}
 use Rattle.tip_machine.specs.declared.event.Outcome.{Outcome}
@@ -36,7 +36,7 @@ use Rattle.tip_machine.specs.declared.event.Outcome.TheVariants.{NoChange, Store
 use Rattle.tip_machine.specs.declared.transaction.Origin.{Origin}
 use Rattle.tip_machine.specs.declared.transaction.Origin.TheVariants as origin
 use Rattle.tip_machine.specs.declared.transaction.PartyPlace.TheVariants.{Here, Out, Spent}
-use Rattle.tip_core.specs.Works.{Does, has_superior, Held, HeldTransaction, IsIdle, lines_for, MayDispatch, work_of}
+use Rattle.tip_core.specs.Works.{Does, has_superior, Held, lines_for, MayDispatch, work_of}
 use Rattle.tip_core.proofs.Losing.{keyed, same_room, unkeyed}
 use Rattle.tip_core.proofs.Proceeding.{on_some}
 use Rattle.tip_table.proofs.Standing.{found as found_first}

@@ -5,12 +5,11 @@ use Rattle.std.specs.List.{list_any}
 use Rattle.tip_branch.specs.Notes.{PartyNotes}
 use Rattle.tip_branch.specs.declared.member.Errand.{Errand}
 use Rattle.tip_rows.specs.Keys.{Key}
-use Rattle.tip_txn.specs.declared.answer.Phase.{Phase}
 use Rattle.tip_txn.specs.declared.answer.Phase.TheVariants.{Aborted}
 use Rattle.tip_machine.specs.Changes.{end, on, on_key}
 use Rattle.tip_machine.specs.Connections.{is_on}
 use Rattle.tip_machine.specs.Proceeding.{abort, dispatch, dispatched, enter, errand_in, give_out, let_go, release}
-use Rattle.tip_machine.specs.Reactions.{Reaction, aborts, react}
+use Rattle.tip_machine.specs.Reactions.{aborts, react}
 use Rattle.tip_machine.specs.States.{Work, transaction_of}
 use Rattle.tip_machine.specs.Transactions.{has_ready, is_spent}
 use Rattle.tip_machine.specs.Types.{PartyPlace, Transaction, seen}

@@ -1,8 +1,7 @@
 -- How many branches a realm can have.
 use Rattle.std.proofs.Common.{◌≡◌, ◌≤◌, ◌+◌, ℕ, true, List, [], ◌∷◌, length, arith}
-use Rattle.std.proofs.lemmas.Bool.{and_parts}
 use Rattle.std.proofs.lemmas.Bool.Decides.{nat_tests}
-use Rattle.tip_rows.specs.Branches.{are_branches, is_behind}
+use Rattle.tip_rows.specs.Branches.{are_branches}
 
 -- as many as there are numbers from the first one's on
 few_behind : (branch : ℕ × List ℕ) (branches : List (ℕ × List ℕ)) → are_branches (branch ∷ branches) ≡ true → branch.0 + length branches ≤ 8

@@ -1,12 +1,10 @@
 -- The room that a new transaction needs.
-use Rattle.std.specs.Prelude.{ℕ, ◌≡◌, ◌<◌, true, length, Some}
+use Rattle.std.specs.Prelude.{ℕ, ◌<◌, length}
 use Rattle.std.specs.List.{All}
 use Rattle.tip_rows.specs.Keys.{Key}
 use Rattle.tip_txn.specs.Transactions.{fresh}
 use Rattle.tip_machine.specs.Answers.{identifier}
-use Rattle.tip_machine.specs.States.{State, connection_of, has_room}
-use Rattle.tip_machine.specs.Transactions.{next_key}
-use Rattle.tip_machine.specs.Types.{Connection}
+use Rattle.tip_machine.specs.States.{State}
 use Rattle.tip_machine.specs.declared.head.Head.{Head}
 use Rattle.tip_core.specs.declared.transaction_room.TransactionRoom as declared
 

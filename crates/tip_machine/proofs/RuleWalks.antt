@@ -4,8 +4,6 @@ use Rattle.std.specs.Prelude.{◌&&◌, nat_le, not, find, is_some}
 use Rattle.std.specs.List.{list_any}
 use Rattle.std.specs.Option.{IfSome, option_and_then, option_map_or}
 use Rattle.std.proofs.lemmas.Option.{none-some}
-use Rattle.tip_branch.specs.Notes.{PartyNotes}
-use Rattle.tip_branch.specs.declared.member.Errand.{Errand}
 use Rattle.tip_branch.specs.declared.member.Errand.TheVariants as errand
 use Rattle.tip_line.specs.Command.{name_of}
 use Rattle.tip_line.specs.declared.command.Command.{Command}
@@ -29,7 +27,7 @@ use Rattle.tip_txn.specs.declared.part.Participant.{Participant}
 use Rattle.tip_machine.specs.Types.{Connection, PartyPlace, Transaction}
 use Rattle.tip_machine.specs.Answers.{key_asked, key_said, response_name}
 use Rattle.tip_machine.specs.Connections.{is_on, is_superior_of, advanced, advanced_to, identified, awaiting, owing, taking}
-use Rattle.tip_machine.specs.Transactions.{decision_of, enlisting, entering, has_key, has_ready, is_active, is_done, is_known, is_prepared, is_spent, next_key, noting, standing_at}
+use Rattle.tip_machine.specs.Transactions.{decision_of, enlisting, entering, has_key, has_ready, is_active, is_done, is_known, is_prepared, is_spent, next_key, noting}
 use Rattle.tip_machine.specs.States.{Attempt, State, Work, connection_of, has_room, identified_by, transaction_of}
 use Rattle.tip_machine.specs.Changes.{alter, change, end, reply, send, tell}
 use Rattle.tip_machine.specs.Reactions.{aborts, asks, commits, needs_nothing, promises, react}

@@ -8,9 +8,9 @@ use Rattle.tip_branch.specs.declared.member.Errand.{Errand}
 use Rattle.tip_rows.specs.Keys.{Key}
 use Rattle.tip_rows.proofs.OrderLemmas.{same_key}
 use Rattle.tip_table.specs.Lists.{changed, without}
-use Rattle.tip_machine.specs.Types.{Answer, Connection, PartyPlace, Transaction}
+use Rattle.tip_machine.specs.Types.{Connection, PartyPlace, Transaction}
 use Rattle.tip_machine.specs.Answers.{identifier}
-use Rattle.tip_machine.specs.Transactions.{begun, has_id, has_key, next_key, standing_at}
+use Rattle.tip_machine.specs.Transactions.{begun, has_key, next_key, standing_at}
 use Rattle.tip_machine.specs.States.{Work}
 use Rattle.tip_machine.specs.Commands.{make}
 use Rattle.tip_machine.specs.Reactions.{react}

@@ -3,9 +3,8 @@ use Rattle.std.proofs.lemmas.Option.{same_Some}
 use Rattle.tip_line.specs.declared.command.CommandName.TheVariants.{Abort}
 use Rattle.tip_machine.specs.Commands.{decide_abort, superior_role}
 use Rattle.tip_machine.specs.Connections.{owing}
-use Rattle.tip_machine.specs.Transactions.{row_committed}
 use Rattle.tip_machine.specs.Types.{Connection, Transaction, seen}
-use Rattle.tip_machine.specs.declared.event.Change.TheVariants.{Put, Remove}
+use Rattle.tip_machine.specs.declared.event.Change.TheVariants.{Remove}
 use Rattle.tip_core.proofs.Commanding.{aborts_never, aborts_open, aborts_prepared, obeys_nobody, obeys_none, obeys_some, owed_at, owed_for, owing_there}
 use Rattle.tip_core.proofs.commands.Work+Connection+Transaction+Making.obey_abort.Goals as goal
 

@@ -5,7 +5,7 @@ use Rattle.tip_machine.specs.Commands.{decide_commit, superior_role}
 use Rattle.tip_machine.specs.Connections.{owing}
 use Rattle.tip_machine.specs.Transactions.{row_committed}
 use Rattle.tip_machine.specs.Types.{Connection, Transaction, seen}
-use Rattle.tip_machine.specs.declared.event.Change.TheVariants.{Put, Remove}
+use Rattle.tip_machine.specs.declared.event.Change.TheVariants.{Put}
 use Rattle.tip_core.proofs.Commanding.{commits_aborted, commits_active, commits_never, commits_prepared, obeys_nobody, obeys_none, obeys_some, owed_at, owed_for, owing_there}
 use Rattle.tip_core.proofs.commands.Work+Connection+Transaction+Making.obey_commit.Goals as goal
 

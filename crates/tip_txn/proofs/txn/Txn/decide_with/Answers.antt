@@ -1,4 +1,4 @@
-use Rattle.std.proofs.Common.{Some, ap}
+use Rattle.std.proofs.Common.{ap}
 use Rattle.tip_txn.proofs.PartLemmas.{decides_same}
 use Rattle.tip_txn.specs.Parts.{answered}
 use Rattle.tip_txn.proofs.txn.Txn.decide_with.Goals as goal
