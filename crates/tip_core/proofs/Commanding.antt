@@ -4,18 +4,19 @@ use Rattle.std.specs.Prelude.{◌&&◌, filter, find, nat_le}
 use Rattle.std.specs.Option.{option_and_then, option_map_or}
 use Rattle.std.proofs.lemmas.Option.{same_Some}
 use Rattle.tip_line.specs.declared.command.CommandName.{CommandName}
+use Rattle.tip_line.specs.declared.command.CommandName.TheVariants as command
 use Rattle.tip_rows.specs.Keys.{Key}
 use Rattle.tip_table.specs.Kept.{StandsAt, item_at, with_item_at}
 use Rattle.tip_table.specs.Lists.{changed}
 use Rattle.tip_txn.specs.declared.answer.Phase.{Phase}
 use Rattle.tip_txn.specs.declared.answer.Phase.TheVariants.{Active, Asking, Prepared, Committed, Aborted}
 use Rattle.tip_machine.proofs.Walks.{found-number}
-use Rattle.tip_machine.specs.Changes.{attempt_on, change, tell}
-use Rattle.tip_machine.specs.Commands.{decide_abort, decide_commit, identify, obey, superior_role}
+use Rattle.tip_machine.specs.Changes.{attempt_on, change, reply, tell}
+use Rattle.tip_machine.specs.Commands.{decide_abort, decide_commit, exists, identify, obey, query, superior_role}
 use Rattle.tip_machine.specs.Connections.{has_number, identified, is_on, owing}
 use Rattle.tip_machine.specs.Failing.{closed, fail, gone, wrong}
 use Rattle.tip_machine.specs.Proceeding.{abort, ask, commit}
-use Rattle.tip_machine.specs.States.{Attempt, Work, connection_of, transaction_of}
+use Rattle.tip_machine.specs.States.{Attempt, Work, connection_of, identified_by, transaction_of}
 use Rattle.tip_machine.specs.Steps.{chosen}
 use Rattle.tip_machine.specs.Transactions.{row_committed}
 use Rattle.tip_machine.specs.Types.{Connection, Transaction}
@@ -161,3 +162,20 @@ aborts_never b connection outcome t phase same (inl is) = subst (λ p. Does b b 
 aborts_never b connection outcome t phase same (inr is) = subst (λ p. Does b b (chosen (decide_abort p connection t (work_of b)) outcome)) (sym is ∙ same) (nothing b)
 
 pub ruleset obeying = (owed_idle, may_idle)
+
+-- QUERY
+
+module _ (a b : Held) (number : ℕ) (connection : Connection) (found : connection_of number (work_of a).state ≡ Some connection) (superior : List ℕ) where
+  queries_so : (there : Bool) → option_map_or exists (identified_by superior (work_of a).state) false ≡ there → Does a b (reply number command.Query (cond there said.QueriedExists said.QueriedNotFound) (work_of a)) → Does a b (query superior connection (work_of a))
+  unfolding query
+  queries_so there is does =
+      subst (λ n. Does a b (reply n command.Query (cond (option_map_or exists (identified_by superior (work_of a).state) false) said.QueriedExists said.QueriedNotFound) (work_of a))) (sym (found-number number (work_of a).state.connections connection found))
+      (subst (λ t. Does a b (reply number command.Query (cond t said.QueriedExists said.QueriedNotFound) (work_of a))) (sym is) does)
+
+  pub queried_there : (there : Bool) → there ≡ option_map_or exists (identified_by superior (work_of a).state) false → there ≡ true → Does a b (reply number command.Query said.QueriedExists (work_of a)) → Does a b (query superior connection (work_of a))
+  queried_there there same is does = queries_so true (sym same ∙ is) does
+
+  pub queried_none : (there : Bool) → there ≡ option_map_or exists (identified_by superior (work_of a).state) false → there ≡ false → Does a b (reply number command.Query said.QueriedNotFound (work_of a)) → Does a b (query superior connection (work_of a))
+  queried_none there same is does = queries_so false (sym same ∙ is) does
+
+pub ruleset querying = (queried_there, queried_none)

@@ -2,6 +2,7 @@ pub mod Rooms
 pub mod Works
 pub mod Proceeding
 pub mod Losing
+pub mod Identifying
 pub mod Outcomes
 pub mod Openings
 pub mod Beginnings

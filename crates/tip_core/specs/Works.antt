@@ -1,12 +1,12 @@
 -- How the tables stand for the work of an event in its realm.
-use Rattle.std.specs.Prelude.{ℕ, ◌≡◌, ◌≢◌, ◌+◌, ◌<◌, ◌∷◌, ◌++◌, Bool, true, false, [], Option, None, Some, filter, length, map, slice_index_or}
+use Rattle.std.specs.Prelude.{ℕ, ◌≡◌, ◌≢◌, ◌+◌, ◌<◌, ◌∷◌, ◌++◌, Bool, true, false, List, [], Option, None, Some, filter, length, map, slice_index_or}
 use Rattle.std.specs.Option.{option_and_then, option_map_or}
 use Rattle.tip_branch.specs.Notes.{PartyNotes}
 use Rattle.tip_rows.specs.Keys.{Key}
 use Rattle.tip_table.specs.Kept.{capacity, item_at, of}
 use Rattle.tip_machine.specs.Connections.{is_on}
 use Rattle.tip_machine.specs.States.{State, Work, connection_of, has_room, transaction_of}
-use Rattle.tip_machine.specs.Transactions.{has_key, next_key}
+use Rattle.tip_machine.specs.Transactions.{has_id, has_key, next_key}
 use Rattle.tip_machine.specs.Types.{Answer, Connection, PartyPlace, Transaction, seen}
 use Rattle.tip_machine.specs.declared.head.Head.{Head}
 use Rattle.tip_machine.specs.declared.connection.Role.{Role}
@@ -29,6 +29,10 @@ Held = declared.Work Connection HeldTransaction Made
 -- is this the transaction of that key?
 abbrev pub is_keyed : Key → HeldTransaction → Bool
 is_keyed key transaction = has_key key (seen transaction)
+
+-- is this the transaction of that identifier, in a realm of that name?
+abbrev pub is_named : List ℕ → List ℕ → HeldTransaction → Bool
+is_named realm id transaction = has_id realm id (seen transaction)
 
 -- stands where there is no realm
 abbrev pub no_head : Head

@@ -1,8 +1,8 @@
 //! Commands that we receive as the secondary of a connection (RFC 2371, section 13).
-ghost use Rattle.std.specs.Prelude.{◌≡◌, ◌≤◌, ◌+◌, ◌&&◌, Some, nat_le};
+ghost use Rattle.std.specs.Prelude.{◌≡◌, ◌≤◌, ◌<◌, ◌+◌, ◌&&◌, Some, length, nat_le};
 ghost use Rattle.tip_line.specs.declared.command.Command.TheVariants as asked;
 ghost use Rattle.tip_table.specs.Kept.{StandsAt};
-ghost use Rattle.tip_machine.specs.Commands.{identify, serve, superior_role};
+ghost use Rattle.tip_machine.specs.Commands.{identify, query, serve, superior_role};
 ghost use Rattle.tip_machine.specs.Connections.{has_number};
 ghost use Rattle.tip_machine.specs.Failing.{closed};
 ghost use Rattle.tip_machine.specs.Proceeding.{commit};
@@ -15,7 +15,7 @@ ghost use Rattle.tip_core.specs.Works.{Does, IsIdle, lines_at, lines_for, work_o
 
 use crate::making::Making;
 use crate::work::Work;
-use tip_line::{Address, CommandName};
+use tip_line::{Address, CommandName, Id};
 use tip_machine::{Connection, Item, Outcome, Role, Said, Transaction};
 use tip_rows::Key;
 use tip_txn::Phase;
@@ -35,6 +35,21 @@ impl Work<Connection, Transaction, Making> {
             self.identify(number, place, peer);
         } else {
             self.reject(number, place);
+        }
+    }
+
+    /// QUERY: whether the transaction of an identifier exists here.
+    #[tactic(auto, using(crate::proofs::Commanding::querying))]
+    pub fn query(&mut self, number: u32, place: usize, superior: &Id)
+        requires here { self.old.realm < length self.old.heads.items }
+        requires stands { StandsAt self.old.connections self.old.realm (has_number number) place }
+        requires lines { 0 < self.old.making.free }
+        ensures { (connection : AConnection) → connection_of number (work_of self.old).state ≡ Some connection → Does self.old self.new (query superior.now connection (work_of self.old)) }
+    {
+        if self.exists(superior) {
+            self.reply(number, place, CommandName::Query, Said::QueriedExists);
+        } else {
+            self.reply(number, place, CommandName::Query, Said::QueriedNotFound);
         }
     }
 

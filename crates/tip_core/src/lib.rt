@@ -5,6 +5,7 @@ mod beginning;
 mod commands;
 mod connections;
 mod failing;
+mod finding;
 mod machine;
 mod making;
 mod opening;

@@ -1,9 +1,12 @@
 //! What is looked for in the tables.
-ghost use Rattle.std.specs.Prelude.{◌≡◌};
+ghost use Rattle.std.specs.Prelude.{◌≡◌, ◌==◌, ◌&&◌};
+ghost use Rattle.std.specs.Str.{bytes_eq};
+ghost use Rattle.tip_machine.specs.Answers.{identifier};
 ghost use Rattle.tip_machine.specs.Connections.{asks_for, has_number, is_on, is_superior_of};
-ghost use Rattle.tip_core.specs.Works.{is_keyed};
+ghost use Rattle.tip_core.specs.Works.{is_keyed, is_named};
 
 use crate::reaction::is_on;
+use tip_line::{Id, IdParts, Realm};
 use tip_machine::{Connection, Role, Transaction};
 use tip_rows::Key;
 use tip_table::Test;
@@ -69,4 +72,41 @@ fn asks_for(role: Option<Role>, key: Key) -> bool
     ensures { result ≡ asks_for key role }
 {
     role == Some(Role::Superior(key))
+}
+
+/// The transaction of an identifier, in a realm of this name.
+#[derive(Clone, Copy, Debug)]
+pub struct Named<'a> {
+    pub realm: &'a Realm,
+    pub id: &'a Id,
+}
+
+impl Test<Transaction> for Named<'_> {
+    ghost passes = { λ query transaction. is_named query.realm.now query.id.now transaction };
+
+    fn passes(&self, transaction: &Transaction) -> bool {
+        is_of(self.realm, self.id, transaction.key)
+    }
+}
+
+/// Whether an identifier is that of a realm's transaction. It is taken apart, so that none is spelled.
+#[tactic(auto, using(crate::proofs::Identifying::naming))]
+fn is_of(realm: &Realm, id: &Id, key: Key) -> bool
+    ensures { result ≡ bytes_eq id.now (identifier realm.now key) }
+{
+    let name = realm.as_str();
+    match id.parts() {
+        Some(parts) => is_made_of(parts, name, key),
+        None => false,
+    }
+}
+
+/// Whether an identifier was made of a realm's name and a key.
+fn is_made_of(parts: IdParts, realm: &str, key: Key) -> bool
+    ensures { result ≡ (bytes_eq parts.entry.realm.now realm.now && (parts.entry.epoch == key.epoch && (parts.entry.connection == key.connection && (parts.entry.number == key.number)))) }
+{
+    parts.realm == realm
+        && parts.epoch == key.epoch()
+        && parts.connection == key.connection()
+        && parts.number == key.number()
 }
