@@ -7,6 +7,7 @@ pub mod Outcomes
 pub mod Openings
 pub mod Beginnings
 pub mod Commanding
+pub mod Coming
 pub mod Tables
 pub mod Doing
 pub mod Stepping

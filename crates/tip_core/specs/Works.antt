@@ -2,6 +2,7 @@
 use Rattle.std.specs.Prelude.{ℕ, ◌≡◌, ◌≢◌, ◌+◌, ◌<◌, ◌∷◌, ◌++◌, Bool, true, false, List, [], Option, None, Some, filter, length, map, slice_index_or}
 use Rattle.std.specs.Option.{option_and_then, option_map_or}
 use Rattle.tip_branch.specs.Notes.{PartyNotes}
+use Rattle.tip_branch.specs.declared.member.Errand.TheVariants as errand
 use Rattle.tip_rows.specs.Keys.{Key}
 use Rattle.tip_table.specs.Kept.{capacity, item_at, of}
 use Rattle.tip_machine.specs.Connections.{is_on}
@@ -83,6 +84,10 @@ lines_as (Some (Subordinate key part)) state = lines_for key state
 abbrev pub lines_at : ℕ → State → ℕ
 lines_at number state = option_map_or (λ connection. lines_as connection.role state) (connection_of number state) 0
 
+-- the same, of a transaction, if there is one
+abbrev pub lines_of : Option Transaction → State → ℕ
+lines_of transaction state = option_map_or (λ transaction. lines_for transaction.key state) transaction 0
+
 -- the party, where it is with its transaction
 abbrev pub party_at : PartyPlace → Option PartyNotes
 party_at (Here party) = Some party
@@ -92,6 +97,13 @@ party_at Spent = None
 -- the party of the transaction at a place, where it is with it
 abbrev pub party_here : ℕ → Held → Option PartyNotes
 party_here place held = option_and_then (λ transaction. party_at transaction.place) (item_at held.transactions place)
+
+-- is the party out for its votes?
+abbrev pub is_voting : PartyPlace → Bool
+is_voting (Here party) = false
+is_voting (Out errand.Vote) = true
+is_voting (Out other) = false
+is_voting Spent = false
 
 -- no party goes out or is let go so far
 pub record IsIdle (answer : Answer) : Type 0 where

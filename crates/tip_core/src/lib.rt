@@ -13,6 +13,7 @@ mod outcome;
 mod query;
 mod reaction;
 mod realms;
+mod returning;
 mod room;
 mod rules;
 mod starts;

@@ -1,0 +1,131 @@
+//! Parties that come back from their errands.
+ghost use Rattle.std.specs.Prelude.{◌≡◌, ◌≤◌, ◌<◌, length, None};
+ghost use Rattle.std.specs.List.{list_any};
+ghost use Rattle.tip_branch.specs.Votes.{ballot};
+ghost use Rattle.tip_txn.specs.Parts.{answered, is_yes};
+ghost use Rattle.tip_table.specs.Kept.{StandsAt};
+ghost use Rattle.tip_machine.specs.Changes.{alter};
+ghost use Rattle.tip_machine.specs.Proceeding.{proceed};
+ghost use Rattle.tip_machine.specs.Requests.{owner, strange, voted};
+ghost use Rattle.tip_machine.specs.Steps.{chosen};
+ghost use Rattle.tip_machine.specs.Transactions.{noting, party_answer, refuses, standing_at};
+ghost use Rattle.tip_machine.specs.declared.transaction.PartyPlace.TheVariants.{Here};
+ghost use Rattle.tip_core.specs.Works.{Does, is_keyed, is_voting, IsIdle, lines_for, lines_of, party_here, work_of};
+
+use crate::making::Making;
+use crate::work::Work;
+use std::mem;
+use tip_branch::{Errand, HeldParty, Member};
+use tip_line::Refusal;
+use tip_machine::{Connection, PartyPlace, Transaction};
+use tip_rows::Key;
+use tip_txn::{Ballot, Part};
+
+impl Work<Connection, Transaction, Making> {
+    /// A party comes back from a vote: it gives the answer of the local part.
+    #[tactic(auto, using(crate::proofs::Coming::voting))]
+    pub fn voted(&mut self, party: HeldParty)
+        requires here { self.old.realm < length self.old.heads.items }
+        requires lines { lines_of (owner party (work_of self.old).state) (work_of self.old).state ≤ self.old.making.free }
+        requires none { IsIdle self.old.making.answer }
+        ensures { Does self.old self.new (chosen (voted (owner party (work_of self.old).state) party (work_of self.old)) self.old.outcome) }
+    {
+        let Some((key, place)) = self.owner(&party) else {
+            return self.meet(party);
+        };
+        if is_voting(&self.at(key, place).place) {
+            self.take_vote(key, place, party);
+        } else {
+            self.meet(party);
+        }
+    }
+
+    /// The party of a transaction has voted.
+    #[tactic(auto, using(crate::proofs::Coming::taking))]
+    fn take_vote(&mut self, key: Key, place: usize, party: HeldParty)
+        requires stands { StandsAt self.old.transactions self.old.realm (is_keyed key) place }
+        requires out { party_here place self.old ≡ None }
+        requires lines { lines_for key (work_of self.old).state ≤ self.old.making.free }
+        requires none { IsIdle self.old.making.answer }
+        ensures { Does self.old self.new (chosen (proceed key (alter key (noting 0 (answered (party_answer party))) (alter key (standing_at (Here party)) (work_of self.old)))) self.old.outcome) }
+    {
+        let answer = answer_of(&party);
+        self.take_back(key, place, party);
+        self.note(key, place, Part::local(), answer);
+        self.proceed(key);
+    }
+
+    /// The party is with its transaction again.
+    #[tactic(auto, using(crate::proofs::Coming::back))]
+    fn take_back(&mut self, key: Key, place: usize, party: HeldParty)
+        requires stands { StandsAt self.old.transactions self.old.realm (is_keyed key) place }
+        requires out { party_here place self.old ≡ None }
+        ensures does { Does self.old self.new (alter key (standing_at (Here party)) (work_of self.old)) }
+        ensures stands { StandsAt self.new.transactions self.new.realm (is_keyed key) place }
+    {
+        let transaction = self.transactions.item_mut(place);
+        match mem::replace(&mut transaction.place, PartyPlace::Here(party)) {
+            PartyPlace::Out(_) | PartyPlace::Spent => {}
+            PartyPlace::Here(_) => unreachable!(),
+        }
+    }
+
+    /// A party that no transaction gave out for this is let go.
+    fn meet(&mut self, party: HeldParty)
+        requires { self.old.making.answer.spent ≡ None }
+        ensures { Does self.old self.new (chosen (strange party (work_of self.old)) self.old.outcome) }
+    {
+        self.making.refuse(Refusal::Stranger);
+        self.making.let_go(party);
+    }
+}
+
+/// What a party answers that was asked: one that left a branch active says no.
+#[tactic(auto, using(crate::proofs::Coming::answering))]
+fn answer_of(party: &HeldParty) -> Ballot
+    ensures { result ≡ party_answer party.now }
+{
+    let members = party.party().members();
+    if refuse(members) {
+        Ballot::No
+    } else if agree(members) {
+        Ballot::Yes
+    } else {
+        Ballot::ReadOnly
+    }
+}
+
+/// Whether one of the branches said no.
+fn refuse(members: &[Member]) -> bool
+    ensures { result ≡ list_any (λ member. refuses (ballot member)) members.now }
+{
+    members.iter().any(|member| refuses(member.ballot()))
+}
+
+/// Whether one of the branches said yes.
+fn agree(members: &[Member]) -> bool
+    ensures { result ≡ list_any (λ member. is_yes (ballot member)) members.now }
+{
+    members.iter().any(|member| is_yes(member.ballot()))
+}
+
+/// Whether an answer refuses.
+fn refuses(answer: Option<Ballot>) -> bool
+    ensures { result ≡ refuses answer }
+{
+    matches!(answer, Some(Ballot::No | Ballot::Lost))
+}
+
+/// Whether an answer is a yes.
+fn is_yes(answer: Option<Ballot>) -> bool
+    ensures { result ≡ is_yes answer }
+{
+    answer == Some(Ballot::Yes)
+}
+
+/// Whether a party is out for its votes.
+fn is_voting(place: &PartyPlace) -> bool
+    ensures { result ≡ is_voting place.now }
+{
+    matches!(place, PartyPlace::Out(Errand::Vote))
+}
