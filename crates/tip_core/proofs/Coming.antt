@@ -3,7 +3,7 @@ use Rattle.std.proofs.Common.{◌≡◌, ◌≢◌, ◌≤◌, Bool, true, false
 use Rattle.std.specs.Prelude.{◌&&◌, ◌||◌, filter, is_none, is_some}
 use Rattle.std.specs.List.{list_any}
 use Rattle.std.specs.Option.{option_and_then, option_map_or}
-use Rattle.std.proofs.lemmas.Option.{same_Some}
+use Rattle.std.proofs.lemmas.Option.{none-some, same_Some}
 use Rattle.std.proofs.lemmas.Bool.Decides.{nat_tests}
 use Rattle.tip_branch.specs.Notes.{PartyNotes}
 use Rattle.tip_branch.specs.Votes.{ballot}
@@ -20,18 +20,20 @@ use Rattle.tip_txn.specs.declared.answer.Ballot.TheVariants as answer
 use Rattle.tip_txn.specs.declared.answer.Decision.TheVariants as decision
 use Rattle.tip_machine.proofs.Walks.{found_passes}
 use Rattle.tip_machine.specs.Changes.{alter}
-use Rattle.tip_machine.specs.Proceeding.{proceed}
-use Rattle.tip_machine.specs.Requests.{owner, strange, voted, voted_for}
+use Rattle.tip_machine.specs.Connections.{is_on}
+use Rattle.tip_machine.specs.Proceeding.{dispatch, dispatched, errand_in, give_out, let_go, proceed}
+use Rattle.tip_machine.specs.Requests.{owner, settled, settled_for, strange, voted, voted_for}
 use Rattle.tip_machine.specs.States.{Work, transaction_of}
 use Rattle.tip_machine.specs.Steps.{chosen}
-use Rattle.tip_machine.specs.Transactions.{as_answer, noting, party_answer, refuses, standing_at}
+use Rattle.tip_machine.specs.Transactions.{as_answer, has_ready, noting, party_answer, refuses, standing_at}
 use Rattle.tip_machine.specs.Types.{PartyPlace, Transaction, seen}
 use Rattle.tip_machine.specs.declared.event.Outcome.{Outcome}
 use Rattle.tip_machine.specs.declared.transaction.PartyPlace.TheVariants.{Here, Out, Spent}
-use Rattle.tip_core.specs.Works.{Does, Held, HeldTransaction, is_keyed, IsIdle, is_voting, lines_for, lines_of, party_at, party_here, work_of}
+use Rattle.tip_core.specs.Works.{Does, Held, HeldTransaction, is_aborting, is_committing, is_keyed, IsIdle, is_voting, lines_for, lines_of, MayDispatch, party_at, party_here, work_of}
 use Rattle.tip_core.proofs.Losing.{same_room}
 use Rattle.tip_core.proofs.Outcomes.{key_is}
-use Rattle.tip_core.proofs.Works.{altered, may_idle, nothing, then}
+use Rattle.tip_core.proofs.Proceeding.{dispatch_none, dispatch_some, quiet_dispatch}
+use Rattle.tip_core.proofs.Works.{altered_from, may_idle, then}
 
 -- The party's answer
 
@@ -102,7 +104,11 @@ votes_noted a b c d key party said same first second third =
     (subst (λ o. Does a d (chosen (proceed key (alter key (noting 0 (answered said)) (alter key (standing_at (Here party)) (work_of a)))) o)) both.outcome
     (then a c d (λ w. chosen (proceed key w) c.outcome) _ both third))
 
-pub ruleset taking = (room_back, idle_back, may_idle, votes_noted)
+pub comes_back_so : (a b c : Held) (key : Key) (party : PartyNotes) → Does a b (alter key (standing_at (Here party)) (work_of a)) → Does b c (chosen (proceed key (work_of b)) b.outcome) → Does a c (chosen (proceed key (alter key (standing_at (Here party)) (work_of a))) a.outcome)
+comes_back_so a b c key party first second =
+    subst (λ o. Does a c (chosen (proceed key (alter key (standing_at (Here party)) (work_of a))) o)) first.outcome (then a b c (λ w. chosen (proceed key w) b.outcome) _ first second)
+
+pub ruleset taking = (room_back, idle_back, may_idle, votes_noted, comes_back_so)
 
 -- Whose party it is
 
@@ -151,3 +157,109 @@ voting_out place held item is voting = ap (λ o. option_and_then (λ (t : HeldTr
   step Spent so = absurd (cc)
 
 pub ruleset voting = (voted_none, lines_owned, voted_out, voted_else, voting_out)
+
+-- The outcome was told
+
+-- once it is dispatched, the party is here no more
+pub may_dispatched : (a b : Held) (key : Key) → Does a b (dispatch key (work_of a)) → MayDispatch key (work_of b)
+may_dispatched a b key does = subst (MayDispatch key) (sym does.own) (step (transaction_of key (work_of a).state) refl) where
+  gone_out : (t : Transaction) (left : PartyPlace) → ((party : PartyNotes) → left ≡ Here party → ⊥) → transaction_of key (alter key (standing_at left) (work_of a)).state ≡ Some t → (party : PartyNotes) → t.place ≡ Here party → ⊥
+  gone_out t left away found party here = let before = altered_from key (standing_at left) (work_of a) t (λ u. refl) found in away party (sym (ap (λ (u : Transaction). u.place) before.2) ∙ here)
+
+  out_here : (errand : Errand) (party : PartyNotes) → Out errand ≡ Here party → ⊥
+  out_here errand party is = absurd (cc)
+
+  spent_here : (party : PartyNotes) → Spent ≡ Here party → ⊥
+  spent_here party is = absurd (cc)
+
+  sent : (t : Transaction) (party : PartyNotes) (ready : Bool) → MayDispatch key (cond ready (give_out (errand_in t.phase) party key (work_of a)) (let_go party key (work_of a)))
+  sent t party true = λ u other found here. absurd (gone_out u (Out (errand_in t.phase)) (out_here (errand_in t.phase)) found other here)
+  sent t party false = λ u other found here. absurd (gone_out u Spent spent_here found other here)
+
+  at : (t : Transaction) → transaction_of key (work_of a).state ≡ Some t → (place : PartyPlace) → t.place ≡ place → MayDispatch key (dispatched place t.phase key (work_of a))
+  at t found (Here party) is = sent t party (has_ready party)
+  at t found (Out errand) is = λ u other there here. absurd (out_here errand other (sym is ∙ ap (λ (v : Transaction). v.place) (same_Some t u (sym found ∙ there)) ∙ here))
+  at t found Spent is = λ u other there here. absurd (spent_here other (sym is ∙ ap (λ (v : Transaction). v.place) (same_Some t u (sym found ∙ there)) ∙ here))
+
+  step : (found : Option Transaction) → transaction_of key (work_of a).state ≡ found → MayDispatch key (dispatch key (work_of a))
+  step None is = subst (MayDispatch key) (sym (dispatch_none key (work_of a) is)) (λ u other there here. absurd (none-some u (sym is ∙ there)))
+  step (Some t) is = subst (MayDispatch key) (sym (dispatch_some key (work_of a) t is)) (at t is t.place refl)
+
+-- a dispatch tells no connection
+pub room_dispatched : (a b : Held) (key : Key) → Does a b (dispatch key (work_of a)) → lines_for key (work_of a).state ≤ a.making.free → lines_for key (work_of b).state ≤ b.making.free
+room_dispatched a b key does enough =
+    let quiet = quiet_dispatch key (work_of a) in
+    let free = same_room a b (dispatch key (work_of a)) does quiet.1 in
+    let lines : lines_for key (work_of b).state ≡ lines_for key (work_of a).state = ap (λ w. lines_for key w.state) does.own ∙ ap (λ cs. length (filter (is_on key) cs)) quiet.0 in
+    omega (arith, free, lines, enough)
+
+pub acknowledges_all : (a b c d : Held) (key : Key) (party : PartyNotes) (waits : Bool) → waits ≡ has_ready party → waits ≡ false → Does a b (alter key (standing_at (Here party)) (work_of a)) → Does b c (dispatch key (work_of b)) → Does c d (chosen (proceed key (work_of c)) c.outcome) →
+    Does a d (chosen (proceed key (cond (has_ready party) (alter key (standing_at (Here party)) (work_of a)) (dispatch key (alter key (standing_at (Here party)) (work_of a))))) a.outcome)
+acknowledges_all a b c d key party waits same is first second third =
+    let both = then a b c (dispatch key) _ first second in
+    subst (λ w. Does a d (chosen (proceed key (cond w (alter key (standing_at (Here party)) (work_of a)) (dispatch key (alter key (standing_at (Here party)) (work_of a))))) a.outcome)) (sym is ∙ same)
+    (subst (λ o. Does a d (chosen (proceed key (dispatch key (alter key (standing_at (Here party)) (work_of a)))) o)) both.outcome
+    (then a c d (λ w. chosen (proceed key w) c.outcome) _ both third))
+
+pub waits_on : (a b c : Held) (key : Key) (party : PartyNotes) (waits : Bool) → waits ≡ has_ready party → waits ≡ true → Does a b (alter key (standing_at (Here party)) (work_of a)) → Does b c (chosen (proceed key (work_of b)) b.outcome) →
+    Does a c (chosen (proceed key (cond (has_ready party) (alter key (standing_at (Here party)) (work_of a)) (dispatch key (alter key (standing_at (Here party)) (work_of a))))) a.outcome)
+waits_on a b c key party waits same is first second =
+    subst (λ w. Does a c (chosen (proceed key (cond w (alter key (standing_at (Here party)) (work_of a)) (dispatch key (alter key (standing_at (Here party)) (work_of a))))) a.outcome)) (sym is ∙ same) (comes_back_so a b c key party first second)
+
+pub ruleset acknowledging = (room_back, room_dispatched, idle_back, may_idle, may_dispatched, acknowledges_all, waits_on)
+
+module _ (a b : Held) (party : PartyNotes) where
+  pub settled_none : owner party (work_of a).state ≡ None → Does a b (chosen (strange party (work_of a)) a.outcome) → Does a b (chosen (settled (owner party (work_of a).state) party (work_of a)) a.outcome)
+  unfolding settled
+  settled_none none does = subst (λ o. Does a b (chosen (settled o party (work_of a)) a.outcome)) (sym none) does
+
+  module _ (key : Key) (same : owner party (work_of a).state ≡ transaction_of key (work_of a).state) (here : Transaction) (there : transaction_of key (work_of a).state ≡ Some here) where
+    settles_at : (place : PartyPlace) → here.place ≡ place → Does a b (chosen (settled_for place party here (work_of a)) a.outcome) → Does a b (chosen (settled (owner party (work_of a).state) party (work_of a)) a.outcome)
+    unfolding settled
+    settles_at place is does = subst (λ o. Does a b (chosen (settled o party (work_of a)) a.outcome)) (sym (same ∙ there)) (subst (λ p. Does a b (chosen (settled_for p party here (work_of a)) a.outcome)) (sym is) does)
+
+    pub settled_commit : is_committing here.place ≡ true → Does a b (chosen (proceed key (cond (has_ready party) (alter key (standing_at (Here party)) (work_of a)) (dispatch key (alter key (standing_at (Here party)) (work_of a))))) a.outcome) → Does a b (chosen (settled (owner party (work_of a).state) party (work_of a)) a.outcome)
+    settled_commit is does = step here.place refl is where
+      step : (place : PartyPlace) → here.place ≡ place → is_committing place ≡ true → Does a b (chosen (settled (owner party (work_of a).state) party (work_of a)) a.outcome)
+      step (Here other) same is = absurd (cc)
+      step (Out errand.Idle) same is = absurd (cc)
+      step (Out errand.Vote) same is = absurd (cc)
+      step (Out errand.Commit) same is = settles_at (Out errand.Commit) same (subst (λ k. Does a b (chosen (proceed k (cond (has_ready party) (alter k (standing_at (Here party)) (work_of a)) (dispatch k (alter k (standing_at (Here party)) (work_of a))))) a.outcome)) (key_is a key here there) does)
+      step (Out errand.Abort) same is = absurd (cc)
+      step Spent same is = absurd (cc)
+
+    pub settled_abort : is_aborting here.place ≡ true → Does a b (chosen (proceed key (alter key (standing_at (Here party)) (work_of a))) a.outcome) → Does a b (chosen (settled (owner party (work_of a).state) party (work_of a)) a.outcome)
+    settled_abort is does = step here.place refl is where
+      step : (place : PartyPlace) → here.place ≡ place → is_aborting place ≡ true → Does a b (chosen (settled (owner party (work_of a).state) party (work_of a)) a.outcome)
+      step (Here other) same is = absurd (cc)
+      step (Out errand.Idle) same is = absurd (cc)
+      step (Out errand.Vote) same is = absurd (cc)
+      step (Out errand.Commit) same is = absurd (cc)
+      step (Out errand.Abort) same is = settles_at (Out errand.Abort) same (subst (λ k. Does a b (chosen (proceed k (alter k (standing_at (Here party)) (work_of a))) a.outcome)) (key_is a key here there) does)
+      step Spent same is = absurd (cc)
+
+    pub settled_else : is_committing here.place ≡ false → is_aborting here.place ≡ false → Does a b (chosen (strange party (work_of a)) a.outcome) → Does a b (chosen (settled (owner party (work_of a).state) party (work_of a)) a.outcome)
+    settled_else commits aborts does = step here.place refl commits aborts where
+      step : (place : PartyPlace) → here.place ≡ place → is_committing place ≡ false → is_aborting place ≡ false → Does a b (chosen (settled (owner party (work_of a).state) party (work_of a)) a.outcome)
+      step (Here other) same c a = settles_at (Here other) same does
+      step (Out errand.Idle) same c a = settles_at (Out errand.Idle) same does
+      step (Out errand.Vote) same c a = settles_at (Out errand.Vote) same does
+      step (Out errand.Commit) same c a = absurd (cc)
+      step (Out errand.Abort) same c a = absurd (cc)
+      step Spent same c a = settles_at Spent same does
+
+pub committing_out : (place : ℕ) (held : Held) (item : HeldTransaction) → item_at held.transactions place ≡ Some item → is_committing item.place ≡ true → party_here place held ≡ None
+committing_out place held item is so = ap (λ o. option_and_then (λ (t : HeldTransaction). party_at t.place) o) is ∙ step item.place so where
+  step : (at : PartyPlace) → is_committing at ≡ true → party_at at ≡ None
+  step (Here other) so = absurd (cc)
+  step (Out errand) so = refl
+  step Spent so = absurd (cc)
+
+pub aborting_out : (place : ℕ) (held : Held) (item : HeldTransaction) → item_at held.transactions place ≡ Some item → is_aborting item.place ≡ true → party_here place held ≡ None
+aborting_out place held item is so = ap (λ o. option_and_then (λ (t : HeldTransaction). party_at t.place) o) is ∙ step item.place so where
+  step : (at : PartyPlace) → is_aborting at ≡ true → party_at at ≡ None
+  step (Here other) so = absurd (cc)
+  step (Out errand) so = refl
+  step Spent so = absurd (cc)
+
+pub ruleset settling = (settled_none, committing_out, aborting_out)

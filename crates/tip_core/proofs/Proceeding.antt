@@ -1,10 +1,11 @@
 -- What the rules of a transaction come to, case by case.
-use Rattle.std.proofs.Common.{◌≡◌, Bool, true, false, cond, Some, None, refl, ap, sym, subst, ◌∙◌}
+use Rattle.std.proofs.Common.{◌≡◌, Bool, true, false, cond, Option, Some, None, refl, ap, sym, subst, ◌∙◌}
 use Rattle.std.specs.Prelude.{◌&&◌, not}
 use Rattle.std.specs.List.{list_any}
 use Rattle.tip_branch.specs.Notes.{PartyNotes}
 use Rattle.tip_branch.specs.declared.member.Errand.{Errand}
 use Rattle.tip_rows.specs.Keys.{Key}
+use Rattle.tip_txn.specs.declared.answer.Phase.{Phase}
 use Rattle.tip_txn.specs.declared.answer.Phase.TheVariants.{Aborted}
 use Rattle.tip_machine.specs.Changes.{end, on, on_key}
 use Rattle.tip_machine.specs.Connections.{is_on}
@@ -24,6 +25,30 @@ pub on_some : (key : Key) (rule : Transaction → Work → Work) (w : Work) (t :
 on_some key rule w t found = ap (λ found. on found rule w) found
 
 -- Dispatch
+
+pub dispatch_none : (key : Key) (w : Work) → transaction_of key w.state ≡ None → dispatch key w ≡ w
+unfolding dispatch
+dispatch_none key w none = on_none key _ w none
+
+pub dispatch_some : (key : Key) (w : Work) (t : Transaction) → transaction_of key w.state ≡ Some t → dispatch key w ≡ dispatched t.place t.phase key w
+unfolding dispatch
+dispatch_some key w t found = on_some key _ w t found
+
+-- it changes no connection, and tells none
+pub quiet_dispatch : (key : Key) (w : Work) → ((dispatch key w).state.connections ≡ w.state.connections) × ((dispatch key w).answer.sent ≡ w.answer.sent)
+quiet_dispatch key w = step (transaction_of key w.state) refl where
+  sent : (phase : Phase) (party : PartyNotes) (ready : Bool) → ((cond ready (give_out (errand_in phase) party key w) (let_go party key w)).state.connections ≡ w.state.connections) × ((cond ready (give_out (errand_in phase) party key w) (let_go party key w)).answer.sent ≡ w.answer.sent)
+  sent phase party true = (refl, refl)
+  sent phase party false = (refl, refl)
+
+  at : (phase : Phase) (place : PartyPlace) → ((dispatched place phase key w).state.connections ≡ w.state.connections) × ((dispatched place phase key w).answer.sent ≡ w.answer.sent)
+  at phase (Here party) = sent phase party (has_ready party)
+  at phase (Out errand) = (refl, refl)
+  at phase Spent = (refl, refl)
+
+  step : (found : Option Transaction) → transaction_of key w.state ≡ found → ((dispatch key w).state.connections ≡ w.state.connections) × ((dispatch key w).answer.sent ≡ w.answer.sent)
+  step None is = (ap (λ v. v.state.connections) (dispatch_none key w is), ap (λ v. v.answer.sent) (dispatch_none key w is))
+  step (Some t) is = (ap (λ v. v.state.connections) (dispatch_some key w t is) ∙ (at t.phase t.place).0, ap (λ v. v.answer.sent) (dispatch_some key w t is) ∙ (at t.phase t.place).1)
 
 pub dispatched_none : (s : Held) (key : Key) → transaction_of key (work_of s).state ≡ None → Does s s (dispatch key (work_of s))
 unfolding dispatch

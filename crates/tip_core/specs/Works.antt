@@ -105,6 +105,19 @@ is_voting (Out errand.Vote) = true
 is_voting (Out other) = false
 is_voting Spent = false
 
+-- is it out to be told to commit, or to abort?
+abbrev pub is_committing : PartyPlace → Bool
+is_committing (Here party) = false
+is_committing (Out errand.Commit) = true
+is_committing (Out other) = false
+is_committing Spent = false
+
+abbrev pub is_aborting : PartyPlace → Bool
+is_aborting (Here party) = false
+is_aborting (Out errand.Abort) = true
+is_aborting (Out other) = false
+is_aborting Spent = false
+
 -- no party goes out or is let go so far
 pub record IsIdle (answer : Answer) : Type 0 where
   pub work : answer.work ≡ None

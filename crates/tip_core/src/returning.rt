@@ -1,19 +1,19 @@
 //! Parties that come back from their errands.
-ghost use Rattle.std.specs.Prelude.{◌≡◌, ◌≤◌, ◌<◌, length, None};
+ghost use Rattle.std.specs.Prelude.{◌≡◌, ◌≤◌, ◌<◌, if◌then◌else◌, length, None};
 ghost use Rattle.std.specs.List.{list_any};
 ghost use Rattle.tip_branch.specs.Votes.{ballot};
 ghost use Rattle.tip_txn.specs.Parts.{answered, is_yes};
 ghost use Rattle.tip_table.specs.Kept.{StandsAt};
 ghost use Rattle.tip_machine.specs.Changes.{alter};
-ghost use Rattle.tip_machine.specs.Proceeding.{proceed};
-ghost use Rattle.tip_machine.specs.Requests.{owner, strange, voted};
+ghost use Rattle.tip_machine.specs.Proceeding.{dispatch, proceed};
+ghost use Rattle.tip_machine.specs.Requests.{owner, settled, strange, voted};
 ghost use Rattle.tip_machine.specs.Steps.{chosen};
-ghost use Rattle.tip_machine.specs.Transactions.{noting, party_answer, refuses, standing_at};
+ghost use Rattle.tip_machine.specs.Transactions.{has_ready, noting, party_answer, refuses, standing_at};
 ghost use Rattle.tip_machine.specs.declared.transaction.PartyPlace.TheVariants.{Here};
-ghost use Rattle.tip_core.specs.Works.{Does, is_keyed, is_voting, IsIdle, lines_for, lines_of, party_here, work_of};
+ghost use Rattle.tip_core.specs.Works.{Does, is_aborting, is_committing, is_keyed, is_voting, IsIdle, lines_for, lines_of, party_here, work_of};
 
 use crate::making::Making;
-use crate::work::Work;
+use crate::work::{Work, has_ready};
 use std::mem;
 use tip_branch::{Errand, HeldParty, Member};
 use tip_line::Refusal;
@@ -52,6 +52,56 @@ impl Work<Connection, Transaction, Making> {
         let answer = answer_of(&party);
         self.take_back(key, place, party);
         self.note(key, place, Part::local(), answer);
+        self.proceed(key);
+    }
+
+    /// A party comes back that was told the outcome.
+    #[tactic(auto, using(crate::proofs::Coming::settling))]
+    pub fn settled(&mut self, party: HeldParty)
+        requires here { self.old.realm < length self.old.heads.items }
+        requires lines { lines_of (owner party (work_of self.old).state) (work_of self.old).state ≤ self.old.making.free }
+        requires none { IsIdle self.old.making.answer }
+        ensures { Does self.old self.new (chosen (settled (owner party (work_of self.old).state) party (work_of self.old)) self.old.outcome) }
+    {
+        let Some((key, place)) = self.owner(&party) else {
+            return self.meet(party);
+        };
+        if is_committing(&self.at(key, place).place) {
+            self.take_committed(key, place, party);
+        } else if is_aborting(&self.at(key, place).place) {
+            self.take_aborted(key, place, party);
+        } else {
+            self.meet(party);
+        }
+    }
+
+    /// The party was told to commit: it waits to be resumed where a branch asked for it; else it is let go.
+    #[tactic(auto, using(crate::proofs::Coming::acknowledging))]
+    fn take_committed(&mut self, key: Key, place: usize, party: HeldParty)
+        requires stands { StandsAt self.old.transactions self.old.realm (is_keyed key) place }
+        requires out { party_here place self.old ≡ None }
+        requires lines { lines_for key (work_of self.old).state ≤ self.old.making.free }
+        requires none { IsIdle self.old.making.answer }
+        ensures { Does self.old self.new (chosen (proceed key (if has_ready party then alter key (standing_at (Here party)) (work_of self.old) else dispatch key (alter key (standing_at (Here party)) (work_of self.old)))) self.old.outcome) }
+    {
+        let waits = has_ready(&party);
+        self.take_back(key, place, party);
+        if !waits {
+            self.dispatch(key);
+        }
+        self.proceed(key);
+    }
+
+    /// The party was told to abort.
+    #[tactic(auto, using(crate::proofs::Coming::taking))]
+    fn take_aborted(&mut self, key: Key, place: usize, party: HeldParty)
+        requires stands { StandsAt self.old.transactions self.old.realm (is_keyed key) place }
+        requires out { party_here place self.old ≡ None }
+        requires lines { lines_for key (work_of self.old).state ≤ self.old.making.free }
+        requires none { IsIdle self.old.making.answer }
+        ensures { Does self.old self.new (chosen (proceed key (alter key (standing_at (Here party)) (work_of self.old))) self.old.outcome) }
+    {
+        self.take_back(key, place, party);
         self.proceed(key);
     }
 
@@ -128,4 +178,18 @@ fn is_voting(place: &PartyPlace) -> bool
     ensures { result ≡ is_voting place.now }
 {
     matches!(place, PartyPlace::Out(Errand::Vote))
+}
+
+/// Whether a party is out to be told to commit.
+fn is_committing(place: &PartyPlace) -> bool
+    ensures { result ≡ is_committing place.now }
+{
+    matches!(place, PartyPlace::Out(Errand::Commit))
+}
+
+/// Whether a party is out to be told to abort.
+fn is_aborting(place: &PartyPlace) -> bool
+    ensures { result ≡ is_aborting place.now }
+{
+    matches!(place, PartyPlace::Out(Errand::Abort))
 }

@@ -205,7 +205,7 @@ fn errand_in(phase: Phase) -> Errand
 }
 
 /// Whether a branch of the party waits for the outcome.
-fn has_ready(party: &HeldParty) -> bool
+pub(crate) fn has_ready(party: &HeldParty) -> bool
     ensures { result ≡ has_ready party.now }
 {
     party.party().members().iter().any(Member::is_ready)
