@@ -19,13 +19,14 @@ use Rattle.tip_txn.specs.declared.answer.Ballot.{Ballot}
 use Rattle.tip_txn.specs.declared.answer.Ballot.TheVariants as answer
 use Rattle.tip_txn.specs.declared.answer.Decision.TheVariants as decision
 use Rattle.tip_machine.proofs.Walks.{found_passes}
-use Rattle.tip_machine.specs.Changes.{alter}
+use Rattle.tip_line.specs.declared.refusal.Refusal.TheVariants.{Busy, NotActive}
+use Rattle.tip_machine.specs.Changes.{alter, refuse}
 use Rattle.tip_machine.specs.Connections.{is_on}
-use Rattle.tip_machine.specs.Proceeding.{dispatch, dispatched, errand_in, give_out, let_go, proceed}
-use Rattle.tip_machine.specs.Requests.{owner, settled, settled_for, strange, voted, voted_for}
-use Rattle.tip_machine.specs.States.{Work, transaction_of}
+use Rattle.tip_machine.specs.Proceeding.{dispatch, dispatched, errand_in, finish, give_out, let_go, proceed}
+use Rattle.tip_machine.specs.Requests.{owner, resume, resume_in, settled, settled_for, strange, voted, voted_for}
+use Rattle.tip_machine.specs.States.{Attempt, Work, identified_by, transaction_of}
 use Rattle.tip_machine.specs.Steps.{chosen}
-use Rattle.tip_machine.specs.Transactions.{as_answer, has_ready, noting, party_answer, refuses, standing_at}
+use Rattle.tip_machine.specs.Transactions.{as_answer, has_ready, is_committed, is_done, noting, party_answer, refuses, standing_at}
 use Rattle.tip_machine.specs.Types.{PartyPlace, Transaction, seen}
 use Rattle.tip_machine.specs.declared.event.Outcome.{Outcome}
 use Rattle.tip_machine.specs.declared.transaction.PartyPlace.TheVariants.{Here, Out, Spent}
@@ -263,3 +264,47 @@ aborting_out place held item is so = ap (λ o. option_and_then (λ (t : HeldTran
   step Spent so = absurd (cc)
 
 pub ruleset settling = (settled_none, committing_out, aborting_out)
+
+-- What is tried again
+
+module _ (a b : Held) (id : List ℕ) where
+  pub resumes_none : identified_by id (work_of a).state ≡ None → Does a b (refuse NotActive (work_of a)) → Does a b (chosen (resume (identified_by id (work_of a).state) (work_of a)) a.outcome)
+  unfolding resume
+  resumes_none none does = subst (λ o. Does a b (chosen (resume o (work_of a)) a.outcome)) (sym none) does
+
+  module _ (key : Key) (same : identified_by id (work_of a).state ≡ transaction_of key (work_of a).state) (here : Transaction) (there : transaction_of key (work_of a).state ≡ Some here) where
+    resumes_so : (committed : Bool) → is_committed here.phase ≡ committed → Does a b (chosen (cond committed (resume_in here.place here (work_of a)) (Attempt.Done (refuse NotActive (work_of a)))) a.outcome) → Does a b (chosen (resume (identified_by id (work_of a).state) (work_of a)) a.outcome)
+    unfolding resume
+    resumes_so committed is does = subst (λ o. Does a b (chosen (resume o (work_of a)) a.outcome)) (sym (same ∙ there)) (subst (λ c. Does a b (chosen (cond c (resume_in here.place here (work_of a)) (Attempt.Done (refuse NotActive (work_of a)))) a.outcome)) (sym is) does)
+
+    pub resumes_committed : is_committed here.phase ≡ true → ((t : Transaction) → transaction_of key (work_of a).state ≡ Some t → Does a b (chosen (resume_in t.place t (work_of a)) a.outcome)) → Does a b (chosen (resume (identified_by id (work_of a).state) (work_of a)) a.outcome)
+    resumes_committed is does = resumes_so true is (does here there)
+
+    pub resumes_never : is_committed here.phase ≡ false → Does a b (refuse NotActive (work_of a)) → Does a b (chosen (resume (identified_by id (work_of a).state) (work_of a)) a.outcome)
+    resumes_never is does = resumes_so false is does
+
+-- `here` is what stands there
+module _ (a b : Held) (key : Key) (here : Transaction) (there : transaction_of key (work_of a).state ≡ Some here) (t : Transaction) (found : transaction_of key (work_of a).state ≡ Some t) where
+  same_there : here ≡ t
+  same_there = same_Some here t (sym there ∙ found)
+
+  pub resumes_here : (party : PartyNotes) → here.place ≡ Here party → Does a b (dispatch key (work_of a)) → Does a b (chosen (resume_in t.place t (work_of a)) a.outcome)
+  resumes_here party is does = subst (λ (u : Transaction). Does a b (chosen (resume_in u.place u (work_of a)) a.outcome)) same_there (subst (λ p. Does a b (chosen (resume_in p here (work_of a)) a.outcome)) (sym is) (subst (λ k. Does a b (dispatch k (work_of a))) (key_is a key here there) does))
+
+  pub resumes_out : (errand : Errand) → here.place ≡ Out errand → Does a b (refuse Busy (work_of a)) → Does a b (chosen (resume_in t.place t (work_of a)) a.outcome)
+  resumes_out errand is does = subst (λ (u : Transaction). Does a b (chosen (resume_in u.place u (work_of a)) a.outcome)) same_there (subst (λ p. Does a b (chosen (resume_in p here (work_of a)) a.outcome)) (sym is) does)
+
+  pub resumes_spent : here.place ≡ Spent → ((u : Transaction) → transaction_of key (work_of a).state ≡ Some u → Does a b (chosen (resume_in Spent u (work_of a)) a.outcome)) → Does a b (chosen (resume_in t.place t (work_of a)) a.outcome)
+  resumes_spent is does = subst (λ (u : Transaction). Does a b (chosen (resume_in u.place u (work_of a)) a.outcome)) same_there (subst (λ p. Does a b (chosen (resume_in p here (work_of a)) a.outcome)) (sym is) (does here there))
+
+  pub ends_done : is_done here ≡ true → ((u : Transaction) → transaction_of key (work_of a).state ≡ Some u → Does a b (chosen (finish u (work_of a)) a.outcome)) → Does a b (chosen (resume_in Spent t (work_of a)) a.outcome)
+  ends_done is does = subst (λ (u : Transaction). Does a b (chosen (resume_in Spent u (work_of a)) a.outcome)) same_there (subst (λ d. Does a b (chosen (cond d (finish here (work_of a)) (Attempt.Done (refuse Busy (work_of a)))) a.outcome)) (sym is) (does here there))
+
+  pub ends_not : is_done here ≡ false → Does a b (refuse Busy (work_of a)) → Does a b (chosen (resume_in Spent t (work_of a)) a.outcome)
+  ends_not is does = subst (λ (u : Transaction). Does a b (chosen (resume_in Spent u (work_of a)) a.outcome)) same_there (subst (λ d. Does a b (chosen (cond d (finish here (work_of a)) (Attempt.Done (refuse Busy (work_of a)))) a.outcome)) (sym is) does)
+
+pub ruleset resuming = (resumes_none)
+
+pub ruleset resuming_there = (resumes_here, resumes_out, resumes_spent, may_idle)
+
+pub ruleset ending = (ends_done, ends_not)

@@ -1,25 +1,28 @@
 //! Parties that come back from their errands.
-ghost use Rattle.std.specs.Prelude.{◌≡◌, ◌≤◌, ◌<◌, if◌then◌else◌, length, None};
+ghost use Rattle.std.specs.Prelude.{◌≡◌, ◌≤◌, ◌<◌, if◌then◌else◌, length, None, Some};
 ghost use Rattle.std.specs.List.{list_any};
 ghost use Rattle.tip_branch.specs.Votes.{ballot};
 ghost use Rattle.tip_txn.specs.Parts.{answered, is_yes};
 ghost use Rattle.tip_table.specs.Kept.{StandsAt};
-ghost use Rattle.tip_machine.specs.Changes.{alter};
+ghost use Rattle.tip_machine.specs.Changes.{alter, refuse};
 ghost use Rattle.tip_machine.specs.Proceeding.{dispatch, proceed};
-ghost use Rattle.tip_machine.specs.Requests.{owner, settled, strange, voted};
+ghost use Rattle.tip_machine.specs.Requests.{owner, resume, resume_in, settled, strange, voted};
+ghost use Rattle.tip_machine.specs.States.{identified_by, transaction_of};
+ghost use Rattle.tip_machine.specs.Types.{Transaction as ATransaction};
 ghost use Rattle.tip_machine.specs.Steps.{chosen};
-ghost use Rattle.tip_machine.specs.Transactions.{has_ready, noting, party_answer, refuses, standing_at};
-ghost use Rattle.tip_machine.specs.declared.transaction.PartyPlace.TheVariants.{Here};
+ghost use Rattle.tip_machine.specs.Transactions.{has_ready, is_committed, noting, party_answer, refuses, standing_at};
+ghost use Rattle.tip_machine.specs.declared.transaction.PartyPlace.TheVariants.{Here, Spent};
 ghost use Rattle.tip_core.specs.Works.{Does, is_aborting, is_committing, is_keyed, is_voting, IsIdle, lines_for, lines_of, party_here, work_of};
 
 use crate::making::Making;
+use crate::outcome::is_done;
 use crate::work::{Work, has_ready};
 use std::mem;
 use tip_branch::{Errand, HeldParty, Member};
-use tip_line::Refusal;
+use tip_line::{Id, Refusal};
 use tip_machine::{Connection, PartyPlace, Transaction};
 use tip_rows::Key;
-use tip_txn::{Ballot, Part};
+use tip_txn::{Ballot, Part, Phase};
 
 impl Work<Connection, Transaction, Making> {
     /// A party comes back from a vote: it gives the answer of the local part.
@@ -120,6 +123,57 @@ impl Work<Connection, Transaction, Making> {
         }
     }
 
+    /// What is left of a committed transaction is tried again: its party, or the removal of its row.
+    #[tactic(auto, using(crate::proofs::Coming::resuming))]
+    pub fn resume(&mut self, id: &Id)
+        requires here { self.old.realm < length self.old.heads.items }
+        requires none { IsIdle self.old.making.answer }
+        ensures { Does self.old self.new (chosen (resume (identified_by id.now (work_of self.old).state) (work_of self.old)) self.old.outcome) }
+    {
+        let Some((key, place)) = self.identified(id) else {
+            return self.refuse(Refusal::NotActive);
+        };
+        if is_committed(self.at(key, place).txn.phase()) {
+            self.resume_committed(key, place);
+        } else {
+            self.refuse(Refusal::NotActive);
+        }
+    }
+
+    /// The same of one that is committed.
+    #[tactic(auto, using(crate::proofs::Coming::resuming_there))]
+    fn resume_committed(&mut self, key: Key, place: usize)
+        requires stands { StandsAt self.old.transactions self.old.realm (is_keyed key) place }
+        requires none { IsIdle self.old.making.answer }
+        ensures { (transaction : ATransaction) → transaction_of key (work_of self.old).state ≡ Some transaction → Does self.old self.new (chosen (resume_in transaction.place transaction (work_of self.old)) self.old.outcome) }
+    {
+        match &self.at(key, place).place {
+            PartyPlace::Here(_) => self.dispatch(key),
+            PartyPlace::Out(_) => self.refuse(Refusal::Busy),
+            PartyPlace::Spent => self.finish_if_done(key, place),
+        }
+    }
+
+    /// One whose party is spent is forgotten, if all have acknowledged it.
+    #[tactic(auto, using(crate::proofs::Coming::ending))]
+    fn finish_if_done(&mut self, key: Key, place: usize)
+        requires { StandsAt self.old.transactions self.old.realm (is_keyed key) place }
+        ensures { (transaction : ATransaction) → transaction_of key (work_of self.old).state ≡ Some transaction → Does self.old self.new (chosen (resume_in Spent transaction (work_of self.old)) self.old.outcome) }
+    {
+        if is_done(self.at(key, place)) {
+            self.finish(key, place);
+        } else {
+            self.refuse(Refusal::Busy);
+        }
+    }
+
+    /// The event can't happen as things are.
+    fn refuse(&mut self, why: Refusal)
+        ensures { Does self.old self.new (refuse why (work_of self.old)) }
+    {
+        self.making.refuse(why);
+    }
+
     /// A party that no transaction gave out for this is let go.
     fn meet(&mut self, party: HeldParty)
         requires { self.old.making.answer.spent ≡ None }
@@ -192,4 +246,11 @@ fn is_aborting(place: &PartyPlace) -> bool
     ensures { result ≡ is_aborting place.now }
 {
     matches!(place, PartyPlace::Out(Errand::Abort))
+}
+
+/// Whether the outcome is to commit.
+fn is_committed(phase: Phase) -> bool
+    ensures { result ≡ is_committed phase }
+{
+    matches!(phase, Phase::Committed)
 }
