@@ -1,0 +1,13 @@
+pub mod Texts
+pub mod Effects
+pub mod Facts
+pub mod RowFacts
+pub mod Tests
+pub mod Queries
+pub mod Steps
+pub mod Putting
+pub mod Removing
+pub mod Raising
+pub mod Knowing
+pub mod RealmFacts
+pub mod LogFacts

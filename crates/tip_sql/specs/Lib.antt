@@ -1,0 +1,3 @@
+pub mod Tables
+pub mod Places
+pub mod Standing
