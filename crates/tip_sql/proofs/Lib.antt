@@ -11,3 +11,6 @@ pub mod Raising
 pub mod Knowing
 pub mod RealmFacts
 pub mod LogFacts
+pub mod Outcomes
+pub mod Meanings
+pub mod Readings

@@ -36,6 +36,10 @@ pub record AreRealms (rows : List Row) : Type 0 where
   pub apart : (a b : Row) → Has rows a → Has rows b → rowid a ≡ rowid b → a ≡ b
   pub named : (a b : Row) → Has rows a → Has rows b → name_in a ≡ name_in b → a ≡ b
 
+-- the epoch is at its end
+abbrev pub is_last : Row → Bool
+is_last r = is_eq (int_cmp (epoch_in r) (pos last_epoch))
+
 -- ---- rows of transactions
 
 -- where a row stands: its realm and the three numbers of its key
@@ -82,3 +86,20 @@ pub record AreRows (rows : List Row) : Type 0 where
   pub shaped : (r : Row) → Has rows r → IsTxnRow r
   pub apart : (a b : Row) → Has rows a → Has rows b → rowid a ≡ rowid b → a ≡ b
   pub keyed : (a b : Row) → Has rows a → Has rows b → place_in a ≡ place_in b → a ≡ b
+
+-- ---- what the queries show of a row
+
+abbrev pub all_rows : Row → Bool
+all_rows r = true
+
+abbrev pub id_shown : Row → Row
+id_shown r = column r 0 ∷ []
+
+abbrev pub name_shown : Row → Row
+name_shown r = column r 1 ∷ []
+
+abbrev pub epoch_shown : Row → Row
+epoch_shown r = column r 2 ∷ []
+
+abbrev pub row_shown : Row → Row
+row_shown r = column r 2 ∷ column r 3 ∷ column r 4 ∷ column r 5 ∷ []

@@ -4,7 +4,7 @@ use Rattle.std.specs.List.{slice_split, list_any}
 use Rattle.std.specs.List.Sorted.{IsPermutation}
 use Rattle.std.specs.declared.alloc.Global.{Global}
 use Rattle.tip_rows.specs.Keys.{Key}
-use Rattle.tip_rows.specs.Logs.{Log}
+use Rattle.tip_rows.specs.Logs.{Log, with_known, with_all_raised, with_raised, with_row, without_row}
 use Rattle.tip_rows.specs.Reading.{row_in}
 use Rattle.tip_rows.specs.declared.row.Row.{Row}
 use Rattle.sqlite.specs.Order.{Row as SqlRow}
@@ -12,6 +12,8 @@ use Rattle.sqlite.specs.Tree.{Trees}
 use Rattle.sqlite.specs.declared.error.Error.{Error}
 use Rattle.sqlite.specs.State.{State, HasCleanDisk}
 use Rattle.tip_sql.specs.Tables.{log_schema}
+use Rattle.tip_sql.specs.declared.statements.Change.{Change}
+use Rattle.tip_sql.specs.declared.statements.Change.TheVariants.{Know, RaiseAll, RaiseOne, Put, Remove}
 use Rattle.tip_sql.specs.Places.{Place, AreRealms, AreRows, epoch_at, text_at, is_stray}
 
 -- ---- the log
@@ -56,6 +58,14 @@ abbrev pub MayLeave : State → Log → Type 0
 MayLeave s log = (db : Trees) × s.may_leave db × (log_of db ≡ log)
 
 -- ---- the calls
+
+-- what a change makes of a log
+abbrev pub change_of : Change → Log → Log
+change_of (Know realm) = with_known realm.now
+change_of RaiseAll = with_all_raised
+change_of (RaiseOne realm) = with_raised realm.now
+change_of (Put realm key row) = with_row realm.now key row.now
+change_of (Remove realm key) = without_row realm.now key
 
 -- the connection is ours still, and stands for this log
 abbrev pub IsLeft : State → Log → Type 0

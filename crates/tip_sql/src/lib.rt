@@ -1,7 +1,10 @@
-//! Rows in SQLite.
+//! Rows that outlive the process, in the two tables of a database of SQLite.
 #![tactic(auto)]
 
-/// One.
-pub fn one() -> u32 {
-    1
-}
+mod database;
+mod spelling;
+mod sql_rows;
+mod statements;
+
+pub use database::Database;
+pub use sql_rows::SqlRows;
