@@ -14,3 +14,4 @@ pub mod LogFacts
 pub mod Outcomes
 pub mod Meanings
 pub mod Readings
+pub mod Keeping
