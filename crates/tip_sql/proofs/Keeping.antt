@@ -1,5 +1,5 @@
 -- What is kept of rows in a database over their calls.
-use Rattle.std.proofs.Common.{◌≡◌, ◌⊎◌, inl, inr, ◌↔◌, ℕ, Bool, true, false, not, Result, Ok, Err, MatchResult, IsTrue, refl, sym, ap, subst, ◌∙◌}
+use Rattle.std.proofs.Common.{◌≡◌, ◌⊎◌, inl, inr, ◌↔◌, ℕ, Bool, true, false, not, Result, Ok, Err, MatchResult, OnOk, IsTrue, refl, sym, ap, subst, ◌∙◌}
 use Rattle.std.specs.Prelude.{is_ok}
 use Rattle.sqlite.specs.Tree.{Trees}
 use Rattle.sqlite.specs.Effect.{Database}
@@ -34,3 +34,15 @@ pub failed_kept : {T : Type 0} (change : Log → Log) (a b c : State) (r : Resul
 failed_kept change a b c r alive changes probes err is was clean =
     let before = probes.truth clean in
     (probes.same clean is (at_err r _ _ err (changes.made before was) (probes.was_open clean is)).0).0
+
+-- what follows a change follows what is made of its answer
+pub as_risen : {A B E F : Type 0} (done : Result A E) (result : Result B F) (x : A) (e : E) (IsRefused : F → Type 0) (P Q : Type 0) → MatchResult result (λ _. done ≡ Ok x) (λ f. IsRefused f × (done ≡ Err e))
+    → MatchResult done (λ _. P) (λ _. Q) → MatchResult result (λ _. P) (λ _. Q)
+as_risen (Ok y) (Ok b) x e IsRefused P Q risen h = h
+as_risen (Err y) (Ok b) x e IsRefused P Q risen h = absurd (let clash = risen in cc)
+as_risen (Ok y) (Err f) x e IsRefused P Q risen h = absurd (let clash = risen.1 in cc)
+as_risen (Err y) (Err f) x e IsRefused P Q risen h = h
+
+pub on_ok : {A E : Type 0} (r : Result A E) (P : Type 0) → P → OnOk r P
+on_ok (Ok x) P p = p
+on_ok (Err e) P p = tt

@@ -15,3 +15,7 @@ pub mod Outcomes
 pub mod Meanings
 pub mod Readings
 pub mod Keeping
+pub mod Risings
+pub mod Loading
+pub mod Naming
+pub mod Looking

@@ -2,3 +2,4 @@ pub mod Tables
 pub mod Places
 pub mod Standing
 pub mod Sql
+pub mod Reading

@@ -2,6 +2,8 @@
 #![tactic(auto)]
 
 mod database;
+mod questions;
+mod reading;
 mod spelling;
 mod sql_rows;
 mod statements;

@@ -1,16 +1,19 @@
 //! Rows over a database.
-ghost use Rattle.std.specs.Prelude.{◌≡◌, true, OnOk, is_err};
+ghost use Rattle.std.specs.Prelude.{◌≡◌, true, false, IfOk, OnOk, MatchResult, is_err};
+ghost use Rattle.std.specs.Option.{option_copied};
 ghost use Rattle.sqlite.specs.Held.{state};
-ghost use Rattle.tip_rows.specs.Logs.{counted, Stands, LeavesOne, IsSettled};
+ghost use Rattle.tip_rows.specs.Logs.{Log, counted, is_refused_load, Stands, LeavesOne, LeavesSame, IsSettled};
 ghost use Rattle.tip_sql.specs.Standing.{change_of};
-ghost use Rattle.tip_sql.specs.Sql.{stands_in, is_true_in, may_leave_in, Probes};
+ghost use Rattle.tip_sql.specs.Sql.{stands_in, is_true_in, may_leave_in, leaves_some, IsEnded, Probes};
 
 use crate::database::Database;
+use crate::questions;
 use crate::statements::{Change, make};
 use sqlite::{Alter, Connection};
 use std::alloc::Global;
 use std::marker::Model;
-use tip_rows::Refused;
+use tip_line::Realm;
+use tip_rows::{Key, LoadFault, Loaded, RaiseFault, Refused, Row, RowLog};
 
 /// Rows in the tables `realm` and `txn` of a database. Each change is one committed statement.
 /// After a fault that shuts the connection each call is refused, and none reaches the database.
@@ -67,6 +70,126 @@ impl<S: Alter> SqlRows<S> {
         }
         self.is_shut = !is_alive(&mut self.database.conn);
         Err(refuse(&mut self.faults))
+    }
+}
+
+impl<S: Alter> SqlRows<S> {
+    /// Whether the epoch of this realm, or of some realm, is at its end.
+    fn is_at_end(&mut self, realm: Option<&Realm>) -> Result<bool, Refused>
+        ensures ended { (log : Log) → stands_in S.Store self.old log → is_true_in S.Store self.new → IfOk result (IsEnded (option_copied realm.entry) log) }
+        ensures stands { (log : Log) → stands_in S.Store self.old log → stands_in S.Store self.new log }
+        ensures counts { self.new.faults ≡ counted (is_err result) self.old.faults }
+        ensures truth { is_true_in S.Store self.new → is_true_in S.Store self.old }
+        ensures stop { LeavesSame (stands_in S.Store) (is_true_in S.Store) (may_leave_in S.Store) self.old self.new }
+        ensures settled { is_true_in S.Store self.new → OnOk result (IsSettled (stands_in S.Store) (may_leave_in S.Store) self.new) }
+    {
+        if self.is_shut {
+            return Err(refuse(&mut self.faults));
+        }
+        match questions::is_at_end(&mut self.database.conn, realm) {
+            Ok(is_end) => Ok(is_end),
+            Err(_) => {
+                self.is_shut = !is_alive(&mut self.database.conn);
+                Err(refuse(&mut self.faults))
+            }
+        }
+    }
+}
+
+impl<S: Alter> RowLog for SqlRows<S> {
+    type Medium = Database<S>;
+
+    ghost medium = { λ s. record { conn = s.conn } };
+
+    ghost stands = { stands_in S.Store };
+
+    ghost faults = { λ s. s.faults };
+
+    ghost is_true = { is_true_in S.Store };
+
+    ghost may_leave = { may_leave_in S.Store };
+
+    ghost is_due = { λ _ _. false };
+
+    fn know(&mut self, realm: &Realm) -> Result<(), Refused> {
+        self.change(&Change::Know(realm))
+    }
+
+    fn raise_epochs(&mut self) -> Result<(), RaiseFault> {
+        match self.is_at_end(None) {
+            Ok(true) => Err(RaiseFault::EpochEnd),
+            Ok(false) => risen(self.change(&Change::RaiseAll)),
+            Err(Refused) => Err(RaiseFault::Refused),
+        }
+    }
+
+    fn raise_epoch(&mut self, realm: &Realm) -> Result<(), RaiseFault> {
+        match self.is_at_end(Some(realm)) {
+            Ok(true) => Err(RaiseFault::EpochEnd),
+            Ok(false) => risen(self.change(&Change::RaiseOne(realm))),
+            Err(Refused) => Err(RaiseFault::Refused),
+        }
+    }
+
+    fn put(&mut self, realm: &Realm, key: Key, row: &Row) -> Result<(), Refused> {
+        self.change(&Change::Put(realm, key, row))
+    }
+
+    fn remove(&mut self, realm: &Realm, key: Key) -> Result<(), Refused> {
+        self.change(&Change::Remove(realm, key))
+    }
+
+    fn load(&mut self, realm: &Realm) -> Result<Loaded, LoadFault> {
+        if self.is_shut {
+            refuse(&mut self.faults);
+            return Err(LoadFault::Refused);
+        }
+        let read = questions::part(self.alloc, &mut self.database.conn, realm);
+        if is_refused(&read) {
+            self.is_shut = !is_alive(&mut self.database.conn);
+            refuse(&mut self.faults);
+            return Err(LoadFault::Refused);
+        }
+        read
+    }
+
+    fn realms(&mut self) -> Result<Vec<Realm>, LoadFault> {
+        if self.is_shut {
+            refuse(&mut self.faults);
+            return Err(LoadFault::Refused);
+        }
+        let read = questions::realms(self.alloc, &mut self.database.conn);
+        if is_refused(&read) {
+            self.is_shut = !is_alive(&mut self.database.conn);
+            refuse(&mut self.faults);
+            return Err(LoadFault::Refused);
+        }
+        read
+    }
+
+    fn faults(&self) -> u64 {
+        self.faults
+    }
+
+    ghost true_while_faithful = { λ _ faithful. faithful };
+
+    ghost leaves_some = { λ rows clean. leaves_some _ (S.Store.survives rows.conn.store clean) };
+}
+
+/// Whether the store refused.
+fn is_refused<T>(read: &Result<T, LoadFault>) -> bool
+    ensures { result ≡ is_refused_load read.now }
+{
+    matches!(read, Err(LoadFault::Refused))
+}
+
+/// A rise that was refused, or made.
+fn risen(done: Result<(), Refused>) -> Result<(), RaiseFault>
+    ensures { MatchResult result (λ _. done ≡ Ok (record {})) (λ fault. (fault ≡ RaiseFault.Refused) × (done ≡ Err (record {}))) }
+{
+    match done {
+        Ok(()) => Ok(()),
+        Err(Refused) => Err(RaiseFault::Refused),
     }
 }
 

@@ -14,6 +14,7 @@ use tip_line::Realm;
 use tip_rows::{Key, Row};
 
 /// One change of what is stored.
+#[derive(Drop)]
 pub enum Change<'a> {
     Know(&'a Realm),
     RaiseAll,
