@@ -1,6 +1,7 @@
 -- What is kept of rows in a database over their calls.
 use Rattle.std.proofs.Common.{◌≡◌, ◌⊎◌, inl, inr, ◌↔◌, ℕ, Bool, true, false, not, Result, Ok, Err, MatchResult, OnOk, IsTrue, refl, sym, ap, subst, ◌∙◌}
 use Rattle.std.specs.Prelude.{is_ok}
+use Rattle.std.specs.Bool.{OnTrue}
 use Rattle.sqlite.specs.Tree.{Trees}
 use Rattle.sqlite.specs.Effect.{Database}
 use Rattle.sqlite.specs.State.{State, HasCleanDisk}
@@ -46,3 +47,11 @@ as_risen (Err y) (Err f) x e IsRefused P Q risen h = h
 pub on_ok : {A E : Type 0} (r : Result A E) (P : Type 0) → P → OnOk r P
 on_ok (Ok x) P p = p
 on_ok (Err e) P p = tt
+
+pub on_true : (b : Bool) (P : Type 0) → b ≡ true → OnTrue b P → P
+on_true true P is p = p
+on_true false P is p = absurd (let clash : false ≡ true = is in cc)
+
+pub on_made : {T E : Type 0} (r : Result T E) (err : Bool) (P : Type 0) → err ≡ false → is_ok r ≡ not err → OnOk r P → P
+on_made (Ok x) err P is same p = p
+on_made (Err e) err P is same p = absurd (let clash : false ≡ true = same ∙ ap not is in cc)

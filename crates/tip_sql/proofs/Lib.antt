@@ -19,3 +19,6 @@ pub mod Risings
 pub mod Loading
 pub mod Naming
 pub mod Looking
+pub mod Shapes
+pub mod Making
+pub mod Checking

@@ -5,7 +5,7 @@ use Rattle.std.specs.declared.alloc.Global.{Global}
 use Rattle.std.proofs.lemmas.Bool.{cases_Bool}
 use Rattle.sqlite.specs.Order.{Row}
 use Rattle.sqlite.specs.Tree.{Trees}
-use Rattle.sqlite.specs.Term.{Term}
+use Rattle.sqlite.specs.Term.{Term, col}
 use Rattle.sqlite.specs.Program.{overlay}
 use Rattle.sqlite.specs.Clock.{timed}
 use Rattle.sqlite.specs.Listing.{understood}
@@ -22,8 +22,8 @@ use Rattle.sqlite_rules.specs.Lists.{Has}
 use Rattle.sqlite_rules.proofs.ListLemmas.{has_filtered}
 use Rattle.tip_rows.specs.Logs.{Log}
 use Rattle.tip_sql.specs.Tables.{log_schema}
-use Rattle.tip_sql.specs.Places.{AreRealms, AreRows}
-use Rattle.tip_sql.specs.Standing.{log_of, IsOurs, IsLeft, MayLeave, Changes, Shows}
+use Rattle.tip_sql.specs.Places.{AreRealms, AreRows, all_rows, id_shown}
+use Rattle.tip_sql.specs.Standing.{log_of, IsOurs, IsLeft, MayLeave, Changes, Shows, ShowsIds}
 use Rattle.tip_sql.proofs.Texts.{Queries}
 use Rattle.tip_sql.proofs.Queries.{plain_answer, passes, shows}
 use Rattle.tip_sql.proofs.Facts.{same_filter, same_map}
@@ -204,3 +204,15 @@ module _ (sql : List ℕ) (tree : ℕ) (terms shown : List Term) (order : List (
   queries bound same r ok err survives =
       queries_with r (subst (λ row. HasCleanDisk new → IfOk r (λ rows. Shown sql row old new rows.items)) same ok) (subst (λ row. HasCleanDisk new → IfErr r (FailsToQuery sql row old new)) same err)
       (subst (λ row. Survives old new (CommitsShowing sql row old)) same survives)
+
+-- the rowids of a tree, where no more is known than the schema
+pub ids_shown : (sql : List ℕ) (tree : ℕ) (order : List (Term × Key)) (names : List (List ℕ)) → Queries sql tree [] (col 1 0 ∷ []) order names → ((db : Trees) → overlay db [] tree ≡ db tree) → (old new : State) (r : Result (Vec Row Global) Error)
+    → (HasCleanDisk new → IfOk r (λ rows. Shown sql [] old new rows.items)) → Survives old new (CommitsShowing sql [] old) → ShowsIds tree old new r
+ids_shown sql tree order names is whole old new r ok survives = record { truth = was_clean old new _ survives; shown = λ clean has. go r has (ok clean) }
+  where
+    go : (r : Result (Vec Row Global) Error) → old.now.schema ≡ log_schema → IfOk r (λ rows. Shown sql [] old new rows.items) → IfOk r (λ rows. IsUnchanged old new × IsPermutation (map id_shown (filter all_rows (old.now.trees tree))) rows.items)
+    go (Ok rows) has h =
+        let read = reads_as sql [] old new log_schema has _ is.is is.plain is.unlisted rows.items h in
+        let moved = plain_answer tree [] (col 1 0 ∷ []) order old.now.trees [] rows.items (whole old.now.trees) read.answer in
+        (shown_same sql [] old new log_schema rows.items has is.plain h, moved)
+    go (Err e) has h = tt

@@ -11,14 +11,10 @@ use Rattle.std.proofs.lemmas.Bool.Decides.{nat_tests}
 use Rattle.tip_rows.specs.Keys.{Key, comes_before}
 use Rattle.tip_rows.specs.Logs.{is_rising, are_rising_names, name_before}
 use Rattle.tip_rows.specs.declared.row.Row.{Row}
-use Rattle.tip_sql.specs.Reading.{last_of, may_follow}
+use Rattle.tip_sql.specs.Reading.{last_of, may_follow, rises}
 
 module _ {X : Type 0} (before : X → X → Bool) where
-  abbrev rising_by : List X → Bool
-  rising_by [] = true
-  rising_by (x ∷ xs) = list_all (before x) xs && rising_by xs
-
-  all_before : ((a b c : X) → before a b ≡ true → before b c ≡ true → before a c ≡ true) → (xs : List X) (y : X) → rising_by xs ≡ true → may_follow before (last_of xs) y ≡ true → list_all (λ x. before x y) xs ≡ true
+  pub all_before : ((a b c : X) → before a b ≡ true → before b c ≡ true → before a c ≡ true) → (xs : List X) (y : X) → rises before xs ≡ true → may_follow before (last_of xs) y ≡ true → list_all (λ x. before x y) xs ≡ true
   all_before trans [] y rising follows = refl
   all_before trans (x ∷ []) y rising follows = rw follows refl
   all_before trans (x ∷ z ∷ rest) y rising follows =
@@ -30,7 +26,7 @@ module _ {X : Type 0} (before : X → X → Bool) where
   all_push x [] y all more = rw more refl
   all_push x (z ∷ xs) y all more = let parts = and_parts _ _ all in and_from _ _ parts.0 (all_push x xs y parts.1 more)
 
-  rising_push : (xs : List X) (y : X) → rising_by xs ≡ true → list_all (λ x. before x y) xs ≡ true → rising_by (xs ++ y ∷ []) ≡ true
+  pub rising_push : (xs : List X) (y : X) → rises before xs ≡ true → list_all (λ x. before x y) xs ≡ true → rises before (xs ++ y ∷ []) ≡ true
   rising_push [] y rising all = refl
   rising_push (x ∷ xs) y rising all =
       let parts = and_parts _ _ rising in
@@ -53,7 +49,7 @@ before-trans : (a b c : Key) → comes_before a b ≡ true → comes_before b c 
 before-trans a b c h k = grind (arith, nat_tests)
 
 
-entries_rise : (entries : List (Key × Row)) → is_rising entries ≡ rising_by (λ (e : Key × Row) (f : Key × Row). comes_before e.0 f.0) entries
+entries_rise : (entries : List (Key × Row)) → is_rising entries ≡ rises (λ (e : Key × Row) (f : Key × Row). comes_before e.0 f.0) entries
 entries_rise [] = refl
 entries_rise (e ∷ entries) = ap (λ b. list_all (λ (f : Key × Row). comes_before e.0 f.0) entries && b) (entries_rise entries)
 
@@ -68,7 +64,7 @@ entries_push entries last entry is rising follows =
     let rises = sym (entries_rise entries) ∙ rising in
     entries_rise (entries ++ entry ∷ []) ∙ rising_push before entries entry rises (all_before before (λ a b c. before-trans a.0 b.0 c.0) entries entry rises (last_key entries last entry is follows))
 
-names_rise : (names : List (List ℕ)) → are_rising_names names ≡ rising_by name_before names
+names_rise : (names : List (List ℕ)) → are_rising_names names ≡ rises name_before names
 names_rise [] = refl
 names_rise (name ∷ names) = ap (λ b. list_all (name_before name) names && b) (names_rise names)
 

@@ -103,3 +103,7 @@ epoch_shown r = column r 2 ∷ []
 
 abbrev pub row_shown : Row → Row
 row_shown r = column r 2 ∷ column r 3 ∷ column r 4 ∷ column r 5 ∷ []
+
+-- the number that is shown first
+abbrev pub number_at : Row → ℤ
+number_at r = id_in (column r 0)

@@ -1,5 +1,6 @@
 -- How rows and names are read from what a query shows (ours).
 use Rattle.std.specs.Prelude.{◌≡◌, ℕ, ℤ, pos, negsuc, List, [], ◌∷◌, ◌&&◌, Bool, true, false, if◌then◌else◌, nat_lt, nat_le, Option, Some, None, Result, Ok, Err}
+use Rattle.std.specs.List.{list_all}
 use Rattle.std.specs.Str.{bytes_eq}
 use Rattle.tip_line.specs.Words.{is_realm}
 use Rattle.tip_rows.specs.Keys.{Key, comes_before}
@@ -85,3 +86,8 @@ may_follow before (Some last) next = before last next
 abbrev pub has_some : {A : Type 0} → List A → Bool
 has_some [] = false
 has_some (x ∷ rest) = true
+
+-- each comes before all that follow
+abbrev pub rises : {A : Type 0} → (A → A → Bool) → List A → Bool
+rises before [] = true
+rises before (x ∷ xs) = list_all (before x) xs && rises before xs

@@ -1,5 +1,5 @@
 -- The log that a database stands for, and what the calls on it do (ours).
-use Rattle.std.specs.Prelude.{◌≡◌, ◌⊎◌, ◌&&◌, ℕ, pos, Bool, true, false, List, [], ◌∷◌, map, filter, eqb, Option, Some, None, option_and_then, is_some, not, IsTrue, Result, Ok, Err, MatchResult, IfOk, OnOk, Vec}
+use Rattle.std.specs.Prelude.{◌≡◌, ◌⊎◌, ◌&&◌, ◌||◌, ◌==◌, if◌then◌else◌, codes, ℕ, pos, Bool, true, false, List, [], ◌∷◌, map, filter, eqb, Option, Some, None, option_and_then, is_some, not, IsTrue, Result, Ok, Err, MatchResult, IfOk, OnOk, Vec}
 use Rattle.std.specs.List.{slice_split, list_any}
 use Rattle.std.specs.List.Sorted.{IsPermutation}
 use Rattle.std.specs.declared.alloc.Global.{Global}
@@ -10,11 +10,15 @@ use Rattle.tip_rows.specs.declared.row.Row.{Row}
 use Rattle.sqlite.specs.Order.{Row as SqlRow}
 use Rattle.sqlite.specs.Tree.{Trees}
 use Rattle.sqlite.specs.declared.error.Error.{Error}
-use Rattle.sqlite.specs.State.{State, HasCleanDisk}
+use Rattle.sqlite.specs.State.{State, HasCleanDisk, IsUnchanged}
+use Rattle.sqlite.specs.Effect.{Database}
+use Rattle.sqlite.specs.Schema.{Schema}
+use Rattle.sqlite.specs.Table.{Table}
+use Rattle.std.specs.Str.{bytes_eq}
 use Rattle.tip_sql.specs.Tables.{log_schema}
 use Rattle.tip_sql.specs.declared.statements.Change.{Change}
 use Rattle.tip_sql.specs.declared.statements.Change.TheVariants.{Know, RaiseAll, RaiseOne, Put, Remove}
-use Rattle.tip_sql.specs.Places.{Place, AreRealms, AreRows, epoch_at, text_at, is_stray}
+use Rattle.tip_sql.specs.Places.{Place, AreRealms, AreRows, epoch_at, text_at, is_stray, id_shown, all_rows}
 
 -- ---- the log
 
@@ -85,3 +89,41 @@ pub record Shows (tree : ℕ) (test : SqlRow → Bool) (f : SqlRow → SqlRow) (
   pub same : HasCleanDisk new → IsOurs old → IsTrue new.is_open → IsLeft new (log_of old.now.trees)
   pub opens : HasCleanDisk new → IsOurs old → OnOk result (IsTrue new.is_open)
   pub leaves : HasCleanDisk new → IsOurs old → (left : Log) → MayLeave new left → MayLeave old left
+
+-- ---- a database that is taken over
+
+-- the trees of the tables that are there; a table that is not there has no rows
+abbrev pub trees_in : Database → Trees
+trees_in db t = if list_any (λ table. table.tree == t) db.schema.tables then db.trees t else []
+
+-- the log that is found in a database
+abbrev pub found_in : Database → Log
+found_in db = log_of (trees_in db)
+
+abbrev pub has_column : List ℕ → Table → Bool
+has_column name table = list_any (λ column. bytes_eq column.name name) table.columns
+
+abbrev pub lacks : Table → Bool
+lacks table =
+    (bytes_eq table.name (codes "realm") && not (has_column (codes "name") table && has_column (codes "epoch") table))
+    || (bytes_eq table.name (codes "txn")
+    && not (has_column (codes "realm") table && has_column (codes "epoch") table && has_column (codes "conn") table && has_column (codes "num") table && has_column (codes "text") table))
+
+-- a table of ours lacks a column of ours
+abbrev pub lacks_column : Schema → Bool
+lacks_column schema = list_any lacks schema.tables
+
+-- what a step towards our tables leaves: this schema, and the log that was found
+pub record Takes {T E : Type 0} (schema : Schema) (old new : State) (result : Result T E) : Type 0 where
+  pub truth : HasCleanDisk new → HasCleanDisk old
+  pub taken : HasCleanDisk new → OnOk result ((new.now.schema ≡ schema) × (found_in new.now ≡ found_in old.now))
+
+-- all rowids of a tree, where the schema is ours
+pub record ShowsIds (tree : ℕ) (old new : State) (result : Result (Vec SqlRow Global) Error) : Type 0 where
+  pub truth : HasCleanDisk new → HasCleanDisk old
+  pub shown : HasCleanDisk new → old.now.schema ≡ log_schema → IfOk result (λ rows. IsUnchanged old new × IsPermutation (map id_shown (filter all_rows (old.now.trees tree))) rows.items)
+
+-- a connection that is ours, and shows what it did
+pub record Checks (old new : State) (is_ours : Bool) : Type 0 where
+  pub truth : HasCleanDisk new → HasCleanDisk old
+  pub ours : HasCleanDisk new → is_ours ≡ true → IsOurs new × (log_of new.now.trees ≡ log_of old.now.trees)

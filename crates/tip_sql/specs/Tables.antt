@@ -7,8 +7,8 @@ use Rattle.sqlite.specs.Kind.{Kind}
 use Rattle.sqlite.specs.Kind.TheVariants.{Integer, Text}
 use Rattle.sqlite.specs.Schema.{Schema}
 use Rattle.sqlite.specs.Table.{Table}
-use Rattle.sqlite.specs.Change.{created}
 use Rattle.sqlite_schema.specs.declared.schema.Column.{Column}
+use Rattle.sqlite_schema.specs.declared.schema.Index.{Index}
 use Rattle.sqlite_value.specs.declared.keys.Order.{Order}
 
 abbrev pub no_schema : Schema
@@ -57,12 +57,39 @@ txn_table = record {
   is_counted = false;
 }
 
--- the first table alone, and both, made in this order in an empty database
+-- a table with this primary key and no other rule
+abbrev pub keyed : Table → List ℕ → Table
+keyed table places = record {
+  name = table.name;
+  tree = table.tree;
+  columns = table.columns;
+  key = None;
+  primary = places;
+  uniques = places ∷ [];
+  orders = binary_order ∷ [];
+  checks = [];
+  references = [];
+  computed = [];
+  stamps = record { places = []; terms = []; formats = [] };
+  is_counted = false;
+}
+
+-- the index that each primary key has
+abbrev pub plain_index : List ℕ → ℕ → ℕ → List ℕ → Index
+plain_index name tree table places = record { name = name; tree = tree; table = table; columns = places; order = binary_order; is_unique = true }
+
+abbrev pub realm_index : Index
+realm_index = plain_index (codes "sqlite_autoindex_realm_1") 1 0 (1 ∷ [])
+
+abbrev pub txn_index : Index
+txn_index = plain_index (codes "sqlite_autoindex_txn_1") 3 2 (1 ∷ 2 ∷ 3 ∷ 4 ∷ [])
+
+-- the first table alone, and both
 abbrev pub half_schema : Schema
-half_schema = created no_schema realm_table
+half_schema = record { tables = realm_table ∷ []; indexes = realm_index ∷ []; views = [] }
 
 abbrev pub log_schema : Schema
-log_schema = created half_schema txn_table
+log_schema = record { tables = realm_table ∷ txn_table ∷ []; indexes = realm_index ∷ txn_index ∷ []; views = [] }
 
 -- a row of either table: its rowid and its columns
 abbrev pub realm_row : ℤ → List ℕ → ℤ → Row

@@ -2,6 +2,8 @@
 #![tactic(auto)]
 
 mod database;
+mod layout;
+mod opening;
 mod questions;
 mod reading;
 mod spelling;
@@ -9,4 +11,5 @@ mod sql_rows;
 mod statements;
 
 pub use database::Database;
+pub use opening::OverFault;
 pub use sql_rows::SqlRows;

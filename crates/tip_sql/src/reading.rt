@@ -85,7 +85,7 @@ pub fn realms_in(alloc: Global, rows: &[SqlRow]) -> Result<Vec<Realm>, LoadFault
 }
 
 /// What is shown at a place.
-fn column(row: &SqlRow, at: usize) -> ValueRef<'_>
+pub fn column(row: &SqlRow, at: usize) -> ValueRef<'_>
     ensures { owned result ≡ column row.now at }
 {
     match row.get_ref(at) {

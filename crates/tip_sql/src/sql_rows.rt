@@ -1,12 +1,15 @@
 //! Rows over a database.
-ghost use Rattle.std.specs.Prelude.{◌≡◌, true, false, IfOk, OnOk, MatchResult, is_err};
+ghost use Rattle.std.specs.Prelude.{◌≡◌, ◌↔◌, true, false, Err, IfOk, OnOk, MatchResult, is_err};
 ghost use Rattle.std.specs.Option.{option_copied};
 ghost use Rattle.sqlite.specs.Held.{state};
 ghost use Rattle.tip_rows.specs.Logs.{Log, counted, is_refused_load, Stands, LeavesOne, LeavesSame, IsSettled};
-ghost use Rattle.tip_sql.specs.Standing.{change_of};
+ghost use Rattle.sqlite.specs.State.{HasCleanDisk};
+ghost use Rattle.tip_sql.specs.Standing.{change_of, found_in, lacks_column};
 ghost use Rattle.tip_sql.specs.Sql.{stands_in, is_true_in, may_leave_in, leaves_some, IsEnded, Probes};
 
 use crate::database::Database;
+use crate::layout::lacks_column;
+use crate::opening::{OverFault, is_ours, make_tables};
 use crate::questions;
 use crate::statements::{Change, make};
 use sqlite::{Alter, Connection};
@@ -37,6 +40,34 @@ impl<S: Alter> Model for SqlRows<S> {
     ghost view = { λ s. record { conn = s.database.conn; faults = s.faults; is_shut = s.is_shut } };
 
     ghost invariant = { λ s. IsKept (state S.Store s.database.conn) s.is_shut };
+}
+
+impl<S: Alter + Drop> SqlRows<S> {
+    /// Takes over a database that has our tables and nothing else, and makes the tables that are not there.
+    /// It commits with full sync, as the connection was opened. At a fault the connection is dropped.
+    pub fn over(alloc: Global, mut conn: Connection<S>) -> Result<SqlRows<S>, OverFault>
+        ensures bad_schema { (result ≡ Err OverFault.BadSchema) ↔ (lacks_column (state S.Store conn).now.schema ≡ true) }
+        ensures stands { IfOk result (λ rows. stands_in S.Store rows (found_in (state S.Store conn).now)) }
+        ensures truth { IfOk result (λ rows. is_true_in S.Store rows → HasCleanDisk (state S.Store conn)) }
+        ensures settled { IfOk result (λ rows. is_true_in S.Store rows → IsSettled (stands_in S.Store) (may_leave_in S.Store) rows) }
+        ensures no_faults { IfOk result (λ rows. rows.faults ≡ 0) }
+    {
+        if lacks_column(conn.schema()) {
+            return Err(OverFault::BadSchema);
+        }
+        if make_tables(&mut conn).is_err() {
+            return Err(OverFault::Refused);
+        }
+        if !is_ours(&mut conn) {
+            return Err(OverFault::Refused);
+        }
+        Ok(SqlRows {
+            alloc,
+            database: Database { conn },
+            faults: 0,
+            is_shut: false,
+        })
+    }
 }
 
 impl<S: Alter> SqlRows<S> {
