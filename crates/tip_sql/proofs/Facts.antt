@@ -1,5 +1,5 @@
 -- Places, lookups and rows that are taken out.
-use Rattle.std.proofs.Common.{◌≡◌, ◌⊎◌, inl, inr, ℕ, ℤ, List, [], ◌∷◌, map, Bool, true, false, ◌&&◌, not, filter, find, Option, Some, None, option_map, refl, sym, ap, subst, ◌∙◌}
+use Rattle.std.proofs.Common.{◌≡◌, inl, inr, ℤ, List, [], ◌∷◌, map, Bool, true, false, not, filter, find, Option, Some, None, refl, sym, ap, ◌∙◌}
 use Rattle.std.specs.List.{list_any}
 use Rattle.std.specs.declared.cmp.Ordering.{Ordering}
 use Rattle.std.specs.declared.cmp.Ordering.TheVariants.{Less, Equal, Greater}
@@ -135,7 +135,6 @@ taken_goes (first ∷ ids) rows y id (inl same) has =
     ap (λ n. has_rowid n y) same ∙ not_true _ kept
 taken_goes (first ∷ ids) rows y id (inr later) has = taken_goes ids (without_rowid first rows) y id later has
 taken_goes [] rows y id h has = absurd h
-
 
 -- what a test finds, where it passes at most one element, and the elements that pass it are the same
 pub find_same : {X : Type 0} (p : X → Bool) (old new : List X) → ((a b : X) → Has new a → Has new b → p a ≡ true → p b ≡ true → a ≡ b)

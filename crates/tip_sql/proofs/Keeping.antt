@@ -1,5 +1,5 @@
 -- What is kept of rows in a database over their calls.
-use Rattle.std.proofs.Common.{◌≡◌, ◌⊎◌, inl, inr, ◌↔◌, ℕ, Bool, true, false, not, Result, Ok, Err, MatchResult, OnOk, IsTrue, refl, sym, ap, subst, ◌∙◌}
+use Rattle.std.proofs.Common.{◌≡◌, ◌↔◌, Bool, true, false, not, Result, Ok, Err, MatchResult, OnOk, IsTrue, refl, sym, ap, ◌∙◌}
 use Rattle.std.specs.Prelude.{is_ok}
 use Rattle.std.specs.Bool.{OnTrue}
 use Rattle.sqlite.specs.Tree.{Trees}
@@ -7,7 +7,7 @@ use Rattle.sqlite.specs.Effect.{Database}
 use Rattle.sqlite.specs.State.{State, HasCleanDisk}
 use Rattle.sqlite.specs.declared.error.Error.{Error}
 use Rattle.tip_rows.specs.Logs.{Log}
-use Rattle.tip_sql.specs.Standing.{log_of, IsOurs, IsLeft, MayLeave, Changes}
+use Rattle.tip_sql.specs.Standing.{log_of, IsOurs, MayLeave, Changes}
 use Rattle.tip_sql.specs.Sql.{Probes}
 
 pub at_ok : {T E : Type 0} (r : Result T E) (P Q : Type 0) → is_ok r ≡ true → MatchResult r (λ _. P) (λ _. Q) → P

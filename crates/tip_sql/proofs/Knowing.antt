@@ -1,6 +1,5 @@
 -- INSERT INTO realm .. ON CONFLICT DO NOTHING.
-use Rattle.std.proofs.Common.{◌≡◌, ◌⊎◌, inl, inr, ℕ, ℤ, pos, List, [], ◌∷◌, Bool, true, false, Option, Some, None, Ok, Err, Result, refl, sym, ap, subst, ◌∙◌}
-use Rattle.std.specs.List.{list_any}
+use Rattle.std.proofs.Common.{◌≡◌, inl, inr, ℕ, ℤ, pos, List, [], ◌∷◌, true, false, Option, Some, None, Ok, refl, sym, ap, subst, ◌∙◌}
 use Rattle.std.specs.Str.{bytes_eq}
 use Rattle.std.specs.Ordering.{is_eq}
 use Rattle.std.proofs.lemmas.Bool.{cases_Bool, and_parts}
@@ -10,7 +9,7 @@ use Rattle.sqlite.specs.Source.TheVariants.{Values}
 use Rattle.sqlite_schema.specs.declared.command.Conflict.TheVariants.{Abort}
 use Rattle.sqlite_schema.specs.declared.schema.Keys.{Keys}
 use Rattle.sqlite.specs.Edit.{edit_of, next_rowid, with_rowid, is_taken, are_fresh}
-use Rattle.sqlite.specs.Cast.{cast, cast_row}
+use Rattle.sqlite.specs.Cast.{cast_row}
 use Rattle.sqlite.specs.Rowids.TheVariants.{Chosen, Given}
 use Rattle.sqlite.specs.Does.{Tally, Does}
 use Rattle.sqlite.specs.Rows.{Written, nothing, count_of, Tries, TriesEach, InsertsOr, Puts}
@@ -24,8 +23,8 @@ use Rattle.sqlite_rules.proofs.ListLemmas.{some_from}
 use Rattle.sqlite_rules.proofs.TableLemmas.{put_has, has_put, put_all_keeps}
 use Rattle.sqlite_value.proofs.OrderLemmas.{value_cmp-Int}
 use Rattle.tip_sql.specs.Tables.{log_schema, realm_table, realm_row}
-use Rattle.tip_sql.specs.Places.{is_named, name_in, AreRealms}
-use Rattle.tip_sql.proofs.Effects.{Adds, Knows}
+use Rattle.tip_sql.specs.Places.{is_named, AreRealms}
+use Rattle.tip_sql.proofs.Effects.{Knows}
 use Rattle.tip_sql.proofs.Steps.{went, same_value, not_two, cast_int, cast_null}
 use Rattle.tip_sql.proofs.Texts.{know_terms, know_clause, know_command}
 use Rattle.tip_sql.proofs.Facts.{int_same, not_true}
@@ -58,24 +57,29 @@ module _ (limit : Option ℕ) (keys : Keys) (realm : List ℕ) (db : Trees) (row
       let same : cast_row realm_table new ≡ new = cast_realm (next_rowid (db 0)) realm (pos 0) in
       let now : one.trees 0 ≡ put_row new (db 0) = ap (λ (t : Trees). t 0) is ∙ step.rows ∙ ap (λ r. put_row r (db 0)) same in
       let fresh : are_fresh (db 0) (new ∷ []) ≡ true = ap (λ r. are_fresh (db 0) (r ∷ [])) (sym same) ∙ step.fresh in
-      let free : is_taken (db 0) new ≡ false = not_true _ (and_parts _ _ fresh).0 in
-      (inr (none, record {
-        id = next_rowid (db 0);
-        here = subst (λ l. Has l new) (sym now) (has_put new (db 0));
-        others = λ r has. put_has new (db 0) r (subst (λ l. Has l r) now has);
-        kept = λ r has. subst (λ l. Has l r) (sym now) (put_all_keeps (new ∷ []) (db 0) r fresh has);
-        apart = λ r has clash.
-            let taken = some_from (λ x. is_eq (value_cmp (rowid x) (rowid new))) (db 0) r has (ap (λ v. is_eq (value_cmp v (rowid new))) (sym clash) ∙ ap is_eq (value_cmp-Int (next_rowid (db 0)) (next_rowid (db 0))) ∙ int_same (next_rowid (db 0))) in
-            let e : true ≡ false = sym taken ∙ free in cc;
-      }), ap (λ (t : Trees). t 2) is ∙ step.tables.1.0 not_zero)
+      let free : is_taken (db 0) new ≡ false = not_true _ (and_parts _ _ fresh).0 in (
+        inr (
+          none,
+          record {
+            id = next_rowid (db 0);
+            here = subst (λ l. Has l new) (sym now) (has_put new (db 0));
+            others = λ r has. put_has new (db 0) r (subst (λ l. Has l r) now has);
+            kept = λ r has. subst (λ l. Has l r) (sym now) (put_all_keeps (new ∷ []) (db 0) r fresh has);
+            apart = λ r has clash.
+                let taken = some_from (λ x. is_eq (value_cmp (rowid x) (rowid new))) (db 0) r has (ap (λ v. is_eq (value_cmp v (rowid new))) (sym clash) ∙ ap is_eq (value_cmp-Int (next_rowid (db 0)) (next_rowid (db 0))) ∙ int_same (next_rowid (db 0))) in
+                let e : true ≡ false = sym taken ∙ free in cc;
+          },
+        ),
+        ap (λ (t : Trees). t 2) is ∙ step.tables.1.0 not_zero,
+      )
 
   none_there : AreConflicts (Some (1 ∷ [])) log_schema.indexes realm_table (db 0) new [] → (r : Row) → Has (db 0) r → is_named realm r ≡ false
   none_there conf r has = elim (cases_Bool (is_named realm r)) [
     | inl same ↦
         let it = rows.shaped r has in
         let clash : conflicts (Some (1 ∷ [])) log_schema.indexes realm_table new r ≡ true =
-            subst (λ x. conflicts (Some (1 ∷ [])) log_schema.indexes realm_table new x ≡ true) (sym it.is)
-            (name_conflict_is (next_rowid (db 0)) it.id it.name realm (pos 0) it.epoch ∙ sym (ap (λ x. is_named realm x) it.is) ∙ same) in
+        subst (λ x. conflicts (Some (1 ∷ [])) log_schema.indexes realm_table new x ≡ true) (sym it.is)
+        (name_conflict_is (next_rowid (db 0)) it.id it.name realm (pos 0) it.epoch ∙ sym (ap (λ x. is_named realm x) it.is) ∙ same) in
         absurd (conf.complete r has clash)
     | inr off ↦ off
   ]
@@ -88,7 +92,7 @@ module _ (limit : Option ℕ) (keys : Keys) (realm : List ℕ) (db : Trees) (row
       let s = conf.sound there (inl refl) in
       let it = rows.shaped s.0 s.1 in
       let same : bytes_eq it.name realm ≡ true =
-          sym (name_conflict_is (next_rowid (db 0)) it.id it.name realm (pos 0) it.epoch) ∙ subst (λ x. conflicts (Some (1 ∷ [])) log_schema.indexes realm_table new x ≡ true) it.is s.2 in
+      sym (name_conflict_is (next_rowid (db 0)) it.id it.name realm (pos 0) it.epoch) ∙ subst (λ x. conflicts (Some (1 ∷ [])) log_schema.indexes realm_table new x ≡ true) it.is s.2 in
       let trees : one.trees ≡ db = ap (λ (w : Written). w.trees) (same_value met) in
       (inl (s.0, s.1, ap (λ x. is_named realm x) it.is ∙ same, ap (λ (t : Trees). t 0) trees), ap (λ (t : Trees). t 2) trees)
   tried one (inr (Some why, bad, refused)) = absurd (let e = refused in cc)

@@ -1,30 +1,26 @@
 -- What the rows that a query shows say of the log.
-use Rattle.std.proofs.Common.{◌≡◌, ◌≢◌, ◌⊎◌, inl, inr, ◌≤◌, ◌<◌, ℕ, ℤ, pos, negsuc, List, [], ◌∷◌, map, filter, find, Bool, true, false, ◌&&◌, ◌==◌, not, if◌then◌else◌, Option, Some, None, option_map, refl, sym, ap, subst, ◌∙◌, arith}
-use Rattle.std.specs.Prelude.{option_and_then, unwrap_or, is_some, nat_lt, nat_le, IsSome}
+use Rattle.std.proofs.Common.{◌≡◌, ◌≢◌, ◌⊎◌, inl, inr, ◌≤◌, ℕ, ℤ, pos, negsuc, List, [], ◌∷◌, map, filter, find, Bool, true, false, ◌&&◌, not, Option, Some, None, option_map, refl, sym, ap, subst, ◌∙◌, arith}
+use Rattle.std.specs.Prelude.{option_and_then, unwrap_or, is_some, nat_lt, nat_le}
 use Rattle.std.specs.List.{list_any}
 use Rattle.std.specs.List.Sorted.{IsPermutation}
 use Rattle.std.specs.Str.{bytes_eq}
-use Rattle.std.specs.Ordering.{is_eq, int_cmp}
 use Rattle.std.proofs.lemmas.List.Sorted.{IsPermutation-sym}
 use Rattle.std.proofs.lemmas.Bool.{cases_Bool, and_parts, and_from}
 use Rattle.std.proofs.lemmas.Bool.Decides.{nat_tests}
 use Rattle.sqlite.specs.Order.{Row as SqlRow, column}
-use Rattle.sqlite.specs.Tree.{Trees}
-use Rattle.sqlite.specs.declared.types.Value.TheVariants.{Int, Text}
+use Rattle.sqlite.specs.declared.types.Value.TheVariants.{Int}
 use Rattle.sqlite_rules.specs.Lists.{Has}
 use Rattle.sqlite_rules.proofs.ListLemmas.{has_filtered, has_kept, has_found}
-use Rattle.tip_line.specs.Words.{is_realm}
 use Rattle.tip_rows.specs.Keys.{Key, is_same}
-use Rattle.tip_rows.specs.Logs.{Log, last_epoch, row_at, is_rising, IsPart, IsSpoiled, IsAtEnd, AreNames, HasBadName, are_rising_names}
+use Rattle.tip_rows.specs.Logs.{last_epoch, row_at}
 use Rattle.tip_rows.specs.declared.row.Row.{Row}
 use Rattle.tip_rows.proofs.MemoryLemmas.{same_text, bytes_eq-self}
 use Rattle.tip_rows.proofs.OrderLemmas.{same_key}
-use Rattle.tip_sql.specs.Tables.{realm_row, txn_row}
 use Rattle.tip_sql.specs.Places.{Place, place_in, is_named, is_last, all_rows, is_at, same_place, text_at, text_in, epoch_at, has_key, is_key_number, is_stray, IsRealmRow, IsTxnRow, AreRealms, AreRows, epoch_shown, name_shown, row_shown}
 use Rattle.tip_sql.specs.Places as places
-use Rattle.tip_sql.specs.Reading.{number_in, key_of, key_in, row_in, entry_of, entry_in, epoch_in, name_in, realm_in}
-use Rattle.tip_sql.specs.Standing.{place_of, row_of, is_no_row, log_of}
-use Rattle.tip_sql.proofs.Facts.{find_only, find_none, find_missed, has_mapped, mapped_has, is_place, place_same, any_has, has_any, same_int}
+use Rattle.tip_sql.specs.Reading.{number_in, key_of, entry_of, entry_in, epoch_in}
+use Rattle.tip_sql.specs.Standing.{place_of, row_of, is_no_row}
+use Rattle.tip_sql.proofs.Facts.{find_only, find_none, find_missed, has_mapped, mapped_has, is_place, place_same, any_has, has_any}
 use Rattle.tip_sql.proofs.Queries.{has_moved}
 use Rattle.tip_sql.proofs.RealmFacts.{one_name}
 
@@ -71,6 +67,7 @@ module _ (tree rows : List SqlRow) (realm : List ℕ) (realms : AreRealms tree) 
         | inr high ↦ absurd (let e2 : ◌≡◌ {A = Option ℕ} None (Some n) = rw high at e in cc)
       ]
       number (negsuc m) e = absurd (let clash : ◌≡◌ {A = Option ℕ} None (Some n) = e in cc)
+
       go : (xs : List SqlRow) → rows ≡ xs → (unwrap_or (epoch_at tree realm) (pos 0) ≡ pos n) × ((z : ℤ) → epoch_at tree realm ≡ Some z → (z ≡ pos n) × (n ≤ last_epoch))
       go [] is =
           let none : epoch_at tree realm ≡ None = first [] is in
@@ -90,11 +87,14 @@ module _ (tree rows : List SqlRow) (realm : List ℕ) (realms : AreRealms tree) 
       go [] is = absurd (let clash : ◌≡◌ {A = Option ℕ} (Some 0) None = sym (ap epoch_in is) ∙ reads in cc)
       go (x ∷ more) is =
           let it = first (x ∷ more) is in
-          let none : number_in (Int it.0) ≡ None = ap number_in (sym it.2) ∙ sym (ap epoch_in is) ∙ reads in
-          (it.0, it.1, λ n low same.
-              let at : number_in (Int (pos n)) ≡ None = ap (λ z. number_in (Int z)) (sym same) ∙ none in
-              let is_low : nat_le n last_epoch ≡ true = grind (arith, nat_tests) in
-              let some : ◌≡◌ {A = Option ℕ} (Some n) None = rw is_low at at in cc)
+          let none : number_in (Int it.0) ≡ None = ap number_in (sym it.2) ∙ sym (ap epoch_in is) ∙ reads in (
+            it.0,
+            it.1,
+            λ n low same.
+                let at : number_in (Int (pos n)) ≡ None = ap (λ z. number_in (Int z)) (sym same) ∙ none in
+                let is_low : nat_le n last_epoch ≡ true = grind (arith, nat_tests) in
+                let some : ◌≡◌ {A = Option ℕ} (Some n) None = rw is_low at at in cc,
+          )
 
   pub ends_read : epoch_in rows ≡ Some last_epoch → epoch_at tree realm ≡ Some (pos last_epoch)
   ends_read reads = go rows refl
@@ -145,9 +145,13 @@ parts_read (Some a) (Some b) (Some c) (Some row) y e = elim (cases_Bool (nat_lt 
   | inl key ↦
       let made : Key = record { epoch = a; connection = b; number = c } in
       let is : ◌≡◌ {A = Option (Key × Row)} (Some (made, row)) (Some y) = rw key at e in
-      let same : ◌≡◌ {A = Key × Row} (made, row) y = cc in
-      (ap (λ (x : Key × Row). Some x.0.epoch) same, ap (λ (x : Key × Row). Some x.0.connection) same, ap (λ (x : Key × Row). Some x.0.number) same, ap (λ (x : Key × Row). Some x.1) same,
-      subst (λ (x : Key × Row). (nat_lt 0 x.0.epoch && (nat_lt 0 x.0.connection && nat_lt 0 x.0.number)) ≡ true) same key)
+      let same : ◌≡◌ {A = Key × Row} (made, row) y = cc in (
+        ap (λ (x : Key × Row). Some x.0.epoch) same,
+        ap (λ (x : Key × Row). Some x.0.connection) same,
+        ap (λ (x : Key × Row). Some x.0.number) same,
+        ap (λ (x : Key × Row). Some x.1) same,
+        subst (λ (x : Key × Row). (nat_lt 0 x.0.epoch && (nat_lt 0 x.0.connection && nat_lt 0 x.0.number)) ≡ true) same key,
+      )
   | inr none ↦ absurd (let clash : ◌≡◌ {A = Option (Key × Row)} None (Some y) = rw none at e in cc)
 ]
 
@@ -165,9 +169,11 @@ entry_shows realm r it named y e =
     let a = (no_number_key p.1 y.0.epoch parts.0).0 in
     let b = (no_number_key p.2 y.0.connection parts.1).0 in
     let c = (no_number_key p.3 y.0.number parts.2).0 in
-    let place : place_in r ≡ p = ap place_in it.is in
-    (place ∙ (λ i. (name i, a i, b i, c i)), ap (λ x. row_of (text_in x)) it.is ∙ parts.3,
-    ap has_key place ∙ and_from _ _ (key_at p.1 _ parts.0 positive.0) (and_from _ _ (key_at p.2 _ parts.1 others.0) (key_at p.3 _ parts.2 others.1)))
+    let place : place_in r ≡ p = ap place_in it.is in (
+      place ∙ (λ i. (name i, a i, b i, c i)),
+      ap (λ x. row_of (text_in x)) it.is ∙ parts.3,
+      ap has_key place ∙ and_from _ _ (key_at p.1 _ parts.0 positive.0) (and_from _ _ (key_at p.2 _ parts.1 others.0) (key_at p.3 _ parts.2 others.1)),
+    )
 
 no_entry : (k : Key) (r : Option Row) → entry_of (Some k) r ≡ None → r ≡ None
 no_entry k None e = refl
@@ -262,11 +268,11 @@ module _ (tree rows : List SqlRow) (realm : List ℕ) (are : AreRows tree) (show
             let shows = entry_shows realm r (are.shaped r f.0) named t.0 t.2 in
             let key_is : t.0.0 ≡ key = same_entry_key realm t.0.0 key (sym shows.0 ∙ place) in
             find_as (λ (y : Key × Row). is_same y.0 key) (λ (y : Key × Row). y.1) t.0.1 entries t.0 t.1 (ap (λ k. is_same k key) key_is ∙ key_self key) (λ z has same.
-                let s = source z has in
-                let again = entry_shows realm s.0 (are.shaped s.0 s.1) s.2 z s.3 in
-                let r_is : s.0 ≡ r = are.keyed s.0 r s.1 f.0 (again.0 ∙ ap (place_of realm) (same_key z.0 key same) ∙ sym place) in
-                let both : ◌≡◌ {A = Option Row} (Some z.1) (Some t.0.1) = sym again.1 ∙ ap (λ x. row_of (text_in x)) r_is ∙ shows.1 in
-                cc)
+            let s = source z has in
+            let again = entry_shows realm s.0 (are.shaped s.0 s.1) s.2 z s.3 in
+            let r_is : s.0 ≡ r = are.keyed s.0 r s.1 f.0 (again.0 ∙ ap (place_of realm) (same_key z.0 key same) ∙ sym place) in
+            let both : ◌≡◌ {A = Option Row} (Some z.1) (Some t.0.1) = sym again.1 ∙ ap (λ x. row_of (text_in x)) r_is ∙ shows.1 in
+            cc)
             ∙ sym (ap (λ o. option_and_then row_of (option_map text_in o)) e ∙ shows.1)
 
     pub no_strays : list_any (is_stray realm) tree ≡ true → ⊥

@@ -1,5 +1,5 @@
 -- The log that a database stands for, after a change of its rows.
-use Rattle.std.proofs.Common.{◌≡◌, ◌⊎◌, inl, inr, ℕ, ℤ, pos, List, Bool, true, false, ◌&&◌, ◌==◌, not, if◌then◌else◌, Option, Some, None, option_map, refl, sym, ap, ◌∙◌, arith}
+use Rattle.std.proofs.Common.{◌≡◌, inl, inr, ℕ, ℤ, pos, List, Bool, true, false, ◌&&◌, ◌==◌, not, if◌then◌else◌, Option, Some, None, refl, sym, ap, ◌∙◌, arith}
 use Rattle.std.specs.Prelude.{option_and_then, is_some}
 use Rattle.std.specs.List.{list_any}
 use Rattle.std.specs.Str.{bytes_eq}
@@ -8,9 +8,8 @@ use Rattle.std.proofs.lemmas.Bool.{cases_Bool, and_parts}
 use Rattle.std.proofs.lemmas.Bool.Decides.{nat_tests}
 use Rattle.sqlite.specs.Order.{Row as SqlRow}
 use Rattle.sqlite.specs.Tree.{Trees}
-use Rattle.sqlite_rules.specs.Lists.{Has}
-use Rattle.tip_rows.specs.Keys.{Key, is_same}
-use Rattle.tip_rows.specs.Logs.{Log, is_here, with_row, without_row, with_at, with_known, with_all_raised, with_raised, known, raised}
+use Rattle.tip_rows.specs.Keys.{Key}
+use Rattle.tip_rows.specs.Logs.{is_here, with_row, without_row, with_known, with_all_raised, with_raised}
 use Rattle.tip_rows.specs.declared.row.Row.{Row}
 use Rattle.tip_sql.specs.Tables.{txn_row}
 use Rattle.tip_sql.specs.Places.{Place, place_in, same_place, is_at, text_at, epoch_at, has_key, is_stray, AreRealms, AreRows}
@@ -52,27 +51,27 @@ module _ (db next : Trees) (realm : List ℕ) (key : Key) (fits : has_key (place
   pub log_set : (text : List ℕ) (row : Row) → row_of text ≡ Some row → Sets (db 2) (next 2) q text → log_of next ≡ with_row realm key row (log_of db)
   log_set text row is sets =
       let at = λ (r : List ℕ) (k : Key). (let e : text_at (next 2) (place_of r k) ≡ (if is_here realm key r k then Some text else text_at (db 2) (place_of r k)) =
-          text_set (db 2) (next 2) q text rows sets (place_of r k) ∙ ap (λ b. if b then Some text else text_at (db 2) (place_of r k)) (here_is realm r key k) in e) in
+      text_set (db 2) (next 2) q text rows sets (place_of r k) ∙ ap (λ b. if b then Some text else text_at (db 2) (place_of r k)) (here_is realm r key k) in e) in
       let row_is = λ (r : List ℕ) (k : Key). (let e : option_and_then row_of (text_at (next 2) (place_of r k)) ≡ (if is_here realm key r k then Some row else option_and_then row_of (text_at (db 2) (place_of r k))) =
-          ap (option_and_then row_of) (at r k) ∙ elim (cases_Bool (is_here realm key r k)) [ inl here ↦ rw here is | inr off ↦ rw off refl ] in e) in
+      ap (option_and_then row_of) (at r k) ∙ elim (cases_Bool (is_here realm key r k)) [ inl here ↦ rw here is | inr off ↦ rw off refl ] in e) in
       let bad_is = λ (r : List ℕ) (k : Key). (let e : is_no_row (text_at (next 2) (place_of r k)) ≡ (if is_here realm key r k then false else is_no_row (text_at (db 2) (place_of r k))) =
-          ap is_no_row (at r k) ∙ elim (cases_Bool (is_here realm key r k)) [ inl here ↦ rw here (ap (λ o. not (is_some o)) is) | inr off ↦ rw off refl ] in e) in
+      ap is_no_row (at r k) ∙ elim (cases_Bool (is_here realm key r k)) [ inl here ↦ rw here (ap (λ o. not (is_some o)) is) | inr off ↦ rw off refl ] in e) in
       let strays = λ (r : List ℕ). (let e : list_any (is_stray r) (next 2) ≡ list_any (is_stray r) (db 2) =
-          same_any (is_stray r) (db 2) (next 2) (λ x has stray. sets.kept x has (stray_off q r x fits stray))
-          (λ x has stray. elim (sets.others x has) [ inl same ↦ absurd (here_stray sets.id q text r fits (sym (ap (is_stray r) same) ∙ stray)) | inr kept ↦ kept.0 ]) in e) in
+      same_any (is_stray r) (db 2) (next 2) (λ x has stray. sets.kept x has (stray_off q r x fits stray))
+      (λ x has stray. elim (sets.others x has) [ inl same ↦ absurd (here_stray sets.id q text r fits (sym (ap (is_stray r) same) ∙ stray)) | inr kept ↦ kept.0 ]) in e) in
       let epochs = ap epoch_at realms in
       λ i. record { epochs = epochs i; rows = λ r k. row_is r k i; unreadable = λ r k. bad_is r k i; strays = λ r. strays r i }
 
   pub log_cleared : Clears (db 2) (next 2) q → log_of next ≡ without_row realm key (log_of db)
   log_cleared clears =
       let at = λ (r : List ℕ) (k : Key). (let e : text_at (next 2) (place_of r k) ≡ (if is_here realm key r k then None else text_at (db 2) (place_of r k)) =
-          text_cleared (db 2) (next 2) q rows clears (place_of r k) ∙ ap (λ b. if b then None else text_at (db 2) (place_of r k)) (here_is realm r key k) in e) in
+      text_cleared (db 2) (next 2) q rows clears (place_of r k) ∙ ap (λ b. if b then None else text_at (db 2) (place_of r k)) (here_is realm r key k) in e) in
       let row_is = λ (r : List ℕ) (k : Key). (let e : option_and_then row_of (text_at (next 2) (place_of r k)) ≡ (if is_here realm key r k then None else option_and_then row_of (text_at (db 2) (place_of r k))) =
-          ap (option_and_then row_of) (at r k) ∙ elim (cases_Bool (is_here realm key r k)) [ inl here ↦ rw here refl | inr off ↦ rw off refl ] in e) in
+      ap (option_and_then row_of) (at r k) ∙ elim (cases_Bool (is_here realm key r k)) [ inl here ↦ rw here refl | inr off ↦ rw off refl ] in e) in
       let bad_is = λ (r : List ℕ) (k : Key). (let e : is_no_row (text_at (next 2) (place_of r k)) ≡ (if is_here realm key r k then false else is_no_row (text_at (db 2) (place_of r k))) =
-          ap is_no_row (at r k) ∙ elim (cases_Bool (is_here realm key r k)) [ inl here ↦ rw here refl | inr off ↦ rw off refl ] in e) in
+      ap is_no_row (at r k) ∙ elim (cases_Bool (is_here realm key r k)) [ inl here ↦ rw here refl | inr off ↦ rw off refl ] in e) in
       let strays = λ (r : List ℕ). (let e : list_any (is_stray r) (next 2) ≡ list_any (is_stray r) (db 2) =
-          same_any (is_stray r) (db 2) (next 2) (λ x has stray. clears.kept x has (stray_off q r x fits stray)) (λ x has stray. (clears.others x has).0) in e) in
+      same_any (is_stray r) (db 2) (next 2) (λ x has stray. clears.kept x has (stray_off q r x fits stray)) (λ x has stray. (clears.others x has).0) in e) in
       let epochs = ap epoch_at realms in
       λ i. record { epochs = epochs i; rows = λ r k. row_is r k i; unreadable = λ r k. bad_is r k i; strays = λ r. strays r i }
 

@@ -1,5 +1,5 @@
 -- What queries read of the log.
-use Rattle.std.proofs.Common.{◌≡◌, ◌⊎◌, inl, inr, ℕ, ℤ, pos, List, [], ◌∷◌, map, filter, Bool, true, false, ◌↔◌, Option, Some, None, Vec, Result, Ok, Err, IfOk, IsTrue, refl, sym, ap, subst, ◌∙◌}
+use Rattle.std.proofs.Common.{◌≡◌, ◌⊎◌, inl, inr, ℕ, List, [], ◌∷◌, map, filter, Bool, true, false, ◌↔◌, Some, None, Vec, Result, Ok, Err, IfOk, IsTrue, refl, sym, ap, subst, ◌∙◌}
 use Rattle.std.specs.List.Sorted.{IsPermutation}
 use Rattle.std.specs.declared.alloc.Global.{Global}
 use Rattle.sqlite.specs.Order.{Row as SqlRow}
@@ -7,15 +7,15 @@ use Rattle.sqlite.specs.State.{State, HasCleanDisk}
 use Rattle.sqlite.specs.declared.error.Error.{Error}
 use Rattle.sqlite_rules.specs.Lists.{Has}
 use Rattle.tip_rows.specs.Keys.{Key}
-use Rattle.tip_rows.specs.Logs.{Log, is_rising, IsPart, IsSpoiled, is_refused_load}
+use Rattle.tip_rows.specs.Logs.{Log, is_rising, IsPart, IsSpoiled}
 use Rattle.tip_rows.specs.declared.row.Row.{Row}
 use Rattle.tip_rows.specs.declared.log.LoadFault.{LoadFault}
 use Rattle.tip_rows.specs.declared.log.LoadFault.TheVariants.{Refused, BadRow}
 use Rattle.tip_sql.specs.Places.{is_named, epoch_shown, row_shown}
 use Rattle.tip_sql.specs.Reading.{epoch_in, entry_in}
-use Rattle.tip_sql.specs.Standing.{log_of, IsOurs, IsLeft, MayLeave, Shows}
+use Rattle.tip_sql.specs.Standing.{log_of, IsOurs, IsLeft, Shows}
 use Rattle.tip_sql.specs.Sql.{Looks}
-use Rattle.tip_rows.specs.Logs.{AreNames, HasBadName, IsAtEnd, are_rising_names, last_epoch}
+use Rattle.tip_rows.specs.Logs.{AreNames, HasBadName, are_rising_names, last_epoch}
 use Rattle.tip_rows.specs.declared.log.Loaded.{Loaded}
 use Rattle.tip_line.specs.declared.realm.Realm.{Realm}
 use Rattle.tip_sql.specs.Places.{all_rows, is_last, name_shown}
@@ -116,22 +116,24 @@ pub part_look : (realm : List ℕ) (a b c : State) (v1 v2 : Vec SqlRow Global) (
     → Looks (λ log l. IsPart log realm l.epoch l.rows.items) (λ log. IsSpoiled log realm) a c r
 part_look realm a b c v1 v2 epochs rows r one two epochs_are rows_are reads read rising bad =
     read_both (λ log l. IsPart log realm l.epoch l.rows.items) (λ log. IsSpoiled log realm) 0 2 (is_named realm) (is_named realm) epoch_shown row_shown a b c v1 one v2 r two (λ was mid same first second.
-        let first2 = subst (IsShown 0 (is_named realm) epoch_shown a) (sym epochs_are) first in
-        let second2 = subst (IsShown 2 (is_named realm) row_shown b) (sym rows_are) second in
-        (all_three (λ l. epoch_in epochs ≡ Some l.epoch) (λ l. map Some l.rows.items ≡ map entry_in rows) (λ l. is_rising l.rows.items ≡ true) (λ l. IsPart (log_of a.now.trees) realm l.epoch l.rows.items) r
-        (λ l p q s. part_read realm a b epochs rows was mid same first2 second2 l.epoch l.rows.items p q s) reads read rising,
-        λ is. part_bad realm a b epochs rows was mid same first2 second2 (bad is)))
+    let first2 = subst (IsShown 0 (is_named realm) epoch_shown a) (sym epochs_are) first in
+    let second2 = subst (IsShown 2 (is_named realm) row_shown b) (sym rows_are) second in (
+      all_three (λ l. epoch_in epochs ≡ Some l.epoch) (λ l. map Some l.rows.items ≡ map entry_in rows) (λ l. is_rising l.rows.items ≡ true) (λ l. IsPart (log_of a.now.trees) realm l.epoch l.rows.items) r
+          (λ l p q s. part_read realm a b epochs rows was mid same first2 second2 l.epoch l.rows.items p q s) reads read rising,
+      λ is. part_bad realm a b epochs rows was mid same first2 second2 (bad is),
+    ))
 
 pub names_look : (a b : State) (v : Vec SqlRow Global) (rows : List SqlRow) (r : Result (Vec Realm Global) LoadFault) → Shows 0 all_rows name_shown a b (Ok v) → rows ≡ v.items
     → IfOk r (λ names. map Some names.items ≡ map realm_in rows) → IfOk r (λ names. are_rising_names names.items ≡ true) → (r ≡ Err BadRow → (row : SqlRow) × Has rows row × (realm_in row ≡ None))
     → Looks (λ log names. AreNames log names.items) HasBadName a b r
 names_look a b v rows r shows rows_are read rising bad =
     read_look (λ log names. AreNames log names.items) HasBadName 0 all_rows name_shown a b v r shows (λ was shown.
-        let shown2 = subst (IsShown 0 all_rows name_shown a) (sym rows_are) shown in
-        let tree = a.now.trees 0 in
-        (all_three (λ names. map Some names.items ≡ map realm_in rows) (λ names. are_rising_names names.items ≡ true) (λ names. Unit {0}) (λ names. AreNames (log_of a.now.trees) names.items) r
-        (λ names p q s. record { rising = q; known = known_names tree rows was.realms shown2 names.items p; sound = λ h. no_bad_name tree rows was.realms shown2 names.items p h.0 h.1 h.2 }) read rising (nothing r),
-        λ is. let x = bad is in bad_name tree rows was.realms shown2 x.0 x.1 x.2))
+    let shown2 = subst (IsShown 0 all_rows name_shown a) (sym rows_are) shown in
+    let tree = a.now.trees 0 in (
+      all_three (λ names. map Some names.items ≡ map realm_in rows) (λ names. are_rising_names names.items ≡ true) (λ names. Unit {0}) (λ names. AreNames (log_of a.now.trees) names.items) r
+          (λ names p q s. record { rising = q; known = known_names tree rows was.realms shown2 names.items p; sound = λ h. no_bad_name tree rows was.realms shown2 names.items p h.0 h.1 h.2 }) read rising (nothing r),
+      λ is. let x = bad is in bad_name tree rows was.realms shown2 x.0 x.1 x.2,
+    ))
   where
     nothing : (r : Result (Vec Realm Global) LoadFault) → IfOk r (λ names. Unit {0})
     nothing (Ok names) = tt
@@ -149,7 +151,7 @@ pub realm_look : (realm : List ℕ) (a b : State) (v : Vec SqlRow Global) (rows 
     → Looks (λ log. IsEnded (Some realm) log) (λ log. ⊥) a b (Ok is_end)
 realm_look realm a b v rows is_end shows rows_are tells =
     read_look (λ log. IsEnded (Some realm) log) (λ log. ⊥) 0 (is_named realm) epoch_shown a b v (Ok is_end) shows (λ was shown.
-        (ended was (subst (IsShown 0 (is_named realm) epoch_shown a) (sym rows_are) shown) is_end refl, λ bad. let clash = bad in cc))
+    (ended was (subst (IsShown 0 (is_named realm) epoch_shown a) (sym rows_are) shown) is_end refl, λ bad. let clash = bad in cc))
   where
     ended : IsOurs a → IsShown 0 (is_named realm) epoch_shown a rows → (b : Bool) → is_end ≡ b → IsEnded (Some realm) (log_of a.now.trees) b
     ended was shown true is = ends_read (a.now.trees 0) rows realm was.realms shown (tells.0 is)

@@ -1,22 +1,17 @@
 -- What each statement means for the log.
-use Rattle.std.proofs.Common.{◌≡◌, ◌⊎◌, inl, inr, ℕ, ℤ, pos, List, [], ◌∷◌, Bool, true, false, ◌&&◌, Option, Some, None, Ok, Result, refl, sym, ap, subst, subst₂, ◌∙◌, ◌<◌, ◌^◌, arith}
+use Rattle.std.proofs.Common.{◌≡◌, inl, inr, ℕ, pos, List, [], ◌∷◌, true, Some, None, refl, sym, subst, ◌<◌, ◌^◌, arith}
 use Rattle.std.proofs.lemmas.Bool.{and_parts}
-use Rattle.std.specs.Prelude.{nat_lt, nat_le}
 use Rattle.std.proofs.lemmas.Bool.Decides.{nat_tests}
 use Rattle.sqlite.specs.Order.{Row as SqlRow}
 use Rattle.sqlite.specs.Tree.{Trees}
-use Rattle.sqlite.specs.Does.{Tally, Does}
-use Rattle.sqlite.specs.Effect.{Database}
-use Rattle.sqlite.specs.declared.run.Mode.{Mode}
-use Rattle.sqlite.specs.declared.types.Value.TheVariants.{Int, Text}
+use Rattle.sqlite.specs.declared.types.Value.TheVariants.{Int}
 use Rattle.sqlite.specs.State.{State, MayCommit, MayWrite}
 use Rattle.sqlite_rules.specs.Lists.{Has}
 use Rattle.tip_rows.specs.Keys.{Key}
-use Rattle.tip_rows.specs.Logs.{with_row, without_row, with_known, with_all_raised, with_raised, last_epoch}
+use Rattle.tip_rows.specs.Logs.{with_row, without_row, with_known, with_all_raised, with_raised}
 use Rattle.tip_rows.specs.declared.row.Row.{Row}
-use Rattle.tip_sql.specs.Tables.{log_schema}
-use Rattle.tip_sql.specs.Places.{AreRealms, AreRows, IsRealmRow, IsTxnRow, is_named, is_last, all_rows, name_shown, epoch_shown, row_shown, id_shown, has_key, is_key_number}
-use Rattle.tip_sql.specs.Standing.{place_of, row_of, log_of, IsOurs}
+use Rattle.tip_sql.specs.Places.{AreRealms, AreRows, IsRealmRow, IsTxnRow, is_named, is_last, all_rows, name_shown, epoch_shown, row_shown, has_key, is_key_number}
+use Rattle.tip_sql.specs.Standing.{place_of, row_of, IsOurs}
 use Rattle.sqlite.specs.Term.{lit, col}
 use Rattle.tip_sql.proofs.Texts.{is_equal}
 use Rattle.tip_sql.proofs.Queries.{passes, shows}
@@ -30,7 +25,7 @@ use Rattle.tip_sql.proofs.Removing.{asked, remove_does}
 use Rattle.tip_sql.proofs.RealmFacts.{known_realms, raised_realms}
 use Rattle.tip_sql.proofs.RowFacts.{set_rows, cleared_rows}
 use Rattle.tip_sql.proofs.LogFacts.{log_set, log_cleared, log_known, log_raised_all, log_raised}
-use Rattle.tip_sql.proofs.Outcomes.{Means, Leads}
+use Rattle.tip_sql.proofs.Outcomes.{Means}
 
 pub know_means : (realm : List ℕ) → Means know_text (named realm) know_command (with_known realm)
 know_means realm = record {

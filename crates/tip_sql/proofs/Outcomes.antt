@@ -1,5 +1,5 @@
 -- What a call leaves of the log, and what a stop after it leaves.
-use Rattle.std.proofs.Common.{◌≡◌, ◌⊎◌, inl, inr, ℕ, ℤ, List, [], ◌∷◌, map, filter, Bool, true, false, if◌then◌else◌, Option, Some, None, Ok, Err, Result, MatchResult, IfOk, IfErr, OnOk, IsTrue, Vec, refl, sym, ap, subst, subst₂, ◌∙◌, arith, append-nil}
+use Rattle.std.proofs.Common.{◌≡◌, ◌⊎◌, inl, inr, ℕ, List, [], ◌∷◌, map, filter, Bool, false, if◌then◌else◌, Option, Some, None, Ok, Err, Result, MatchResult, IfOk, IfErr, OnOk, IsTrue, Vec, refl, sym, ap, subst, subst₂, ◌∙◌, arith, append-nil}
 use Rattle.std.specs.List.Sorted.{IsPermutation}
 use Rattle.std.specs.declared.alloc.Global.{Global}
 use Rattle.std.proofs.lemmas.Bool.{cases_Bool}
@@ -23,7 +23,7 @@ use Rattle.sqlite_rules.proofs.ListLemmas.{has_filtered}
 use Rattle.tip_rows.specs.Logs.{Log}
 use Rattle.tip_sql.specs.Tables.{log_schema}
 use Rattle.tip_sql.specs.Places.{AreRealms, AreRows, all_rows, id_shown}
-use Rattle.tip_sql.specs.Standing.{log_of, IsOurs, IsLeft, MayLeave, Changes, Shows, ShowsIds}
+use Rattle.tip_sql.specs.Standing.{log_of, IsOurs, IsLeft, Changes, Shows, ShowsIds}
 use Rattle.tip_sql.proofs.Texts.{Queries}
 use Rattle.tip_sql.proofs.Queries.{plain_answer, passes, shows}
 use Rattle.tip_sql.proofs.Facts.{same_filter, same_map}
@@ -55,24 +55,30 @@ commits_as sql params s schema has command is plain db h =
 
 -- a database that is as it was, or was rolled back, shows what it did
 left_shown : (old new : State) → IsOurs old → IsUnchanged old new ⊎ IsRolledBack old new → IsTrue new.is_open → IsLeft new (log_of old.now.trees)
-left_shown old new was (inl same) opens = (record {
-  is_open = opens;
-  schema = ap (λ (d : Database). d.schema) same.0.now_is ∙ was.schema;
-  settled = same.0.committed_is ∙ was.settled ∙ sym same.0.now_is;
-  autocommit = same.0.mode ∙ was.autocommit;
-  realms = subst (λ (d : Database). AreRealms (d.trees 0)) (sym same.0.now_is) was.realms;
-  rows = subst (λ (d : Database). AreRows (d.trees 2)) (sym same.0.now_is) was.rows;
-}, ap (λ (d : Database). log_of d.trees) same.0.now_is)
+left_shown old new was (inl same) opens = (
+  record {
+    is_open = opens;
+    schema = ap (λ (d : Database). d.schema) same.0.now_is ∙ was.schema;
+    settled = same.0.committed_is ∙ was.settled ∙ sym same.0.now_is;
+    autocommit = same.0.mode ∙ was.autocommit;
+    realms = subst (λ (d : Database). AreRealms (d.trees 0)) (sym same.0.now_is) was.realms;
+    rows = subst (λ (d : Database). AreRows (d.trees 2)) (sym same.0.now_is) was.rows;
+  },
+  ap (λ (d : Database). log_of d.trees) same.0.now_is,
+)
 left_shown old new was (inr back) opens =
     let u = back.undone opens in
-    let now : new.now ≡ old.now = u.0 ∙ was.settled in (record {
-      is_open = opens;
-      schema = ap (λ (d : Database). d.schema) now ∙ was.schema;
-      settled = u.1 ∙ sym u.0;
-      autocommit = back.autocommit;
-      realms = subst (λ (d : Database). AreRealms (d.trees 0)) (sym now) was.realms;
-      rows = subst (λ (d : Database). AreRows (d.trees 2)) (sym now) was.rows;
-    }, ap (λ (d : Database). log_of d.trees) now)
+    let now : new.now ≡ old.now = u.0 ∙ was.settled in (
+      record {
+        is_open = opens;
+        schema = ap (λ (d : Database). d.schema) now ∙ was.schema;
+        settled = u.1 ∙ sym u.0;
+        autocommit = back.autocommit;
+        realms = subst (λ (d : Database). AreRealms (d.trees 0)) (sym now) was.realms;
+        rows = subst (λ (d : Database). AreRows (d.trees 2)) (sym now) was.rows;
+      },
+      ap (λ (d : Database). log_of d.trees) now,
+    )
 
 -- ---- a change
 
@@ -101,15 +107,17 @@ module _ (sql : List ℕ) (params : Row) (command : Command) (change : Log → L
   made (Ok count) was h =
       let text = statement_of sql (understood log_schema sql) in
       let w = means.ran old new text count (runs_as sql params old new log_schema was.schema command means.is means.plain count h) in
-      let it = means.does old.step_limit (mode_of old) old.now new.now w.tally text was.schema was.realms was.rows w.changed in
-      (record {
-        is_open = w.shown.is_open;
-        schema = it.schema;
-        settled = w.shown.committed_is ∙ ap (λ (b : Bool). if b then old.committed else new.now) was.autocommit;
-        autocommit = w.shown.mode ∙ was.autocommit;
-        realms = it.realms;
-        rows = it.rows;
-      }, it.log)
+      let it = means.does old.step_limit (mode_of old) old.now new.now w.tally text was.schema was.realms was.rows w.changed in (
+        record {
+          is_open = w.shown.is_open;
+          schema = it.schema;
+          settled = w.shown.committed_is ∙ ap (λ (b : Bool). if b then old.committed else new.now) was.autocommit;
+          autocommit = w.shown.mode ∙ was.autocommit;
+          realms = it.realms;
+          rows = it.rows;
+        },
+        it.log,
+      )
   made (Err e) was h = left_shown old new was (refused_leaves sql params old new e h)
 
   changes_with : (r : Result ℕ Error) → (HasCleanDisk new → Executes sql params old new r) → Survives old new (CommitsBy sql params old) → Changes change old new r
@@ -155,6 +163,7 @@ fails_leaves sql params old new e (inr (c, it, h)) = go c.returning h
     leaves : (given : Row) → RunsCommand old new sql c given (Err e) → IsUnchanged old new ⊎ IsRolledBack old new
     leaves given (inl same) = inl same.1
     leaves given (inr fails) = inr fails.3
+
     go : (r : Option _) → FailsToShow old new sql c (timed params c.formats it.now) e r → IsUnchanged old new ⊎ IsRolledBack old new
     go None h = inl h.3
     go (Some what) h = leaves _ h

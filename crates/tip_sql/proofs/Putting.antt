@@ -1,30 +1,21 @@
 -- INSERT INTO txn .. ON CONFLICT DO UPDATE.
-use Rattle.std.proofs.Common.{◌≡◌, ◌⊎◌, inl, inr, ℕ, ℤ, pos, List, [], ◌∷◌, ◌++◌, map, filter, drop, Bool, true, false, cond, Option, Some, None, Ok, Err, Result, refl, sym, ap, subst, ◌∙◌, arith}
-use Rattle.std.specs.List.{list_any}
-use Rattle.std.specs.List.Sorted.{IsPermutation}
+use Rattle.std.proofs.Common.{◌≡◌, inl, inr, ℕ, ℤ, List, [], ◌∷◌, ◌++◌, map, filter, drop, true, false, Option, Some, None, Ok, refl, sym, ap, subst, ◌∙◌}
 use Rattle.std.specs.Ordering.{is_eq}
 use Rattle.std.proofs.lemmas.Bool.{cases_Bool, and_parts, and_from}
-use Rattle.sqlite.specs.declared.types.Value.{Value}
 use Rattle.sqlite.specs.declared.types.Value.TheVariants.{Null, Int, Text}
-use Rattle.sqlite.specs.Order.{Row, column, value_cmp}
-use Rattle.sqlite.specs.Ops.{unary}
-use Rattle.sqlite.specs.Kind.TheVariants.{Integer}
+use Rattle.sqlite.specs.Order.{Row, value_cmp}
 use Rattle.sqlite.specs.Source.TheVariants.{Values}
 use Rattle.sqlite_schema.specs.declared.command.Conflict.TheVariants.{Abort}
 use Rattle.sqlite_schema.specs.declared.schema.Keys.{Keys}
-use Rattle.sqlite.specs.Command.TheVariants.{InsertOr}
-use Rattle.sqlite.specs.Edit.{Edit, edit_of, edited, next_rowid, with_rowid, numbered, without_all, put_all, is_taken, are_fresh, id_in, Applies}
-use Rattle.sqlite.specs.Cast.{cast, cast_row}
+use Rattle.sqlite.specs.Edit.{Edit, edit_of, next_rowid, with_rowid, without_all, put_all, is_taken, are_fresh, id_in, Applies}
+use Rattle.sqlite.specs.Cast.{cast_row}
 use Rattle.sqlite.specs.Rowids.TheVariants.{Chosen, Given}
 use Rattle.sqlite.specs.Does.{Tally, Does}
-use Rattle.sqlite.specs.Rows.{Written, nothing, count_of, shown, Task, Edited, Updates, Upserts, Tries, TriesEach, InsertsOr, Puts}
+use Rattle.sqlite.specs.Rows.{Written, nothing, count_of, shown, Task, Edited, Updates, Tries, TriesEach, InsertsOr, Puts}
 use Rattle.sqlite.specs.Tree.{Trees, rowid, has_rowid, put_row}
-use Rattle.sqlite.specs.Listing.{understood}
 use Rattle.sqlite.specs.Effect.{Database}
 use Rattle.sqlite.specs.declared.run.Mode.{Mode}
-use Rattle.sqlite.specs.State.{State, mode_of, Writes, Executes}
-use Rattle.sqlite.specs.declared.error.Error.{Error}
-use Rattle.sqlite.proofs.Callers.{statement_of, runs_as, one_step}
+use Rattle.sqlite.proofs.Callers.{one_step}
 use Rattle.std.proofs.lemmas.List.Sorted.{IsPermutation-sym}
 use Rattle.sqlite_rules.specs.Calls.{ids_of}
 use Rattle.sqlite_rules.specs.Keys.{AreConflicts, conflicts}
@@ -33,7 +24,7 @@ use Rattle.sqlite_rules.proofs.ListLemmas.{some_from, has_filtered, has_kept}
 use Rattle.sqlite_rules.proofs.TableLemmas.{put_has, has_put, put_all_has, put_all_adds, put_all_keeps, without_all_has}
 use Rattle.sqlite_value.proofs.OrderLemmas.{value_cmp-Int}
 use Rattle.tip_sql.specs.Tables.{log_schema, txn_table, txn_row}
-use Rattle.tip_sql.specs.Places.{Place, place_in, is_at, same_place, IsTxnRow, AreRows}
+use Rattle.tip_sql.specs.Places.{Place, place_in, is_at, same_place, AreRows}
 use Rattle.tip_sql.proofs.Effects.{Sets}
 use Rattle.tip_sql.proofs.Steps.{went, same_value, not_two, cast_int, cast_null, numbered_given}
 use Rattle.tip_sql.proofs.Texts.{put_terms, put_clause, put_command, reset_query, reset_query_filter, reset_query_shown}
@@ -82,16 +73,17 @@ module _ (limit : Option ℕ) (keys : Keys) (q : Place) (text : List ℕ) (db : 
       let now : one.trees 2 ≡ put_row new (db 2) = ap (λ (t : Trees). t 2) is ∙ step.rows ∙ ap (λ r. put_row r (db 2)) same in
       let fresh : are_fresh (db 2) (new ∷ []) ≡ true = ap (λ r. are_fresh (db 2) (r ∷ [])) (sym same) ∙ step.fresh in
       let free : is_taken (db 2) new ≡ false = not_true _ (and_parts _ _ fresh).0 in (
-      record {
-        id = next_rowid (db 2);
-        here = subst (λ l. Has l new) (sym now) (has_put new (db 2));
-        others = λ r has. elim (put_has new (db 2) r (subst (λ l. Has l r) now has)) [ inl isnew ↦ inl isnew | inr old ↦ inr (old, none r old) ];
-        kept = λ r has off. subst (λ l. Has l r) (sym now) (put_all_keeps (new ∷ []) (db 2) r fresh has);
-        apart = λ r has off clash.
-            let taken = some_from (λ x. is_eq (value_cmp (rowid x) (rowid new))) (db 2) r has (ap (λ v. is_eq (value_cmp v (rowid new))) (sym clash) ∙ ap is_eq (value_cmp-Int (next_rowid (db 2)) (next_rowid (db 2))) ∙ int_same (next_rowid (db 2))) in
-            let e : true ≡ false = sym taken ∙ free in cc;
-      },
-      ap (λ (t : Trees). t 0) is ∙ step.tables.0 not_two)
+        record {
+          id = next_rowid (db 2);
+          here = subst (λ l. Has l new) (sym now) (has_put new (db 2));
+          others = λ r has. elim (put_has new (db 2) r (subst (λ l. Has l r) now has)) [ inl isnew ↦ inl isnew | inr old ↦ inr (old, none r old) ];
+          kept = λ r has off. subst (λ l. Has l r) (sym now) (put_all_keeps (new ∷ []) (db 2) r fresh has);
+          apart = λ r has off clash.
+              let taken = some_from (λ x. is_eq (value_cmp (rowid x) (rowid new))) (db 2) r has (ap (λ v. is_eq (value_cmp v (rowid new))) (sym clash) ∙ ap is_eq (value_cmp-Int (next_rowid (db 2)) (next_rowid (db 2))) ∙ int_same (next_rowid (db 2))) in
+              let e : true ≡ false = sym taken ∙ free in cc;
+        },
+        ap (λ (t : Trees). t 0) is ∙ step.tables.0 not_two,
+      )
 
   -- one did
   reset : (one : Written) (id : ℤ) (was : List ℕ) → Has (db 2) (txn_row id q.0 q.1 q.2 q.3 was)
@@ -112,55 +104,59 @@ module _ (limit : Option ℕ) (keys : Keys) (q : Place) (text : List ℕ) (db : 
       let passing : p old ≡ true = and_from _ _ (int_eq id id ∙ int_same id) refl in
       let at_id = λ (r : Row) (h : Has (db 2) r) (e : rowid r ≡ Int id). (let e : r ≡ old = rows.apart r old h has e in e) in
       let only = λ (r : Row) (h : Has (db 2) r) (e : p r ≡ true). (let e : r ≡ old =
-          (let it = rows.shaped r h in
-          let is = subst (λ x. p x ≡ true) it.is e in
-          at_id r h (ap rowid it.is ∙ ap Int (same_int it.id id (sym (int_eq it.id id) ∙ (and_parts _ _ is).0)))) in e) in
+      (let it = rows.shaped r h in
+      let is = subst (λ x. p x ≡ true) it.is e in
+      at_id r h (ap rowid it.is ∙ ap Int (same_int it.id id (sym (int_eq it.id id) ∙ (and_parts _ _ is).0)))) in e) in
       let each = λ (r : Row) (h : Has asked.0 r). (let e : r ≡ f old =
-          (let m = has_mapped f (filter p (db 2)) r (has_moved _ _ r (IsPermutation-sym _ _ moved) h) in
-          let k = has_filtered p (db 2) m.0 m.1 in
-          m.2 ∙ ap f (only m.0 k.0 k.1)) in e) in
+      (let m = has_mapped f (filter p (db 2)) r (has_moved _ _ r (IsPermutation-sym _ _ moved) h) in
+      let k = has_filtered p (db 2) m.0 m.1 in
+      m.2 ∙ ap f (only m.0 k.0 k.1)) in e) in
       let first : Has asked.0 (f old) = has_moved _ _ (f old) moved (mapped_has f (filter p (db 2)) old (has_kept p (db 2) old has passing)) in
       let cast = λ (s : Row). cast_row txn_table (drop 1 s) in
       let casts : cast (f old) ≡ now = cast_txn id q text in
       let news : edit.news ≡ map cast asked.0 = numbered_given _ _ in
       let new_is = λ (r : Row) (h : Has edit.news r). (let e : r ≡ now =
-          (let m = has_mapped cast asked.0 r (subst (λ l. Has l r) news h) in m.2 ∙ ap cast (each m.0 m.1) ∙ casts) in e) in
+      (let m = has_mapped cast asked.0 r (subst (λ l. Has l r) news h) in m.2 ∙ ap cast (each m.0 m.1) ∙ casts) in e) in
       let id_is = λ (n : ℤ) (h : Has (ids_of asked.0) n). (let e : n ≡ id =
-          (let m = has_mapped (λ s. id_in (rowid s)) asked.0 n h in m.2 ∙ ap (λ s. id_in (rowid s)) (each m.0 m.1)) in e) in
+      (let m = has_mapped (λ s. id_in (rowid s)) asked.0 n h in m.2 ∙ ap (λ s. id_in (rowid s)) (each m.0 m.1)) in e) in
       let has_it : Has (ids_of asked.0) id = mapped_has (λ s. id_in (rowid s)) asked.0 (f old) first in
       let table : one.trees 2 ≡ put_all (without_all (db 2) (ids_of asked.0)) edit.news = ap (λ (t : Trees). t 2) trees ∙ step.rows in
       let away = λ (r : Row) (h : Has (db 2) r) (off : is_at q r ≡ false) (e : rowid r ≡ Int id). (let e : ⊥ =
-          (let clash : true ≡ false = sym (ap (is_at q) (at_id r h e) ∙ place_same q) ∙ off in cc) in e) in
-      (record {
-        id = id;
-        here = subst (λ l. Has l now) (sym table) (put_all_adds edit.news _ now step.fresh (subst (λ l. Has l now) (sym news) (subst (Has (map cast asked.0)) casts (mapped_has cast asked.0 (f old) first))));
-        others = λ r h. elim (put_all_has edit.news _ r (subst (λ l. Has l r) table h)) [
-          | inl isnew ↦ inl (new_is r isnew)
-          | inr left ↦
-              let was_in = without_all_has (ids_of asked.0) (db 2) r left in
-              let gone = taken_goes (ids_of asked.0) (db 2) r id has_it left in
-              inr (was_in, elim (cases_Bool (is_at q r)) [
-                | inl at_q ↦ absurd (let clash : true ≡ false = sym (ap (has_rowid id) (rows.keyed r old was_in has (is_place _ _ at_q)) ∙ id_has id q was) ∙ gone in cc)
-                | inr off ↦ off
-              ])
-        ];
-        kept = λ r h off. subst (λ l. Has l r) (sym table) (put_all_keeps edit.news _ r step.fresh (left_stays (ids_of asked.0) (db 2) r h (λ n hn. elim (cases_Bool (has_rowid n r)) [
-          | inl is_id ↦
-              let it = rows.shaped r h in
-              absurd (away r h off (ap rowid it.is ∙ ap Int (has_id n it.id it.place it.text (subst (λ x. has_rowid n x ≡ true) it.is is_id) ∙ id_is n hn)))
-          | inr off_id ↦ off_id
-        ])));
-        apart = λ r h off e. away r h off (sym e);
-      },
-      ap (λ (t : Trees). t 0) trees ∙ step.tables.0 not_two)
+      (let clash : true ≡ false = sym (ap (is_at q) (at_id r h e) ∙ place_same q) ∙ off in cc) in e) in (
+        record {
+          id = id;
+          here = subst (λ l. Has l now) (sym table) (put_all_adds edit.news _ now step.fresh (subst (λ l. Has l now) (sym news) (subst (Has (map cast asked.0)) casts (mapped_has cast asked.0 (f old) first))));
+          others = λ r h. elim (put_all_has edit.news _ r (subst (λ l. Has l r) table h)) [
+            | inl isnew ↦ inl (new_is r isnew)
+            | inr left ↦
+                let was_in = without_all_has (ids_of asked.0) (db 2) r left in
+                let gone = taken_goes (ids_of asked.0) (db 2) r id has_it left in
+                inr (
+                  was_in,
+                  elim (cases_Bool (is_at q r)) [
+                    | inl at_q ↦ absurd (let clash : true ≡ false = sym (ap (has_rowid id) (rows.keyed r old was_in has (is_place _ _ at_q)) ∙ id_has id q was) ∙ gone in cc)
+                    | inr off ↦ off
+                  ],
+                )
+          ];
+          kept = λ r h off. subst (λ l. Has l r) (sym table) (put_all_keeps edit.news _ r step.fresh (left_stays (ids_of asked.0) (db 2) r h (λ n hn. elim (cases_Bool (has_rowid n r)) [
+            | inl is_id ↦
+                let it = rows.shaped r h in
+                absurd (away r h off (ap rowid it.is ∙ ap Int (has_id n it.id it.place it.text (subst (λ x. has_rowid n x ≡ true) it.is is_id) ∙ id_is n hn)))
+            | inr off_id ↦ off_id
+          ])));
+          apart = λ r h off e. away r h off (sym e);
+        },
+        ap (λ (t : Trees). t 0) trees ∙ step.tables.0 not_two,
+      )
 
   none_there : AreConflicts (Some (1 ∷ 2 ∷ 3 ∷ 4 ∷ [])) log_schema.indexes txn_table (db 2) new [] → (r : Row) → Has (db 2) r → is_at q r ≡ false
   none_there conf r has = elim (cases_Bool (is_at q r)) [
     | inl at_q ↦
         let it = rows.shaped r has in
         let clash : conflicts (Some (1 ∷ 2 ∷ 3 ∷ 4 ∷ [])) log_schema.indexes txn_table new r ≡ true =
-            subst (λ x. conflicts (Some (1 ∷ 2 ∷ 3 ∷ 4 ∷ [])) log_schema.indexes txn_table new x ≡ true) (sym it.is)
-            (conflict_is (next_rowid (db 2)) it.id q it.place text it.text ∙ sym (ap (λ x. same_place x q) (ap place_in it.is)) ∙ at_q) in
+        subst (λ x. conflicts (Some (1 ∷ 2 ∷ 3 ∷ 4 ∷ [])) log_schema.indexes txn_table new x ≡ true) (sym it.is)
+        (conflict_is (next_rowid (db 2)) it.id q it.place text it.text ∙ sym (ap (λ x. same_place x q) (ap place_in it.is)) ∙ at_q) in
         absurd (conf.complete r has clash)
     | inr off ↦ off
   ]

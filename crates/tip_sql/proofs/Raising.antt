@@ -1,25 +1,22 @@
 -- UPDATE realm SET epoch = epoch + 1.
-use Rattle.std.proofs.Common.{◌≡◌, ◌⊎◌, inl, inr, ℕ, ◌<◌, ◌+◌, ◌^◌, ℤ, pos, negsuc, ◌+ℤ◌, List, [], ◌∷◌, map, filter, drop, Bool, true, false, cond, ◌&&◌, Option, Some, None, Ok, Err, Result, refl, sym, ap, subst, subst₂, ◌∙◌, arith}
-use Rattle.std.specs.List.Sorted.{IsPermutation}
+use Rattle.std.proofs.Common.{◌≡◌, inl, inr, ℕ, ◌<◌, ◌+◌, ℤ, pos, negsuc, ◌+ℤ◌, List, [], ◌∷◌, map, filter, drop, Bool, true, false, Option, None, Ok, refl, sym, ap, subst, subst₂, ◌∙◌, arith}
 use Rattle.std.proofs.lemmas.List.Sorted.{IsPermutation-sym}
 use Rattle.std.proofs.lemmas.Bool.{cases_Bool, and_parts}
 use Rattle.std.proofs.lemmas.Bool.Decides.{nat_tests}
 use Rattle.std.specs.Ordering.{is_eq, is_ge, is_lt, int_cmp}
-use Rattle.sqlite.specs.declared.types.Value.{Value}
 use Rattle.sqlite.specs.declared.types.Value.TheVariants.{Int, Text}
-use Rattle.sqlite.specs.Order.{Row, column, bytes, value_cmp}
-use Rattle.sqlite.specs.Ops.{fits_i64, binary, unary, is_true, from_truth}
-use Rattle.sqlite.specs.Kind.TheVariants.{Integer}
+use Rattle.sqlite.specs.Order.{Row, value_cmp}
+use Rattle.sqlite.specs.Ops.{fits_i64, binary, is_true}
 use Rattle.sqlite.specs.Collation.TheVariants.{Binary}
 use Rattle.sqlite_sql.specs.declared.ops.BinaryOp.TheVariants as by
 use Rattle.sqlite_sql.specs.declared.ops.CompareOp.TheVariants.{Lt, Ge}
 use Rattle.sqlite_sql.specs.declared.ops.ArithOp.TheVariants.{Add}
 use Rattle.sqlite_value.proofs.OrderLemmas.{value_cmp-Int}
 use Rattle.sqlite_schema.specs.declared.schema.Keys.{Keys}
-use Rattle.sqlite.specs.Edit.{Edit, edit_of, without_all, put_all, id_in, Applies}
-use Rattle.sqlite.specs.Cast.{cast, cast_row}
+use Rattle.sqlite.specs.Edit.{edit_of, without_all, put_all, id_in, Applies}
+use Rattle.sqlite.specs.Cast.{cast_row}
 use Rattle.sqlite.specs.Rowids.TheVariants.{Given}
-use Rattle.sqlite.specs.Rows.{Written, Task, Edited, Updates}
+use Rattle.sqlite.specs.Rows.{Written, Task, Updates}
 use Rattle.sqlite.specs.Does.{Tally, Does}
 use Rattle.sqlite.specs.Effect.{Database}
 use Rattle.sqlite.specs.Term.{Term}
@@ -30,8 +27,8 @@ use Rattle.sqlite_rules.specs.Calls.{ids_of}
 use Rattle.sqlite_rules.specs.Lists.{Has}
 use Rattle.sqlite_rules.proofs.ListLemmas.{has_filtered, has_kept}
 use Rattle.sqlite_rules.proofs.TableLemmas.{put_all_has, put_all_adds, put_all_keeps, without_all_has}
-use Rattle.tip_sql.specs.Tables.{log_schema, realm_table, realm_row}
-use Rattle.tip_sql.specs.Places.{IsRealmRow, AreRealms, is_named}
+use Rattle.tip_sql.specs.Tables.{log_schema, realm_table}
+use Rattle.tip_sql.specs.Places.{IsRealmRow, AreRealms}
 use Rattle.tip_sql.proofs.Effects.{can_rise, one_can_rise, risen, Raises}
 use Rattle.tip_sql.proofs.Texts.{raise_command, raise_query, raise_shown, can_rise_terms, one_can_rise_terms}
 use Rattle.tip_sql.proofs.Facts.{left_stays, taken_goes, same_int, int_same, has_mapped, mapped_has}
@@ -97,44 +94,51 @@ module _ (filter_terms : List Term) (params : Row) (up : Row → Bool) (passes_i
       let news : edit.news ≡ map cast found.0 = numbered_given _ _ in
       let table : one.trees 0 ≡ put_all (without_all (db 0) (ids_of found.0)) edit.news = ap (λ (t : Trees). t 0) trees ∙ step.rows in
       let shown = λ (r : Row) (h : Has (db 0) r) (e : p r ≡ true). (let it : Has found.0 (f r) = has_moved _ _ (f r) moved (mapped_has f (filter p (db 0)) r (has_kept p (db 0) r h e)) in it) in
-      let source = λ (s : Row) (h : Has found.0 s). has_mapped f (filter p (db 0)) s (has_moved _ _ s (IsPermutation-sym _ _ moved) h) in
-      (record {
-        raised = λ r h rose.
-            let it = rows.shaped r h in
-            let got = mapped_has cast found.0 (f r) (shown r h (passes_is r it ∙ rose)) in
-            subst (λ l. Has l (risen r)) (sym table) (put_all_adds edit.news _ (risen r) step.fresh (subst (λ l. Has l (risen r)) (sym news) (subst (Has (map cast found.0)) (shown_is params r it (rises r rose)) got)));
-        kept = λ r h stays. subst (λ l. Has l r) (sym table) (put_all_keeps edit.news _ r step.fresh (left_stays (ids_of found.0) (db 0) r h (λ n hn. elim (cases_Bool (has_rowid n r)) [
-          | inl is_id ↦
-              let m = has_mapped id found.0 n hn in
-              let k = source m.0 m.1 in
-              let w = has_filtered p (db 0) k.0 k.1 in
-              let its = rows.shaped k.0 w.0 in
+      let source = λ (s : Row) (h : Has found.0 s). has_mapped f (filter p (db 0)) s (has_moved _ _ s (IsPermutation-sym _ _ moved) h) in (
+        record {
+          raised = λ r h rose.
               let it = rows.shaped r h in
-              let n_is : n ≡ its.id = m.2 ∙ ap id k.2 ∙ ap id_in (ap rowid its.is) in
-              let same : r ≡ k.0 = rows.apart r k.0 h w.0 (ap rowid it.is ∙ ap Int (has_id n r it is_id ∙ n_is) ∙ sym (ap rowid its.is)) in
-              absurd (let clash : true ≡ false = sym (ap up same ∙ sym (passes_is k.0 its) ∙ w.1) ∙ stays in cc)
-          | inr off_id ↦ off_id
-        ])));
-        from = λ y h. elim (put_all_has edit.news _ y (subst (λ l. Has l y) table h)) [
-          | inl isnew ↦
-              let m = has_mapped cast found.0 y (subst (λ l. Has l y) news isnew) in
-              let k = source m.0 m.1 in
-              let w = has_filtered p (db 0) k.0 k.1 in
-              let it = rows.shaped k.0 w.0 in
-              let rose : up k.0 ≡ true = sym (passes_is k.0 it) ∙ w.1 in
-              (k.0, w.0, inl (rose, m.2 ∙ ap cast k.2 ∙ shown_is params k.0 it (rises k.0 rose)))
-          | inr left ↦
-              let was = without_all_has (ids_of found.0) (db 0) y left in
-              let it = rows.shaped y was in
-              (y, was, inr (elim (cases_Bool (up y)) [
-                | inl rose ↦
-                    let gone = taken_goes (ids_of found.0) (db 0) y (id (f y)) (mapped_has id found.0 (f y) (shown y was (passes_is y it ∙ rose))) left in
-                    absurd (let clash : true ≡ false = sym (own_id y it) ∙ gone in cc)
-                | inr stays ↦ stays
-              ], refl))
-        ];
-      },
-      ap (λ (t : Trees). t 2) trees ∙ step.tables.1.0 apart_too)
+              let got = mapped_has cast found.0 (f r) (shown r h (passes_is r it ∙ rose)) in
+              subst (λ l. Has l (risen r)) (sym table) (put_all_adds edit.news _ (risen r) step.fresh (subst (λ l. Has l (risen r)) (sym news) (subst (Has (map cast found.0)) (shown_is params r it (rises r rose)) got)));
+          kept = λ r h stays. subst (λ l. Has l r) (sym table) (put_all_keeps edit.news _ r step.fresh (left_stays (ids_of found.0) (db 0) r h (λ n hn. elim (cases_Bool (has_rowid n r)) [
+            | inl is_id ↦
+                let m = has_mapped id found.0 n hn in
+                let k = source m.0 m.1 in
+                let w = has_filtered p (db 0) k.0 k.1 in
+                let its = rows.shaped k.0 w.0 in
+                let it = rows.shaped r h in
+                let n_is : n ≡ its.id = m.2 ∙ ap id k.2 ∙ ap id_in (ap rowid its.is) in
+                let same : r ≡ k.0 = rows.apart r k.0 h w.0 (ap rowid it.is ∙ ap Int (has_id n r it is_id ∙ n_is) ∙ sym (ap rowid its.is)) in
+                absurd (let clash : true ≡ false = sym (ap up same ∙ sym (passes_is k.0 its) ∙ w.1) ∙ stays in cc)
+            | inr off_id ↦ off_id
+          ])));
+          from = λ y h. elim (put_all_has edit.news _ y (subst (λ l. Has l y) table h)) [
+            | inl isnew ↦
+                let m = has_mapped cast found.0 y (subst (λ l. Has l y) news isnew) in
+                let k = source m.0 m.1 in
+                let w = has_filtered p (db 0) k.0 k.1 in
+                let it = rows.shaped k.0 w.0 in
+                let rose : up k.0 ≡ true = sym (passes_is k.0 it) ∙ w.1 in
+                (k.0, w.0, inl (rose, m.2 ∙ ap cast k.2 ∙ shown_is params k.0 it (rises k.0 rose)))
+            | inr left ↦
+                let was = without_all_has (ids_of found.0) (db 0) y left in
+                let it = rows.shaped y was in (
+                  y,
+                  was,
+                  inr (
+                    elim (cases_Bool (up y)) [
+                      | inl rose ↦
+                          let gone = taken_goes (ids_of found.0) (db 0) y (id (f y)) (mapped_has id found.0 (f y) (shown y was (passes_is y it ∙ rose))) left in
+                          absurd (let clash : true ≡ false = sym (own_id y it) ∙ gone in cc)
+                      | inr stays ↦ stays
+                    ],
+                    refl,
+                  ),
+                )
+          ];
+        },
+        ap (λ (t : Trees). t 2) trees ∙ step.tables.1.0 apart_too,
+      )
     where
       apart_too : ◌≡◌ {A = ℕ} 2 0 → ⊥
       apart_too e = not_two (sym e)

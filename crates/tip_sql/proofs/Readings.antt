@@ -1,11 +1,10 @@
 -- A text is read as a row exactly where it spells the row.
-use Rattle.std.proofs.Common.{◌≡◌, ◌⊎◌, inl, inr, ℕ, zero, suc, ◌+◌, ◌<◌, List, [], ◌∷◌, ◌++◌, length, map, take, get_or, Option, Some, None, Ok, Err, Result, IsErr, IsErrAnd, refl, sym, ap, ◌∙◌, arith}
+use Rattle.std.proofs.Common.{◌≡◌, inl, inr, ℕ, zero, suc, ◌+◌, ◌<◌, List, [], ◌∷◌, ◌++◌, length, map, take, get_or, Option, Some, None, Ok, Err, Result, IsErr, IsErrAnd, refl, sym, ap, ◌∙◌, arith}
 use Rattle.std.proofs.lemmas.List.{take_more, map-append}
 use Rattle.sqlite_rules.specs.Lists.{Has}
 use Rattle.tip_rows.specs.Rows.{written, IsRow, Spells}
 use Rattle.tip_rows.specs.declared.row.Row.{Row}
-use Rattle.tip_rows.specs.declared.text.RowFault.{RowFault}
-use Rattle.tip_rows.specs.declared.text.RowFault.TheVariants.{BadRow, Memory}
+use Rattle.tip_rows.specs.declared.text.RowFault.TheVariants.{BadRow}
 use Rattle.tip_rows.proofs.Spellings.{parsed, parsed_only, parsed_bad}
 use Rattle.tip_rows.specs.declared.log.LoadFault.{LoadFault}
 use Rattle.tip_rows.specs.declared.log.LoadFault.TheVariants as load_fault

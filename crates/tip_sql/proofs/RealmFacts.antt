@@ -1,13 +1,12 @@
 -- Known realms after a change.
-use Rattle.std.proofs.Common.{◌≡◌, ◌⊎◌, inl, inr, ℕ, ℤ, pos, negsuc, ◌+◌, ◌+ℤ◌, List, Bool, true, false, ◌&&◌, find, Option, Some, None, option_map, if◌then◌else◌, refl, sym, ap, subst, ◌∙◌, arith}
+use Rattle.std.proofs.Common.{◌≡◌, inl, inr, ℕ, ℤ, pos, negsuc, List, Bool, true, false, ◌&&◌, find, Option, Some, None, option_map, if◌then◌else◌, refl, sym, ap, subst, ◌∙◌, arith}
 use Rattle.std.specs.Str.{bytes_eq}
 use Rattle.std.specs.Ordering.{is_ge, is_lt, int_cmp}
 use Rattle.std.specs.Prelude.{nat_lt}
-use Rattle.std.proofs.lemmas.Bool.{cases_Bool, and_parts}
+use Rattle.std.proofs.lemmas.Bool.{cases_Bool}
 use Rattle.std.proofs.lemmas.Bool.Decides.{nat_tests}
 use Rattle.sqlite.specs.Order.{Row}
 use Rattle.sqlite.specs.Tree.{rowid}
-use Rattle.sqlite.specs.declared.types.Value.TheVariants.{Int}
 use Rattle.sqlite_rules.specs.Lists.{Has}
 use Rattle.sqlite_rules.proofs.ListLemmas.{has_found}
 use Rattle.tip_rows.specs.Logs.{known, raised}
@@ -51,7 +50,7 @@ epoch_known old new realm realms (inl there) n = elim (cases_Bool (bytes_eq real
   | inl same ↦
       let name : realm ≡ n = same_text realm n same in
       let found = find_only (is_named n) old there.0 there.1 (ap (λ x. is_named x there.0) (sym name) ∙ there.2)
-          (λ y has is. one_name old realms n y there.0 has there.1 is (ap (λ x. is_named x there.0) (sym name) ∙ there.2)) in
+      (λ y has is. one_name old realms n y there.0 has there.1 is (ap (λ x. is_named x there.0) (sym name) ∙ there.2)) in
       rw same (ap (λ l. epoch_at l n) there.3 ∙ sym (known_some (epoch_at old n) (epoch_in there.0) (ap (option_map epoch_in) found)))
   | inr other ↦ rw other (ap (λ l. epoch_at l n) there.3)
 ]
@@ -117,8 +116,8 @@ epoch_lifted up old new realms raises n = go (find (is_named n) old) refl
     go : (o : Option Row) → find (is_named n) old ≡ o → epoch_at new n ≡ option_map (λ r. epoch_in (lift up r)) (find (is_named n) old)
     go None e =
         let none = find_none (is_named n) new (λ y has.
-            let m = lifted up old new raises y has in
-            ap (is_named n) m.2 ∙ ap (λ x. bytes_eq x n) (lift_keeps name_in up m.0 refl) ∙ find_missed (is_named n) old m.0 e m.1) in
+        let m = lifted up old new raises y has in
+        ap (is_named n) m.2 ∙ ap (λ x. bytes_eq x n) (lift_keeps name_in up m.0 refl) ∙ find_missed (is_named n) old m.0 e m.1) in
         ap (option_map epoch_in) none ∙ sym (ap (option_map (λ (r : Row). epoch_in (lift up r))) e)
     go (Some r) e =
         let f = has_found (is_named n) old r e in
@@ -127,10 +126,6 @@ epoch_lifted up old new realms raises n = go (find (is_named n) old) refl
         let has : Has new (lift up r) = has_lifted up old new raises r f.0 in
         let found = find_only (is_named n) new (lift up r) has here (λ y hy is. one_name new after n y (lift up r) hy has is here) in
         ap (option_map epoch_in) found ∙ sym (ap (option_map (λ (r : Row). epoch_in (lift up r))) e)
-
-
-
-
 
 lt_is : (n : ℕ) → is_lt (int_cmp (pos n) (pos 4294967295)) ≡ nat_lt n 4294967295
 lt_is n = grind (arith, nat_tests)
@@ -168,13 +163,13 @@ pub one_epoch : (realm : List ℕ) (old new : List Row) → AreRealms old → Ra
 one_epoch realm old new realms raises n = elim (cases_Bool (bytes_eq realm n)) [
   | inl same ↦ rw same (epoch_lifted (one_can_rise realm) old new realms raises n
       ∙ mapped_alike (λ r. epoch_in (lift (one_can_rise realm) r)) (λ r. raised (epoch_in r)) (find (is_named n) old) (λ r found.
-          let f = has_found (is_named n) old r found in
-          let named : is_named realm r ≡ true = ap (λ x. is_named x r) (same_text realm n same) ∙ f.1 in
-          ap (λ b. epoch_in (if b && can_rise r then risen r else r)) named ∙ raised_is r (realms.shaped r f.0))
+      let f = has_found (is_named n) old r found in
+      let named : is_named realm r ≡ true = ap (λ x. is_named x r) (same_text realm n same) ∙ f.1 in
+      ap (λ b. epoch_in (if b && can_rise r then risen r else r)) named ∙ raised_is r (realms.shaped r f.0))
       ∙ sym (map_twice epoch_in raised (find (is_named n) old)))
   | inr other ↦ rw other (epoch_lifted (one_can_rise realm) old new realms raises n
       ∙ mapped_alike (λ r. epoch_in (lift (one_can_rise realm) r)) epoch_in (find (is_named n) old) (λ r found.
-          let f = has_found (is_named n) old r found in
-          let off : is_named realm r ≡ false = ap (λ x. bytes_eq x realm) (same_text _ n f.1) ∙ bytes_eq-sym n realm ∙ other in
-          ap (λ b. epoch_in (if b && can_rise r then risen r else r)) off))
+      let f = has_found (is_named n) old r found in
+      let off : is_named realm r ≡ false = ap (λ x. bytes_eq x realm) (same_text _ n f.1) ∙ bytes_eq-sym n realm ∙ other in
+      ap (λ b. epoch_in (if b && can_rise r then risen r else r)) off))
 ]

@@ -1,12 +1,11 @@
 -- DELETE FROM txn.
-use Rattle.std.proofs.Common.{◌≡◌, ◌⊎◌, inl, inr, ℕ, ℤ, pos, List, [], ◌∷◌, map, filter, Bool, true, false, ◌&&◌, Option, Some, None, Ok, Err, Result, refl, sym, ap, subst, ◌∙◌, arith}
-use Rattle.std.specs.List.Sorted.{IsPermutation}
+use Rattle.std.proofs.Common.{◌≡◌, inl, inr, ℕ, List, [], ◌∷◌, filter, true, false, Option, None, Ok, refl, sym, ap, subst, ◌∙◌}
 use Rattle.std.proofs.lemmas.List.Sorted.{IsPermutation-sym}
 use Rattle.std.proofs.lemmas.Bool.{cases_Bool}
 use Rattle.sqlite.specs.declared.types.Value.TheVariants.{Int, Text}
-use Rattle.sqlite.specs.Order.{Row, column}
+use Rattle.sqlite.specs.Order.{Row}
 use Rattle.sqlite_schema.specs.declared.schema.Keys.{Keys}
-use Rattle.sqlite.specs.Edit.{Edit, edit_of, without_all, id_in, Applies}
+use Rattle.sqlite.specs.Edit.{edit_of, without_all, id_in}
 use Rattle.sqlite.specs.Rowids.TheVariants.{Given}
 use Rattle.sqlite.specs.Rows.{Written, Deletes}
 use Rattle.sqlite.specs.Does.{Tally, Does}
@@ -17,8 +16,8 @@ use Rattle.sqlite_rules.specs.Calls.{ids_of}
 use Rattle.sqlite_rules.specs.Lists.{Has}
 use Rattle.sqlite_rules.proofs.ListLemmas.{has_filtered, has_kept}
 use Rattle.sqlite_rules.proofs.TableLemmas.{without_all_has}
-use Rattle.tip_sql.specs.Tables.{log_schema, txn_table, txn_row}
-use Rattle.tip_sql.specs.Places.{Place, place_in, is_at, same_place, IsTxnRow, AreRows}
+use Rattle.tip_sql.specs.Tables.{log_schema, txn_table}
+use Rattle.tip_sql.specs.Places.{Place, is_at, IsTxnRow, AreRows}
 use Rattle.tip_sql.proofs.Effects.{Clears}
 use Rattle.tip_sql.proofs.Texts.{remove_command, remove_query, remove_query_filter, remove_query_shown}
 use Rattle.tip_sql.proofs.Facts.{left_stays, taken_goes, has_mapped, mapped_has}
@@ -46,34 +45,37 @@ module _ (limit : Option ℕ) (keys : Keys) (q : Place) (db : Trees) (rows : Are
       let step = one_edit keys db out.0 edit refl out.1 in
       let trees : one.trees ≡ out.0 = ap (λ (w : Written). w.trees) (same_value out.2) in
       let table : one.trees 2 ≡ without_all (db 2) (ids_of found.0) = ap (λ (t : Trees). t 2) trees ∙ step.rows in
-      let id = λ (s : Row). id_in (rowid s) in
-      (record {
-        others = λ r h.
-            let left = subst (λ l. Has l r) table h in
-            let was = without_all_has (ids_of found.0) (db 2) r left in
-            let it = rows.shaped r was in
-            (was, elim (cases_Bool (is_at q r)) [
-              | inl at_q ↦
-                  let shown : Has found.0 (f r) = has_moved _ _ (f r) moved (mapped_has f (filter p (db 2)) r (has_kept p (db 2) r was (passes_is q r it ∙ at_q))) in
-                  let gone = taken_goes (ids_of found.0) (db 2) r (id (f r)) (mapped_has id found.0 (f r) shown) left in
-                  let clash : true ≡ false = sym (ap (λ x. has_rowid (id_in (rowid x)) x) it.is ∙ id_has it.id it.place it.text) ∙ gone in
-                  absurd (let e = clash in cc)
-              | inr off ↦ off
-            ]);
-        kept = λ r h off. subst (λ l. Has l r) (sym table) (left_stays (ids_of found.0) (db 2) r h (λ n hn. elim (cases_Bool (has_rowid n r)) [
-          | inl is_id ↦
-              let m = has_mapped id found.0 n hn in
-              let k = has_mapped f (filter p (db 2)) m.0 (has_moved _ _ m.0 (IsPermutation-sym _ _ moved) m.1) in
-              let w = has_filtered p (db 2) k.0 k.1 in
-              let it = rows.shaped r h in
-              let its = rows.shaped k.0 w.0 in
-              let n_is : n ≡ its.id = m.2 ∙ ap id k.2 ∙ ap id_in (ap rowid its.is) in
-              let same : r ≡ k.0 = rows.apart r k.0 h w.0 (ap rowid it.is ∙ ap Int (has_id n it.id it.place it.text (subst (λ x. has_rowid n x ≡ true) it.is is_id) ∙ n_is) ∙ sym (ap rowid its.is)) in
-              absurd (let clash : true ≡ false = sym (ap (is_at q) same ∙ sym (passes_is q k.0 its) ∙ w.1) ∙ off in cc)
-          | inr off_id ↦ off_id
-        ]));
-      },
-      ap (λ (t : Trees). t 0) trees ∙ step.tables.0 not_two)
+      let id = λ (s : Row). id_in (rowid s) in (
+        record {
+          others = λ r h.
+              let left = subst (λ l. Has l r) table h in
+              let was = without_all_has (ids_of found.0) (db 2) r left in
+              let it = rows.shaped r was in (
+                was,
+                elim (cases_Bool (is_at q r)) [
+                  | inl at_q ↦
+                      let shown : Has found.0 (f r) = has_moved _ _ (f r) moved (mapped_has f (filter p (db 2)) r (has_kept p (db 2) r was (passes_is q r it ∙ at_q))) in
+                      let gone = taken_goes (ids_of found.0) (db 2) r (id (f r)) (mapped_has id found.0 (f r) shown) left in
+                      let clash : true ≡ false = sym (ap (λ x. has_rowid (id_in (rowid x)) x) it.is ∙ id_has it.id it.place it.text) ∙ gone in
+                      absurd (let e = clash in cc)
+                  | inr off ↦ off
+                ],
+              );
+          kept = λ r h off. subst (λ l. Has l r) (sym table) (left_stays (ids_of found.0) (db 2) r h (λ n hn. elim (cases_Bool (has_rowid n r)) [
+            | inl is_id ↦
+                let m = has_mapped id found.0 n hn in
+                let k = has_mapped f (filter p (db 2)) m.0 (has_moved _ _ m.0 (IsPermutation-sym _ _ moved) m.1) in
+                let w = has_filtered p (db 2) k.0 k.1 in
+                let it = rows.shaped r h in
+                let its = rows.shaped k.0 w.0 in
+                let n_is : n ≡ its.id = m.2 ∙ ap id k.2 ∙ ap id_in (ap rowid its.is) in
+                let same : r ≡ k.0 = rows.apart r k.0 h w.0 (ap rowid it.is ∙ ap Int (has_id n it.id it.place it.text (subst (λ x. has_rowid n x ≡ true) it.is is_id) ∙ n_is) ∙ sym (ap rowid its.is)) in
+                absurd (let clash : true ≡ false = sym (ap (is_at q) same ∙ sym (passes_is q k.0 its) ∙ w.1) ∙ off in cc)
+            | inr off_id ↦ off_id
+          ]));
+        },
+        ap (λ (t : Trees). t 0) trees ∙ step.tables.0 not_two,
+      )
 
 -- what the command makes of a database
 pub remove_does : (limit : Option ℕ) (mode : Mode) (db after : Database) (tally : Tally) (sql : List ℕ) (q : Place) → db.schema ≡ log_schema → AreRows (db.trees 2)

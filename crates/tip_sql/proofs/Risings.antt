@@ -1,5 +1,5 @@
 -- Lists that rise, and what may stand behind their last element.
-use Rattle.std.proofs.Common.{◌≡◌, ℕ, ◌+◌, ◌-◌, suc, List, [], ◌∷◌, ◌++◌, length, map, slice_get, Bool, true, false, ◌&&◌, Option, Some, None, refl, sym, ap, ◌∙◌, arith}
+use Rattle.std.proofs.Common.{◌≡◌, ℕ, ◌-◌, suc, List, [], ◌∷◌, ◌++◌, length, map, slice_get, Bool, true, ◌&&◌, Option, Some, refl, sym, ap, ◌∙◌, arith}
 use Rattle.std.specs.List.{list_all}
 use Rattle.std.specs.declared.cmp.Ordering.{Ordering}
 use Rattle.std.specs.declared.cmp.Ordering.TheVariants.{Less, Equal, Greater}
@@ -47,7 +47,6 @@ last_is (x ∷ z ∷ rest) =
 
 before-trans : (a b c : Key) → comes_before a b ≡ true → comes_before b c ≡ true → comes_before a c ≡ true
 before-trans a b c h k = grind (arith, nat_tests)
-
 
 entries_rise : (entries : List (Key × Row)) → is_rising entries ≡ rises (λ (e : Key × Row) (f : Key × Row). comes_before e.0 f.0) entries
 entries_rise [] = refl

@@ -1,12 +1,12 @@
 -- Rows of transactions after a change.
-use Rattle.std.proofs.Common.{◌≡◌, ◌⊎◌, inl, inr, ℕ, List, [], ◌∷◌, Bool, true, false, find, Option, Some, None, option_map, if◌then◌else◌, refl, sym, ap, subst, ◌∙◌}
+use Rattle.std.proofs.Common.{◌≡◌, inl, inr, ℕ, List, Bool, true, false, find, Option, Some, None, option_map, if◌then◌else◌, refl, sym, ap, ◌∙◌}
 use Rattle.std.proofs.lemmas.Bool.{cases_Bool}
 use Rattle.sqlite.specs.Order.{Row}
 use Rattle.sqlite.specs.Tree.{rowid}
 use Rattle.sqlite_rules.specs.Lists.{Has}
 use Rattle.sqlite_rules.proofs.ListLemmas.{has_found}
 use Rattle.tip_sql.specs.Tables.{txn_row}
-use Rattle.tip_sql.specs.Places.{Place, place_in, same_place, is_at, text_in, text_at, IsTxnRow, AreRows}
+use Rattle.tip_sql.specs.Places.{Place, place_in, same_place, is_at, text_in, text_at, AreRows}
 use Rattle.tip_sql.proofs.Effects.{Sets, Clears}
 use Rattle.tip_sql.proofs.Facts.{find_only, find_none, find_missed, is_place, place_same}
 
@@ -59,12 +59,13 @@ pub text_set : (old new : List Row) (q : Place) (text : List ℕ) → AreRows ol
 text_set old new q text rows sets p = elim (cases_Bool (same_place q p)) [
   | inl same ↦ rw same (ap (option_map text_in) (find_only (is_at p) new row sets.here same (λ y has at_p. after.keyed y row has sets.here (is_place _ _ at_p ∙ sym (is_place q p same)))))
   | inr other ↦ rw other (ap (option_map text_in) (same_find old new (is_at p) after (one_place p)
-    (λ r has at_p. sets.kept r has (elsewhere q p r other at_p))
-    (λ r has at_p. elim (sets.others r has) [ inl is ↦ absurd (let e : true ≡ false = sym at_p ∙ ap (is_at p) is ∙ other in cc) | inr kept ↦ kept.0 ])))
+      (λ r has at_p. sets.kept r has (elsewhere q p r other at_p))
+      (λ r has at_p. elim (sets.others r has) [ inl is ↦ absurd (let e : true ≡ false = sym at_p ∙ ap (is_at p) is ∙ other in cc) | inr kept ↦ kept.0 ])))
 ]
   where
     row : Row
     row = txn_row sets.id q.0 q.1 q.2 q.3 text
+
     after : AreRows new
     after = set_rows old new q text rows sets
 
@@ -73,5 +74,5 @@ pub text_cleared : (old new : List Row) (q : Place) → AreRows old → Clears o
 text_cleared old new q rows clears p = elim (cases_Bool (same_place q p)) [
   | inl same ↦ rw same (ap (option_map text_in) (find_none (is_at p) new (λ y has. ap (λ x. same_place (place_in y) x) (sym (is_place q p same)) ∙ (clears.others y has).1)))
   | inr other ↦ rw other (ap (option_map text_in) (same_find old new (is_at p) (cleared_rows old new q rows clears) (one_place p)
-    (λ r has at_p. clears.kept r has (elsewhere q p r other at_p)) (λ r has at_p. (clears.others r has).0)))
+      (λ r has at_p. clears.kept r has (elsewhere q p r other at_p)) (λ r has at_p. (clears.others r has).0)))
 ]

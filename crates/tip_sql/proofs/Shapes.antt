@@ -1,5 +1,5 @@
 -- What a database that obeys its schema says of its rows, once no two have one rowid.
-use Rattle.std.proofs.Common.{◌≡◌, ◌⊎◌, inl, inr, ℕ, ℤ, pos, List, [], ◌∷◌, map, Bool, true, false, ◌&&◌, ◌||◌, not, if◌then◌else◌, refl, sym, ap, subst, subst₂, filter, ◌++◌, Option, Some, None, ◌∙◌}
+use Rattle.std.proofs.Common.{◌≡◌, ◌⊎◌, inl, inr, ℕ, ℤ, List, [], ◌∷◌, map, Bool, true, false, ◌&&◌, not, refl, sym, ap, subst, subst₂, filter, ◌++◌, Option, Some, None, ◌∙◌}
 use Rattle.std.proofs.lemmas.List.{map-append}
 use Rattle.std.proofs.lemmas.Cmp.{int_cmp_total}
 use Rattle.tip_sql.proofs.Risings.{rising_push, all_before, last_push}
@@ -20,20 +20,20 @@ use Rattle.std.specs.Ordering.{is_eq, is_ne, is_lt, int_cmp}
 use Rattle.std.specs.declared.cmp.Ordering.{Ordering}
 use Rattle.std.specs.declared.cmp.Ordering.TheVariants.{Less, Equal, Greater}
 use Rattle.std.specs.Str.{bytes_eq}
-use Rattle.std.proofs.lemmas.Bool.{cases_Bool, and_parts, and_from}
-use Rattle.sqlite.specs.Order.{Row, column, bytes}
+use Rattle.std.proofs.lemmas.Bool.{cases_Bool, and_parts}
+use Rattle.sqlite.specs.Order.{Row, column}
 use Rattle.sqlite.specs.Edit.{id_in}
 use Rattle.sqlite.specs.Tree.{Trees, rowid}
 use Rattle.sqlite.specs.Ops.{is_null}
 use Rattle.sqlite.specs.declared.types.Value.{Value}
 use Rattle.sqlite.specs.declared.types.Value.TheVariants.{Null, Int, Real, Text, Blob}
-use Rattle.sqlite_schema.specs.Rules.{passes, Keeps, Obeys, are_typed, are_present, clashes, agree, differ, equal, is_of}
+use Rattle.sqlite_schema.specs.Rules.{passes, Obeys, agree, differ, is_of}
 use Rattle.sqlite_schema.specs.declared.schema.Constraint.TheVariants.{Datatype, NotNull, Unique}
 use Rattle.sqlite_schema.specs.declared.schema.Kind.TheVariants as kind
 use Rattle.sqlite_rules.specs.Lists.{Has}
-use Rattle.tip_rows.proofs.MemoryLemmas.{same_text, bytes_eq-self}
+use Rattle.tip_rows.proofs.MemoryLemmas.{bytes_eq-self}
 use Rattle.tip_sql.specs.Reading.{rises, last_of, may_follow}
-use Rattle.tip_sql.specs.Tables.{log_schema, realm_table, txn_table, realm_index, txn_index, binary_order, realm_row, txn_row}
+use Rattle.tip_sql.specs.Tables.{log_schema, realm_table, txn_table, binary_order, realm_row, txn_row}
 use Rattle.tip_sql.specs.Places.{Place, same_place, all_rows, id_shown, number_at, name_in, place_in, IsRealmRow, IsTxnRow, AreRealms, AreRows}
 use Rattle.tip_sql.proofs.Facts.{same_int, int_same, place_same, mapped_has}
 use Rattle.tip_sql.proofs.Tests.{truth_back, and_all, text_eq, int_eq}
@@ -172,7 +172,7 @@ module _ (db : Trees) (obeys : Obeys log_schema db) where
         let off = none_any _ (db 0) a free ha in
         let name : bytes_eq ia.name ib.name ≡ true = ap (λ n. bytes_eq n ib.name) (sym (ap name_in ia.is) ∙ same ∙ ap name_in ib.is) ∙ bytes_eq-self ib.name in
         let agrees : agree binary_order (1 ∷ []) a (1 ∷ []) b ≡ true =
-            subst₂ (λ x y. agree binary_order (1 ∷ []) x (1 ∷ []) y ≡ true) (sym ia.is) (sym ib.is) (names_agree ia.id ib.id ia.name ib.name ia.epoch ib.epoch ∙ name) in
+        subst₂ (λ x y. agree binary_order (1 ∷ []) x (1 ∷ []) y ≡ true) (sym ia.is) (sym ib.is) (names_agree ia.id ib.id ia.name ib.name ia.epoch ib.epoch ∙ name) in
         let differs : differ (rowid a) (rowid b) ≡ false = and_false _ _ agrees off in
         let same_ids = same_id ia.id ib.id (subst₂ (λ x y. differ (rowid x) (rowid y) ≡ false) ia.is ib.is differs) in
         ids.apart a b ha hb (ap rowid ia.is ∙ ap Int same_ids ∙ sym (ap rowid ib.is));
@@ -180,6 +180,7 @@ module _ (db : Trees) (obeys : Obeys log_schema db) where
     where
       shape : (r : Row) → Has (db 0) r → IsRealmRow r
       shape r has = realm_shape r (ids.numbers r has) (every _ (db 0) r (obeys.rules Datatype).0 has) (every _ (db 0) r (obeys.rules NotNull).0 has)
+
       and_false : (a b : Bool) → a ≡ true → (a && b) ≡ false → b ≡ false
       and_false a b is off = rw is at off
 
@@ -196,7 +197,7 @@ module _ (db : Trees) (obeys : Obeys log_schema db) where
         let off = none_any other (db 2) a free ha in
         let place : same_place ia.place ib.place ≡ true = ap (λ p. same_place p ib.place) (sym (ap place_in ia.is) ∙ same ∙ ap place_in ib.is) ∙ place_same ib.place in
         let agrees : agree binary_order (1 ∷ 2 ∷ 3 ∷ 4 ∷ []) a (1 ∷ 2 ∷ 3 ∷ 4 ∷ []) b ≡ true =
-            subst₂ (λ x y. agree binary_order (1 ∷ 2 ∷ 3 ∷ 4 ∷ []) x (1 ∷ 2 ∷ 3 ∷ 4 ∷ []) y ≡ true) (sym ia.is) (sym ib.is) (places_agree ia.id ib.id ia.place ib.place ia.text ib.text ∙ place) in
+        subst₂ (λ x y. agree binary_order (1 ∷ 2 ∷ 3 ∷ 4 ∷ []) x (1 ∷ 2 ∷ 3 ∷ 4 ∷ []) y ≡ true) (sym ia.is) (sym ib.is) (places_agree ia.id ib.id ia.place ib.place ia.text ib.text ∙ place) in
         let differs : differ (rowid a) (rowid b) ≡ false = and_false _ _ agrees off in
         let same_ids = same_id ia.id ib.id (subst₂ (λ x y. differ (rowid x) (rowid y) ≡ false) ia.is ib.is differs) in
         ids.apart a b ha hb (ap rowid ia.is ∙ ap Int same_ids ∙ sym (ap rowid ib.is));
@@ -204,6 +205,7 @@ module _ (db : Trees) (obeys : Obeys log_schema db) where
     where
       shape : (r : Row) → Has (db 2) r → IsTxnRow r
       shape r has = txn_shape r (ids.numbers r has) (every _ (db 2) r (obeys.rules Datatype).1.0 has) (every _ (db 2) r (obeys.rules NotNull).1.0 has)
+
       and_false : (a b : Bool) → a ≡ true → (a && b) ≡ false → b ≡ false
       and_false a b is off = rw is at off
 
@@ -221,6 +223,7 @@ rise_distinct (n ∷ ids) e = let p = and_parts _ _ e in (each n ids p.0, rise_d
     less Less h = refl
     less Equal h = absurd (let clash : false ≡ true = h in cc)
     less Greater h = refl
+
     each : (n : ℤ) (ids : List ℤ) → list_all (λ m. is_lt (int_cmp n m)) ids ≡ true → AllByRecursion (λ m. is_eq (int_cmp n m) ≡ false) ids
     each n [] e = tt
     each n (m ∷ ids) e = let p = and_parts _ _ e in (less _ p.0, each n ids p.1)
@@ -250,6 +253,7 @@ are_ids tree rows shown numbers rising = record {
   where
     kept : (r : Row) → Has tree r → Has (filter all_rows tree) r
     kept r has = has_kept all_rows tree r has refl
+
     distinct : IsDistinct (λ m n. is_eq (int_cmp m n)) (map (λ r. id_of (id_shown r)) (filter all_rows tree))
     distinct = subst (IsDistinct (λ m n. is_eq (int_cmp m n))) (map_map id_shown id_of (filter all_rows tree))
         (IsDistinct-IsPermutation (λ m n. is_eq (int_cmp m n)) eq_flips (map id_of rows) (map id_of (map id_shown (filter all_rows tree))) (IsPermutation-map id_of rows (map id_shown (filter all_rows tree)) (IsPermutation-sym _ _ shown))

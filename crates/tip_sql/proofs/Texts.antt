@@ -1,8 +1,8 @@
 -- What the texts mean, where the database has the two tables.
-use Rattle.std.proofs.Common.{◌≡◌, ℕ, codes, refl, List, [], ◌∷◌, false, true, None, Some, pos, negsuc}
+use Rattle.std.proofs.Common.{◌≡◌, ℕ, codes, refl, List, [], ◌∷◌, false, None, Some, pos, negsuc}
 use Rattle.sqlite_tied.specs.Compute.{everything}
 use Rattle.sqlite.specs.Listing.{understood, reads_listing}
-use Rattle.sqlite.specs.Term.{Term, lit, col, op1, op2}
+use Rattle.sqlite.specs.Term.{Term, lit, col, op2}
 use Rattle.sqlite_sql.specs.declared.ops.BinaryOp.TheVariants as by
 use Rattle.sqlite_sql.specs.declared.ops.CompareOp.TheVariants.{Eq, Lt, Ge}
 use Rattle.sqlite_sql.specs.declared.ops.ArithOp.TheVariants.{Add}
@@ -11,12 +11,12 @@ use Rattle.sqlite_value.specs.Keys.{ascending}
 use Rattle.sqlite_value.specs.declared.keys.Key.{Key}
 use Rattle.sqlite.specs.Query.{Query, inner, end}
 use Rattle.sqlite_schema.specs.declared.command.Upsert.{Upsert}
-use Rattle.sqlite.specs.declared.types.Value.TheVariants.{Null, Int, Text}
+use Rattle.sqlite.specs.declared.types.Value.TheVariants.{Null, Int}
 use Rattle.sqlite.specs.Source.TheVariants.{Values}
 use Rattle.sqlite_schema.specs.declared.command.Conflict.TheVariants.{Abort}
 use Rattle.sqlite.specs.Command.{Command}
 use Rattle.sqlite.specs.Command.TheVariants.{InsertOr, Select, Update, Delete}
-use Rattle.sqlite.proofs.Callers.{IsPlain, command_of, statement_of}
+use Rattle.sqlite.proofs.Callers.{IsPlain, command_of}
 use Rattle.tip_sql.specs.Tables.{log_schema}
 
 abbrev pub know_text : List ℕ

@@ -1,5 +1,5 @@
 -- The rows of the two tables, and what stands where (ours).
-use Rattle.std.specs.Prelude.{◌≡◌, List, [], ◌∷◌, ℕ, ℤ, pos, negsuc, Bool, true, false, not, ◌&&◌, nat_lt, nat_le, Option, Some, None, option_map, find}
+use Rattle.std.specs.Prelude.{◌≡◌, List, [], ◌∷◌, ℕ, ℤ, pos, negsuc, Bool, true, false, not, ◌&&◌, nat_lt, nat_le, Option, option_map, find}
 use Rattle.std.specs.Str.{bytes_eq}
 use Rattle.std.specs.Ordering.{is_eq, int_cmp}
 use Rattle.tip_rows.specs.Logs.{last_epoch}

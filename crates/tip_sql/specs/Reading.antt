@@ -1,10 +1,9 @@
 -- How rows and names are read from what a query shows (ours).
-use Rattle.std.specs.Prelude.{◌≡◌, ℕ, ℤ, pos, negsuc, List, [], ◌∷◌, ◌&&◌, Bool, true, false, if◌then◌else◌, nat_lt, nat_le, Option, Some, None, Result, Ok, Err}
+use Rattle.std.specs.Prelude.{◌≡◌, ℕ, pos, negsuc, List, [], ◌∷◌, ◌&&◌, Bool, true, false, if◌then◌else◌, nat_lt, nat_le, Option, Some, None, Result, Ok, Err}
 use Rattle.std.specs.List.{list_all}
-use Rattle.std.specs.Str.{bytes_eq}
 use Rattle.tip_line.specs.Words.{is_realm}
-use Rattle.tip_rows.specs.Keys.{Key, comes_before}
-use Rattle.tip_rows.specs.Logs.{last_epoch, name_before}
+use Rattle.tip_rows.specs.Keys.{Key}
+use Rattle.tip_rows.specs.Logs.{last_epoch}
 use Rattle.tip_rows.specs.declared.row.Row.{Row}
 use Rattle.tip_rows.specs.declared.log.LoadFault.{LoadFault}
 use Rattle.tip_rows.specs.declared.log.LoadFault.TheVariants.{Refused, BadRow, Memory}

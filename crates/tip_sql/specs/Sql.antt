@@ -1,5 +1,5 @@
 -- What contracts see of rows in a database (ours).
-use Rattle.std.specs.Prelude.{◌≡◌, ℕ, List, Option, Some, None, Bool, true, false, IsTrue, Result, Ok, Err, OnOk, IfOk, refl}
+use Rattle.std.specs.Prelude.{◌≡◌, ℕ, List, Option, Some, None, Bool, true, false, IsTrue, Result, Err, IfOk, refl}
 use Rattle.std.proofs.Math.Logic.{∥∥₁_map}
 use Rattle.sqlite.specs.Tree.{Trees}
 use Rattle.std.specs.Coded.{Coded, code_by, coded×, coded_ℕ, coded_bool}
@@ -9,7 +9,7 @@ use Rattle.sqlite.specs.State.{State, HasCleanDisk}
 use Rattle.tip_rows.specs.Logs.{Log, IsAtEnd, is_refused_load}
 use Rattle.tip_rows.specs.declared.log.LoadFault.{LoadFault}
 use Rattle.tip_rows.specs.declared.log.LoadFault.TheVariants.{BadRow}
-use Rattle.tip_sql.specs.Standing.{log_of, IsOurs, IsLeft, IsKept, Stands, MayLeave}
+use Rattle.tip_sql.specs.Standing.{log_of, IsOurs, IsLeft, Stands, MayLeave}
 
 pub record Sql (S : Type 0) : Type 0 where
   pub conn : Held S

@@ -1,5 +1,5 @@
 -- The log that a database stands for, and what the calls on it do (ours).
-use Rattle.std.specs.Prelude.{◌≡◌, ◌⊎◌, ◌&&◌, ◌||◌, ◌==◌, if◌then◌else◌, codes, ℕ, pos, Bool, true, false, List, [], ◌∷◌, map, filter, eqb, Option, Some, None, option_and_then, is_some, not, IsTrue, Result, Ok, Err, MatchResult, IfOk, OnOk, Vec}
+use Rattle.std.specs.Prelude.{◌≡◌, ◌⊎◌, ◌&&◌, ◌||◌, ◌==◌, if◌then◌else◌, codes, ℕ, pos, Bool, true, false, List, [], map, filter, eqb, Option, Some, None, option_and_then, is_some, not, IsTrue, Result, MatchResult, IfOk, OnOk, Vec}
 use Rattle.std.specs.List.{slice_split, list_any}
 use Rattle.std.specs.List.Sorted.{IsPermutation}
 use Rattle.std.specs.declared.alloc.Global.{Global}

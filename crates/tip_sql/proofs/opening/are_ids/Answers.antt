@@ -1,7 +1,7 @@
-use Rattle.std.proofs.Common.{◌≡◌, ◌∷◌, [], ◌++◌, ◌+◌, ◌<◌, List, take, length, Some, sym, ap, subst, ◌∙◌, arith, to_z-of_z, to_z, of_z, w64}
+use Rattle.std.proofs.Common.{◌≡◌, ◌∷◌, [], ◌++◌, ◌+◌, ◌<◌, take, length, sym, ap, ◌∙◌, arith, to_z-of_z, to_z, of_z, w64}
 use Rattle.std.proofs.lemmas.List.{take_more}
 use Rattle.sqlite.specs.declared.types.Value.TheVariants.{Int}
-use Rattle.tip_sql.proofs.Shapes.{ReadIds, more_ids}
+use Rattle.tip_sql.proofs.Shapes.{more_ids}
 use Rattle.tip_sql.proofs.opening.are_ids.Goals as goal
 
 pub loop-row-preserved : goal.loop-row-preserved

@@ -1,6 +1,5 @@
 use Rattle.std.proofs.Common.{[], ◌∷◌, codes, refl}
 use Rattle.sqlite.specs.Held.{state}
-use Rattle.sqlite.specs.Term.{col}
 use Rattle.tip_sql.proofs.Texts.{txn_ids_text, txn_ids_are, by_place}
 use Rattle.tip_sql.proofs.Outcomes.{ids_shown}
 use Rattle.tip_sql.proofs.opening.row_ids.Goals as goal

@@ -1,4 +1,3 @@
-use Rattle.std.proofs.Common.{ap}
 use Rattle.sqlite.specs.Held.{state}
 use Rattle.tip_sql.proofs.Looking.{realm_look}
 use Rattle.tip_sql.proofs.questions.is_realm_at_end.Goals as goal

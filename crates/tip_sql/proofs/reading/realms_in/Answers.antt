@@ -1,5 +1,5 @@
-use Rattle.std.proofs.Common.{◌≡◌, ◌++◌, List, ℕ, [], ◌∷◌, length, ◌<◌, Some, ap, sym, subst, ◌∙◌, arith}
-use Rattle.tip_rows.specs.Logs.{are_rising_names, name_before}
+use Rattle.std.proofs.Common.{◌≡◌, length, ◌<◌, ap, sym, subst, ◌∙◌, arith}
+use Rattle.tip_rows.specs.Logs.{name_before}
 use Rattle.tip_rows.proofs.PartsLemmas.{pushed}
 use Rattle.tip_sql.specs.Reading.{name_in, realm_in, may_follow, last_of}
 use Rattle.tip_sql.proofs.Readings.{has_at, read_more, bad_item}

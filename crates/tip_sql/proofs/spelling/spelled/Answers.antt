@@ -1,4 +1,4 @@
-use Rattle.std.proofs.Common.{◌≡◌, ◌∙◌, ap, ℕ, List, Option, Some, IfOk, Ok, Err, Result, string_bytes}
+use Rattle.std.proofs.Common.{◌≡◌, ◌∙◌, ap, ℕ, List, Some, IfOk, Ok, Err, Result, string_bytes}
 use Rattle.tip_rows.specs.Rows.{written, IsRow}
 use Rattle.tip_rows.specs.declared.row.Row.{Row}
 use Rattle.tip_sql.specs.Standing.{row_of}

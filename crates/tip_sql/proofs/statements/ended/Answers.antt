@@ -1,11 +1,9 @@
-use Rattle.std.proofs.Common.{[], ◌∷◌, pos, codes, refl, ap, ◌∙◌}
+use Rattle.std.proofs.Common.{[], ◌∷◌, pos, codes, refl}
 use Rattle.sqlite.specs.Held.{state}
-use Rattle.sqlite.specs.Values.{bound_value}
 use Rattle.sqlite.specs.Term.{lit, col}
-use Rattle.sqlite.specs.declared.types.Value.TheVariants.{Int, Text}
-use Rattle.tip_sql.specs.Places.{is_named, is_last, all_rows, name_shown, epoch_shown, row_shown}
-use Rattle.tip_sql.proofs.Texts.{ends_text, ends_are, is_equal, by_place}
-use Rattle.tip_sql.proofs.Knowing.{named}
+use Rattle.sqlite.specs.declared.types.Value.TheVariants.{Int}
+use Rattle.tip_sql.specs.Places.{is_last, name_shown}
+use Rattle.tip_sql.proofs.Texts.{ends_text, ends_are, is_equal}
 use Rattle.tip_sql.proofs.Meanings.{ends_agree}
 use Rattle.tip_sql.proofs.Outcomes.{queries}
 use Rattle.tip_sql.proofs.statements.ended.Goals as goal

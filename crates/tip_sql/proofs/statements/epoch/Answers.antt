@@ -1,10 +1,10 @@
-use Rattle.std.proofs.Common.{[], ◌∷◌, pos, codes, refl, ap, ◌∙◌}
+use Rattle.std.proofs.Common.{[], ◌∷◌, codes, refl, ap, ◌∙◌}
 use Rattle.sqlite.specs.Held.{state}
 use Rattle.sqlite.specs.Values.{bound_value}
-use Rattle.sqlite.specs.Term.{lit, col}
-use Rattle.sqlite.specs.declared.types.Value.TheVariants.{Int, Text}
-use Rattle.tip_sql.specs.Places.{is_named, is_last, all_rows, name_shown, epoch_shown, row_shown}
-use Rattle.tip_sql.proofs.Texts.{epoch_text, epoch_is, is_equal, by_place}
+use Rattle.sqlite.specs.Term.{col}
+use Rattle.sqlite.specs.declared.types.Value.TheVariants.{Text}
+use Rattle.tip_sql.specs.Places.{is_named, epoch_shown}
+use Rattle.tip_sql.proofs.Texts.{epoch_text, epoch_is, is_equal}
 use Rattle.tip_sql.proofs.Knowing.{named}
 use Rattle.tip_sql.proofs.Meanings.{epoch_agrees}
 use Rattle.tip_sql.proofs.Outcomes.{queries}

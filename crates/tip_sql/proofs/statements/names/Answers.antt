@@ -1,11 +1,8 @@
-use Rattle.std.proofs.Common.{[], ◌∷◌, pos, codes, refl, ap, ◌∙◌}
+use Rattle.std.proofs.Common.{[], ◌∷◌, codes, refl}
 use Rattle.sqlite.specs.Held.{state}
-use Rattle.sqlite.specs.Values.{bound_value}
-use Rattle.sqlite.specs.Term.{lit, col}
-use Rattle.sqlite.specs.declared.types.Value.TheVariants.{Int, Text}
-use Rattle.tip_sql.specs.Places.{is_named, is_last, all_rows, name_shown, epoch_shown, row_shown}
-use Rattle.tip_sql.proofs.Texts.{names_text, names_are, is_equal, by_place}
-use Rattle.tip_sql.proofs.Knowing.{named}
+use Rattle.sqlite.specs.Term.{col}
+use Rattle.tip_sql.specs.Places.{all_rows, name_shown}
+use Rattle.tip_sql.proofs.Texts.{names_text, names_are, by_place}
 use Rattle.tip_sql.proofs.Meanings.{names_agree}
 use Rattle.tip_sql.proofs.Outcomes.{queries}
 use Rattle.tip_sql.proofs.statements.names.Goals as goal

@@ -1,4 +1,4 @@
-use Rattle.std.proofs.Common.{◌≡◌, pos, true, [], ◌∷◌, ap, ◌∙◌, arith, ◌<◌, ◌^◌}
+use Rattle.std.proofs.Common.{◌≡◌, pos, true, [], ◌∷◌, ap, ◌∙◌, arith}
 use Rattle.sqlite.specs.Held.{state}
 use Rattle.sqlite.specs.Values.{bound_value}
 use Rattle.sqlite.specs.Order.{Row}

@@ -1,4 +1,4 @@
-use Rattle.std.proofs.Common.{◌≡◌, refl, sym, true, ap, ◌∙◌, not}
+use Rattle.std.proofs.Common.{refl, sym, ◌∙◌}
 use Rattle.sqlite.specs.Held.{state}
 use Rattle.tip_sql.specs.Standing.{log_of}
 use Rattle.tip_sql.proofs.Keeping.{left_alone, on_made}
