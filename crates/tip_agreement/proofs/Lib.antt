@@ -1,0 +1,4 @@
+pub mod Apart
+pub mod Errands
+pub mod Restarts
+pub mod Starts
