@@ -32,7 +32,7 @@ use Rattle.tip_machine.proofs.Keeping.{any, each, may}
 use Rattle.tip_machine.proofs.Walks.{Closed, Ends, Is, chosen_ends, either, from_one}
 use Rattle.tip_agreement.proofs.Apart.{all_added, all_changed, all_more, all_without}
 
-abbrev keys_of : List Transaction → List Key
+abbrev pub keys_of : List Transaction → List Key
 keys_of ts = map (λ (t : Transaction). t.key) ts
 
 abbrev are_given : State → List Transaction → Bool
@@ -46,7 +46,7 @@ record Keyed (s : State) : Type 0 where
 
 -- Lists of keys
 
-keys_changed : (test : Transaction → Bool) (f : Transaction → Transaction) (ts : List Transaction) → ((t : Transaction) → (f t).key ≡ t.key) → keys_of (changed test f ts) ≡ keys_of ts
+pub keys_changed : (test : Transaction → Bool) (f : Transaction → Transaction) (ts : List Transaction) → ((t : Transaction) → (f t).key ≡ t.key) → keys_of (changed test f ts) ≡ keys_of ts
 keys_changed test f [] same = refl
 keys_changed test f (t ∷ ts) same = step (test t) (keys_changed test f ts same) where
   step : (b : Bool) → keys_of (changed test f ts) ≡ keys_of ts → keys_of (cond b (f t ∷ ts) (t ∷ changed test f ts)) ≡ t.key ∷ keys_of ts
@@ -60,7 +60,7 @@ none_without key test (t ∷ ts) none = let parts = or_parts (is_same key t.key)
   step true first rest later = rest
   step false first rest later = or_from _ _ first later
 
-apart_without : (test : Transaction → Bool) (ts : List Transaction) → are_distinct is_same (keys_of ts) ≡ true → are_distinct is_same (keys_of (without test ts)) ≡ true
+pub apart_without : (test : Transaction → Bool) (ts : List Transaction) → are_distinct is_same (keys_of ts) ≡ true → are_distinct is_same (keys_of (without test ts)) ≡ true
 apart_without test [] apart = refl
 apart_without test (t ∷ ts) apart = let parts = and_parts _ (are_distinct is_same (keys_of ts)) apart in step (test t) (none_without t.key test ts (not-true _ parts.0)) parts.1 (apart_without test ts parts.1) where
   step : (b : Bool) → list_any (is_same t.key) (keys_of (without test ts)) ≡ false → are_distinct is_same (keys_of ts) ≡ true → are_distinct is_same (keys_of (without test ts)) ≡ true → are_distinct is_same (keys_of (cond b ts (t ∷ without test ts))) ≡ true
