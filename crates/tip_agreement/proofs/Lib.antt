@@ -3,6 +3,7 @@ pub mod Around
 pub mod Errands
 pub mod Found
 pub mod Keys
+pub mod Owned
 pub mod Reacting
 pub mod Restarts
 pub mod Starts

@@ -58,7 +58,7 @@ on_beside key (Some role) is = is
 
 -- The connection table at an outcome
 
-is_outcome : ResponseName → Bool
+abbrev pub is_outcome : ResponseName → Bool
 is_outcome response.Prepared = true
 is_outcome response.ReadOnly = true
 is_outcome response.Committed = true
@@ -66,27 +66,26 @@ is_outcome response.Aborted = true
 is_outcome other = false
 
 -- idle on its original sides, or prepared on the same
-is_end : ConnectionState × Turn → Bool
+abbrev pub is_end : ConnectionState × Turn → Bool
 is_end (Idle, Original) = true
 is_end (Prepared, Keep) = true
 is_end place = false
 
-ends_at : ResponseName → Row → Bool
+abbrev ends_at : ResponseName → Row → Bool
 ends_at response row = not (is_answer row.response response) || is_end (row.next, row.turn)
 
 all_end : (response : ResponseName) → is_outcome response ≡ true → list_all (ends_at response) rows ≡ true
-unfolding is_outcome is_end ends_at
 all_end response.Prepared is = refl
 all_end response.ReadOnly is = refl
 all_end response.Committed is = refl
 all_end response.Aborted is = refl
 all_end other is = absurd (cc)
 
-is_row : CommandName → ConnectionState → ResponseName → Row → Bool
+abbrev is_row : CommandName → ConnectionState → ResponseName → Row → Bool
 is_row command state response row = is_row_of command state row && is_answer row.response response
 
-outcome_ends : (command : CommandName) (state : ConnectionState) (response : ResponseName) (place : ConnectionState × Turn) → is_outcome response ≡ true → next_of command state response ≡ Some place → is_end place ≡ true
-unfolding next_of ends_at is_row
+pub outcome_ends : (command : CommandName) (state : ConnectionState) (response : ResponseName) (place : ConnectionState × Turn) → is_outcome response ≡ true → next_of command state response ≡ Some place → is_end place ≡ true
+unfolding next_of
 outcome_ends command state response place out next = step (find (is_row command state response) rows) refl next where
   step : (found : Option Row) → find (is_row command state response) rows ≡ found → option_map (λ (row : Row). (row.next, row.turn)) found ≡ Some place → is_end place ≡ true
   step None none is = absurd (none-some place is)
@@ -99,27 +98,22 @@ outcome_ends command state response place out next = step (find (is_row command 
 -- Standing
 
 -- a reaction answers with outcomes alone
-pub IsOutcome : Reaction → Type 0
+abbrev pub IsOutcome : Reaction → Type 0
 IsOutcome reaction = (command : CommandName) → option_map_or (λ said. is_outcome (response_name said)) (reaction.owed command) true ≡ true
 
 pub asks_so : IsOutcome asks
-unfolding IsOutcome
 asks_so command = refl
 
 pub promises_so : IsOutcome promises
-unfolding IsOutcome is_outcome
 promises_so command = refl
 
 pub commits_so : IsOutcome commits
-unfolding IsOutcome is_outcome
 commits_so command = refl
 
 pub aborts_so : IsOutcome aborts
-unfolding IsOutcome is_outcome
 aborts_so command = refl
 
 pub needs_nothing_so : IsOutcome needs_nothing
-unfolding IsOutcome is_outcome
 needs_nothing_so command.Prepare = refl
 needs_nothing_so command.Commit = refl
 needs_nothing_so other = refl
@@ -154,7 +148,6 @@ module _ (s : State) (c : Connection) where
       record { acts = e.0; side = e.1; free = d.1; asks = b.1; placed = a.1 }
 
   end_stands : (state : ConnectionState) (turn : Turn) → is_end (state, turn) ≡ true → Standing → is_some c.role ≡ true → stands s (advanced_to (Some (state, turn)) c) ≡ true
-  unfolding is_end
   end_stands Idle Original is known on = idle
   end_stands Prepared Keep is known on = and_from _ _ (and_from _ _ (and_from _ _ (and_from _ _ (acts_free c.side Prepared c.role) refl) (or_left _ _ on)) known.asks) known.placed
   end_stands state turn is known on = absurd (cc)
@@ -181,7 +174,6 @@ module _ (s : State) (reaction : Reaction) (so : IsOutcome reaction) (key : Key)
   asked_stands c (Some (Subordinate at part)) role is owed = demanded_stands c at part (cond (is_none c.awaited) (demanded reaction c.state) None) is role owed
 
   reacts_stands : (c : Connection) (owed : Option CommandName) → c.owed ≡ owed → is_some c.role ≡ true → stands s c ≡ true → stands s (reacts reaction key owed c).connection ≡ true
-  unfolding IsOutcome
   reacts_stands c (Some command) owed on is = answered_stands c command (reaction.owed command) is on (so command)
   reacts_stands c None owed on is = asked_stands c c.role refl is owed
 
