@@ -1,3 +1,4 @@
+pub mod Aborting
 pub mod Apart
 pub mod Around
 pub mod Errands
