@@ -5,7 +5,9 @@ pub mod Deciding
 pub mod Errands
 pub mod Found
 pub mod Keys
+pub mod Leaving
 pub mod Owned
+pub mod Proceeding
 pub mod Reacting
 pub mod Restarts
 pub mod Starts

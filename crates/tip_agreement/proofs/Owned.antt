@@ -18,6 +18,7 @@ use Rattle.tip_conn.specs.declared.state.State.TheVariants.{Initial, Idle, Begun
 use Rattle.tip_conn.specs.declared.state.Turn.{Turn}
 use Rattle.tip_conn.specs.declared.state.Turn.TheVariants.{Keep, Reverse, Original}
 use Rattle.tip_txn.specs.declared.answer.Ballot.{Ballot}
+use Rattle.tip_txn.specs.declared.answer.Phase.{Phase}
 use Rattle.tip_txn.specs.declared.part.Participant.{Participant}
 use Rattle.tip_machine.specs.Answers.{response_name}
 use Rattle.tip_machine.specs.Connections.{advanced_to, asks_for, awaiting, has_number, is_on, is_part_of, is_superior_of, names, reaches, role_in}
@@ -60,7 +61,7 @@ pub record Owned (superior : Link → Bool) (part : Link → Participant → Boo
 
 -- Roles that are found
 
-asked_by : (key : Key) (role : Option Role) → asks_for key role ≡ true → role ≡ Some (Superior key)
+pub asked_by : (key : Key) (role : Option Role) → asks_for key role ≡ true → role ≡ Some (Superior key)
 asked_by key None is = absurd (cc)
 asked_by key (Some (Superior other)) is = ap (λ k. Some (Superior k)) (sym (same_key key other is))
 asked_by key (Some (Subordinate other part)) is = absurd (cc)
@@ -74,10 +75,10 @@ reached_as key place (Some (Subordinate other part)) is =
     let at : place ≡ part = grind (arith, nat_tests, same) in
     λ i. Some (Subordinate ((sym (same_key key other parts.0)) i) ((sym at) i))
 
-key_self : (key : Key) → is_same key key ≡ true
+pub key_self : (key : Key) → is_same key key ≡ true
 key_self key = grind (arith, nat_tests)
 
-place_self : (place : ℕ) → (place == place) ≡ true
+pub place_self : (place : ℕ) → (place == place) ≡ true
 place_self place = grind (arith, nat_tests)
 
 pub once_superior : (key : Key) (cs : List Connection) → are_distinct clashes cs ≡ true → Once (is_superior_of key) cs
@@ -306,3 +307,12 @@ from_phase key t s in_it =
       (same_have_parts t s t.parts ∙ subst (λ k. have_parts (is_part_in t.phase) (is_party t.phase) t.place t.parts k s.connections ≡ true) same owned.parts))
       in_it.come)
     in_it.over
+
+-- the same of a phase that is known
+pub from_as : (phase : Phase) (key : Key) (t : Transaction) (s : State) → t.phase ≡ phase → Owned (is_superior phase t.origin) (is_part_in phase) (is_party phase) key t s → has_its_address phase t.origin (find (is_superior_of key) s.connections) ≡ true → has_come_to phase (decision_of t) ≡ true → not (is_over phase s t) ≡ true → is_transaction s t ≡ true
+from_as phase key t s is owned address come over = from_phase key t s (record {
+  owned = subst (λ f. Owned (is_superior f t.origin) (is_part_in f) (is_party f) key t s) (sym is) owned;
+  address = subst (λ f. has_its_address f t.origin (find (is_superior_of key) s.connections) ≡ true) (sym is) address;
+  come = subst (λ f. has_come_to f (decision_of t) ≡ true) (sym is) come;
+  over = subst (λ f. not (is_over f s t) ≡ true) (sym is) over;
+})
