@@ -10,4 +10,5 @@ pub mod Owned
 pub mod Proceeding
 pub mod Reacting
 pub mod Restarts
+pub mod Sound
 pub mod Starts
