@@ -1,6 +1,7 @@
 pub mod Aborting
 pub mod Apart
 pub mod Around
+pub mod Closing
 pub mod Deciding
 pub mod Errands
 pub mod Found
