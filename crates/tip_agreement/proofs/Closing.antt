@@ -1,13 +1,15 @@
 -- A connection that is lost or closed leaves a realm whole.
 use Rattle.std.proofs.Common.{◌≡◌, ◌≤◌, ◌<◌, Bool, true, false, ℕ, ◌+◌, suc, zero, List, [], ◌∷◌, Option, Some, None, cond, refl, ap, subst, sym, arith, ◌∙◌}
-use Rattle.std.specs.Prelude.{◌&&◌, ◌||◌, ◌==◌, not, find, is_some, length, map, nat_le}
-use Rattle.std.specs.List.{list_any}
-use Rattle.std.proofs.lemmas.Bool.{and_from, and_parts, both_ways, cases_Bool, not-true, not_from_false, or_left, or_right}
+use Rattle.std.specs.Prelude.{◌&&◌, ◌||◌, ◌==◌, not, find, is_some, length, map, nat_le, nat_lt}
+use Rattle.std.specs.List.{list_all, list_any}
+use Rattle.std.specs.Option.{option_map_or}
+use Rattle.std.proofs.lemmas.Bool.{and_from, and_parts, and_right, both_ways, cases_Bool, false_from_ne_true, not-true, not_from_false, or_left, or_right}
 use Rattle.std.proofs.lemmas.Bool.Decides.{nat_tests}
 use Rattle.std.proofs.lemmas.Option.{none-some, same_Some}
 use Rattle.tip_rows.specs.Keys.{Key, is_same}
 use Rattle.tip_branch.specs.declared.member.Errand.TheVariants as errand
 use Rattle.tip_conn.specs.declared.state.State.TheVariants as state
+use Rattle.tip_line.specs.declared.command.CommandName.TheVariants as command
 use Rattle.tip_table.specs.Lists.{without}
 use Rattle.tip_txn.specs.Parts.{answer_at, answered, changed_at}
 use Rattle.tip_txn.specs.declared.answer.Ballot.{Ballot}
@@ -15,7 +17,8 @@ use Rattle.tip_txn.specs.declared.answer.Ballot.TheVariants.{Yes, No, ReadOnly, 
 use Rattle.tip_txn.specs.declared.answer.Phase.{Phase}
 use Rattle.tip_txn.specs.declared.answer.Phase.TheVariants.{Active, Asking, Prepared, Committed, Aborted}
 use Rattle.tip_txn.specs.declared.part.Participant.{Participant}
-use Rattle.tip_machine.specs.Connections.{asks_for, has_number, is_part_of, is_superior_of, reaches}
+use Rattle.tip_machine.specs.Connections.{asks_for, has_number, is_on, is_part_of, is_superior_of, names, reaches}
+use Rattle.tip_machine.specs.Changes.{alter, on, tell}
 use Rattle.tip_machine.specs.Failing.{closed, fail, gone, lost_unanswered, missed, part_lost, superior_lost, wrong}
 use Rattle.tip_machine.specs.Invariants.Links.{Link, link}
 use Rattle.tip_machine.specs.Invariants.Links.Link.{Gone, Owes, Awaits}
@@ -24,18 +27,21 @@ use Rattle.tip_machine.specs.States.{State, Work, connection_of, transaction_of}
 use Rattle.tip_machine.specs.Proceeding.{abort}
 use Rattle.tip_machine.specs.Transactions.{has_key, is_yes, noting}
 use Rattle.tip_machine.specs.Types.{Connection, PartyPlace, Transaction}
+use Rattle.tip_machine.specs.declared.answer.Item.TheVariants.{Say, Close}
+use Rattle.tip_machine.specs.declared.answer.Said.TheVariants as said
 use Rattle.tip_machine.specs.declared.connection.Awaited.TheVariants as awaited
 use Rattle.tip_machine.specs.declared.connection.Role.{Role}
 use Rattle.tip_machine.specs.declared.connection.Role.TheVariants.{Superior, Subordinate}
 use Rattle.tip_machine.specs.declared.transaction.Origin.{Origin}
 use Rattle.tip_machine.specs.declared.transaction.Origin.TheVariants as origin
 use Rattle.tip_machine.specs.declared.transaction.PartyPlace.TheVariants.{Here, Out, Spent}
-use Rattle.tip_agreement.proofs.Aborting.{aborted_whole, may_abort, may_abort_above, may_abort_part, may_abort_party}
-use Rattle.tip_agreement.proofs.Apart.{all_found}
-use Rattle.tip_agreement.proofs.Found.{find_gone, find_left}
+use Rattle.tip_agreement.proofs.Aborting.{aborted_whole, le_self, own_as, may_abort, may_abort_above, may_abort_part, may_abort_party}
+use Rattle.tip_agreement.proofs.Apart.{all_found, all_more}
+use Rattle.tip_agreement.proofs.Found.{any_left, find_gone, find_left}
 use Rattle.tip_agreement.proofs.Sound.{found_once}
-use Rattle.tip_agreement.proofs.Around.{Around, Whole, around_of, beside, taken, whole_of, with_connections}
-use Rattle.tip_agreement.proofs.Owned.{InPhase, Owned, from_phase, have_parts, in_phase, key_self, once_part, once_superior, own_still, parts_from, place_self}
+use Rattle.tip_agreement.proofs.Reacting.{standing}
+use Rattle.tip_agreement.proofs.Around.{Alike, Around, Whole, alter_around, altered, around_of, found_altered, is_placed, same_transaction, stands, beside, taken, whole_of, with_connections}
+use Rattle.tip_agreement.proofs.Owned.{InPhase, Owned, from_phase, have_parts, in_phase, key_found, key_self, once_part, once_superior, own_still, parts_from, place_self}
 
 -- Parts, where the connection of one of them changes
 
@@ -75,6 +81,13 @@ module _ (key : Key) (cs new : List Connection) (at : ℕ) (table table' : Link 
   have_same party party' place (l ∷ parts) is local all =
       let both = and_parts (party place l.answer) (parts_from table 1 parts key cs) all in
       and_from _ _ (local l.answer both.0) (parts_beyond 1 parts (omega (arith, is)) both.1)
+
+pub noted_length : (m : ℕ) (f : Participant → Participant) (parts : List Participant) → nat_le (length parts) (length (changed_at m f parts)) ≡ true
+noted_length m f parts = subst (λ n. nat_le (length parts) n ≡ true) (sym (same m parts)) (le_self (length parts)) where
+  same : (m : ℕ) (parts : List Participant) → length (changed_at m f parts) ≡ length parts
+  same m [] = refl
+  same zero (p ∷ parts) = refl
+  same (suc m) (p ∷ parts) = ap suc (same m parts)
 
 pub changed_none : (m : ℕ) (parts : List Participant) → changed_at m (λ p. p) parts ≡ parts
 changed_none m [] = refl
@@ -134,6 +147,10 @@ untold_in Aborted can part link is = step (not part.acknowledged) is where
 untold_in Prepared can part link is = absurd (cc)
 untold_in Committed can part link is = absurd (cc)
 
+gone_may_abort : (from : Origin) → may_abort_above from Gone ≡ true
+gone_may_abort origin.Root = refl
+gone_may_abort (origin.Subordinate address superior) = refl
+
 -- what is known of a part
 pub record InTable (phase : Phase) (link : Link) (part : Participant) : Type 0 where
   pub fits : is_part phase link part.answer ≡ true
@@ -160,9 +177,31 @@ stoppable_party Aborted can (Out errand) answer is = absurd (cc)
 stoppable_party Prepared can (Out errand) answer is = absurd (cc)
 stoppable_party Committed can (Out errand) answer is = absurd (cc)
 
-gone_may_abort : (from : Origin) → may_abort_above from Gone ≡ true
-gone_may_abort origin.Root = refl
-gone_may_abort (origin.Subordinate address superior) = refl
+active_above : (from : Origin) (link : Link) → is_superior Active from link ≡ true → may_abort_above from link ≡ true
+active_above origin.Root (Owes state.Begun None) is = refl
+active_above (origin.Subordinate address superior) (Awaits state.Idle (Some awaited.Pull)) is = refl
+active_above (origin.Subordinate address superior) (Owes state.Enlisted None) is = refl
+active_above from link is = absurd (cc)
+
+asking_above : (from : Origin) (link : Link) → is_superior Asking from link ≡ true → may_abort_above from link ≡ true
+asking_above origin.Root (Owes state.Begun (Some command.Commit)) is = refl
+asking_above (origin.Subordinate (Some address) superior) (Owes state.Enlisted (Some command.Prepare)) is = refl
+asking_above (origin.Subordinate address superior) (Owes state.Enlisted (Some command.Commit)) is = refl
+asking_above from link is = absurd (cc)
+
+aborted_above : (from : Origin) (link : Link) → is_superior Aborted from link ≡ true → may_abort_above from link ≡ true
+aborted_above origin.Root (Owes state.Begun None) is = refl
+aborted_above (origin.Subordinate address superior) (Awaits state.Idle (Some awaited.Pull)) is = refl
+aborted_above (origin.Subordinate address superior) (Owes state.Enlisted None) is = refl
+aborted_above from Gone is = gone_may_abort from
+aborted_above from link is = absurd (cc)
+
+pub stoppable_above : (phase : Phase) → is_stoppable phase ≡ true → (from : Origin) (link : Link) → is_superior phase from link ≡ true → may_abort_above from link ≡ true
+stoppable_above Active can from link is = active_above from link is
+stoppable_above Asking can from link is = asking_above from link is
+stoppable_above Prepared can from link is = absurd (cc)
+stoppable_above Committed can from link is = absurd (cc)
+stoppable_above Aborted can from link is = aborted_above from link is
 
 -- named where it is gone, as it was
 gone_named : (link : Link) (part : Participant) → may_abort link part.answer ≡ true → is_named link part ≡ true → is_named Gone part ≡ true
@@ -298,3 +337,150 @@ module _ (key : Key) (t : Transaction) (c : Connection) (w : Work) (whole : Whol
       committed_alone : (from : Origin) → is_superior Committed from Gone ≡ true
       committed_alone origin.Root = refl
       committed_alone (origin.Subordinate address superior) = refl
+
+-- The connection of a part is taken out
+
+other_place : (place m : ℕ) → ¬ (place ≡ suc m) → (place == suc m) ≡ false
+other_place place m differs = false_from_ne_true (place == suc m) (λ same. differs (grind (arith, nat_tests, same)))
+
+module _ (m : ℕ) (t : Transaction) (c : Connection) (w : Work) (whole : Whole w.state) (there : connection_of c.number w.state ≡ Some c) (found : transaction_of t.key w.state ≡ Some t) (on : c.role ≡ Some (Subordinate t.key (suc m))) where
+  part_of : InPhase t.key t w.state
+  part_of = known t.key t c w whole there found
+
+  part_on : is_part_of t.key (suc m) c ≡ true
+  part_on = ap (reaches t.key (suc m)) on ∙ and_from _ _ (key_self t.key) (place_self (suc m))
+
+  part_there : find (is_part_of t.key (suc m)) w.state.connections ≡ Some c
+  part_there = found_once (is_part_of t.key (suc m)) (has_number c.number) w.state.connections c (once_part t.key (suc m) w.state.connections whole.apart) there part_on
+
+  around_part : Around t.key (left t.key t c w whole there found)
+  around_part = taken t.key w.state c.number c there (ap (beside t.key) on ∙ key_self t.key) (around_of t.key w.state whole)
+
+  part_left : find (is_part_of t.key (suc m)) (left t.key t c w whole there found).connections ≡ None
+  part_left = find_gone (is_part_of t.key (suc m)) (has_number c.number) w.state.connections c (once_part t.key (suc m) w.state.connections whole.apart) there part_on
+
+  others_left : (place : ℕ) → ¬ (place ≡ suc m) → find (is_part_of t.key place) (left t.key t c w whole there found).connections ≡ find (is_part_of t.key place) w.state.connections
+  others_left place differs = find_left (is_part_of t.key place) (has_number c.number) w.state.connections c there (ap (reaches t.key place) on ∙ and_right _ _ (other_place place m differs))
+
+  above_left : find (is_superior_of t.key) (left t.key t c w whole there found).connections ≡ find (is_superior_of t.key) w.state.connections
+  above_left = find_left (is_superior_of t.key) (has_number c.number) w.state.connections c there (ap (asks_for t.key) on)
+
+  -- the parts then, with something noted of this one
+  parts_then : (f : Participant → Participant) (table : Link → Participant → Bool) (party : PartyPlace → Option Ballot → Bool) → ((l : Link) (p : Participant) → is_part_in t.phase l p ≡ true → table l p ≡ true) → ((answer : Option Ballot) → is_party t.phase t.place answer ≡ true → party t.place answer ≡ true) → ((l : Link) (p : Participant) → answer_at t.parts (suc m) ≡ p.answer → is_part_in t.phase l p ≡ true → table Gone (f p) ≡ true) → have_parts table party t.place (changed_at (suc m) f t.parts) t.key (left t.key t c w whole there found).connections ≡ true
+  parts_then f table party down local here = have_noted t.key w.state.connections (left t.key t c w whole there found).connections (suc m) (is_part_in t.phase) table others_left down f m (is_party t.phase) party t.place t.parts refl local (λ p at fits. ap (λ o. table (link o) (f p)) part_left ∙ here (link (find (is_part_of t.key (suc m)) w.state.connections)) p at fits) part_of.owned.parts
+
+  part_stops : is_stoppable t.phase ≡ true → Whole (abort t.key (gone c w)).state
+  unfolding gone
+  part_stops can = aborted_whole t.key t (gone c w) around_part (record {
+    found = found;
+    above = ap (λ o. may_abort_above t.origin (link o)) above_left ∙ stoppable_above t.phase can t.origin _ part_of.owned.above;
+    parts = subst (λ ps. have_parts may_abort_part may_abort_party t.place ps t.key (left t.key t c w whole there found).connections ≡ true) (changed_none (suc m) t.parts) (parts_then (λ p. p) may_abort_part may_abort_party (stoppable_parts t.phase can) (stoppable_party t.phase can t.place) (λ l p at fits. gone_part_aborts l p (stoppable_parts t.phase can l p fits)));
+    own = own_still w.state (left t.key t c w whole there found) t t.place refl refl ∙ part_of.owned.own;
+  })
+
+  part_refuses : is_stoppable t.phase ≡ true → Whole (abort t.key (alter t.key (noting (suc m) (answered Lost)) (gone c w))).state
+  unfolding gone
+  part_refuses can = aborted_whole t.key (noting (suc m) (answered Lost) t) (alter t.key (noting (suc m) (answered Lost)) (gone c w)) (alter_around t.key gone_from (noting (suc m) (answered Lost)) (λ t. refl) (λ t. noted_length (suc m) (answered Lost) t.parts) around_part) (record {
+    found = found_altered t.key gone_from (noting (suc m) (answered Lost)) (λ t. refl) t found;
+    above = ap (λ o. may_abort_above t.origin (link o)) above_left ∙ stoppable_above t.phase can t.origin _ part_of.owned.above;
+    parts = parts_then (answered Lost) may_abort_part may_abort_party (stoppable_parts t.phase can) (stoppable_party t.phase can t.place) (λ l p at fits. lost_part_aborts l p (stoppable_parts t.phase can l p fits));
+    own = own_still w.state (altered t.key gone_from (noting (suc m) (answered Lost))) (noting (suc m) (answered Lost) t) t.place refl refl ∙ own_as w.state t (noting (suc m) (answered Lost) t) t.place refl ∙ part_of.owned.own;
+  }) where
+    gone_from : State
+    gone_from = left t.key t c w whole there found
+
+  part_waits : ((l : Link) (p : Participant) → answer_at t.parts (suc m) ≡ p.answer → is_part_in t.phase l p ≡ true → is_some p.answer ≡ true) → not (is_over t.phase (left t.key t c w whole there found) t) ≡ true → Whole (gone c w).state
+  unfolding gone
+  part_waits some over = whole_of t.key (left t.key t c w whole there found) t found (from_phase t.key t (left t.key t c w whole there found) (record {
+    owned = record {
+      found = found;
+      above = ap (λ o. is_superior t.phase t.origin (link o)) above_left ∙ part_of.owned.above;
+      parts = subst (λ ps. have_parts (is_part_in t.phase) (is_party t.phase) t.place ps t.key (left t.key t c w whole there found).connections ≡ true) (changed_none (suc m) t.parts) (parts_then (λ p. p) (is_part_in t.phase) (is_party t.phase) (λ l p fits. fits) (λ answer fits. fits) (λ l p at fits. parts_gone t.phase l p fits (some l p at fits)));
+      own = own_still w.state (left t.key t c w whole there found) t t.place refl refl ∙ part_of.owned.own;
+    };
+    address = ap (λ o. has_its_address t.phase t.origin o) above_left ∙ part_of.address;
+    come = part_of.come;
+    over = over;
+  })) around_part
+
+  unanswered_whole : is_stoppable t.phase ≡ true → ((l : Link) (p : Participant) → answer_at t.parts (suc m) ≡ p.answer → is_some (answer_at t.parts (suc m)) ≡ true → is_some p.answer ≡ true) → not (is_over t.phase (left t.key t c w whole there found) t) ≡ true → Whole (lost_unanswered (suc m) t (gone c w)).state
+  unanswered_whole can some over = step (is_some (answer_at t.parts (suc m))) refl where
+    step : (b : Bool) → is_some (answer_at t.parts (suc m)) ≡ b → Whole (cond b (gone c w) (abort t.key (alter t.key (noting (suc m) (answered Lost)) (gone c w)))).state
+    step true is = part_waits (λ l p at fits. some l p at is) over
+    step false is = part_refuses can
+
+  part_lost_whole : (phase : Phase) → t.phase ≡ phase → Whole (part_lost phase (suc m) t (gone c w)).state
+  part_lost_whole Active is = unanswered_whole (ap is_stoppable is) (λ l p at some. ap is_some (sym at) ∙ some) (ap (λ f. not (is_over f (left t.key t c w whole there found) t)) is)
+  part_lost_whole Asking is = unanswered_whole (ap is_stoppable is) (λ l p at some. ap is_some (sym at) ∙ some) (ap (λ f. not (is_over f (left t.key t c w whole there found) t)) is)
+  part_lost_whole Prepared is = part_waits (λ l p at fits. answered_prepared l p.answer (in_table Prepared l p (subst (λ f. is_part_in f l p ≡ true) is fits)).fits) (ap (λ f. not (is_over f (left t.key t c w whole there found) t)) is)
+  part_lost_whole Committed is = part_waits (λ l p at fits. answered_committed l p.answer (in_table Committed l p (subst (λ f. is_part_in f l p ≡ true) is fits)).fits) (ap (λ f. not (is_over f (left t.key t c w whole there found) t)) is)
+  part_lost_whole Aborted is = part_stops (ap is_stoppable is)
+
+-- A connection on no transaction is taken out
+
+alone_left : (c : Connection) (s : State) → connection_of c.number s ≡ Some c → c.role ≡ None → (other : Key) → Alike other s (with_connections other s (without (has_number c.number) s.connections))
+alone_left c s there none other = record {
+  epoch = refl;
+  name = refl;
+  superior = find_left (is_superior_of other) (has_number c.number) s.connections c there (ap (asks_for other) none);
+  part = λ place. find_left (is_part_of other place) (has_number c.number) s.connections c there (ap (reaches other place) none);
+  on = any_left (is_on other) (has_number c.number) s.connections c there (ap (names other) none);
+}
+
+-- what is alike for each transaction is whole as before
+pub whole_alike : (s new : State) → new.transactions ≡ s.transactions → ((other : Key) → Alike other s new) → Whole s → list_all (is_transaction new) s.transactions ≡ true
+whole_alike s new same alike whole = all_more (is_transaction s) (is_transaction new) s.transactions (λ t is. same_transaction s new t (alike t.key) ∙ is) whole.transactions
+
+alone_whole : (c : Connection) (w : Work) → connection_of c.number w.state ≡ Some c → c.role ≡ None → Whole w.state → Whole (gone c w).state
+unfolding gone
+alone_whole c w there none whole =
+    let key : Key = record { epoch = 0; connection = 0; number = 0 } in
+    let around = taken key w.state c.number c there (ap (beside key) none) (around_of key w.state whole) in
+    record {
+      keys = around.keys;
+      apart = around.apart;
+      standing = around.standing;
+      transactions = whole_alike w.state (gone c w).state refl (alone_left c w.state there none) whole;
+    }
+
+-- What follows where it is gone
+
+module _ (c : Connection) (w : Work) (whole : Whole w.state) (there : connection_of c.number w.state ≡ Some c) where
+  placed_at : is_placed w.state c.role ≡ true
+  placed_at = (standing w.state c (all_found (stands w.state) (has_number c.number) w.state.connections c whole.standing there)).placed
+
+  superior_gone : (key : Key) (found : Option Transaction) → transaction_of key w.state ≡ found → is_some found ≡ true → c.role ≡ Some (Superior key) → Whole (on found (λ t. superior_lost t.phase key) (gone c w)).state
+  superior_gone key None is some role = absurd (cc)
+  superior_gone key (Some t) is some role = superior_lost_whole key t c w whole there is role t.phase refl
+
+  part_gone_from : (key : Key) (place : ℕ) (found : Option Transaction) → transaction_of key w.state ≡ found → nat_le 1 place ≡ true → is_some found ≡ true → c.role ≡ Some (Subordinate key place) → Whole (on found (λ t. part_lost t.phase place t) (gone c w)).state
+  part_gone_from key place None is least some role = absurd (cc)
+  part_gone_from key zero (Some t) is least some role = absurd (cc)
+  part_gone_from key (suc m) (Some t) is least some role =
+      let same = key_found key t w.state is in
+      part_lost_whole m t c w whole there (subst (λ k. transaction_of k w.state ≡ Some t) same is) (subst (λ k. c.role ≡ Some (Subordinate k (suc m))) same role) t.phase refl
+
+  some_range : (found : Option Transaction) (place : ℕ) → option_map_or (λ (t : Transaction). nat_lt place (length t.parts)) found false ≡ true → is_some found ≡ true
+  some_range None place is = absurd (cc)
+  some_range (Some t) place is = refl
+
+  missed_whole : (role : Option Role) → c.role ≡ role → is_placed w.state role ≡ true → Whole (missed role (gone c w)).state
+  unfolding gone
+  missed_whole None role placed = alone_whole c w there role whole
+  missed_whole (Some (Superior key)) role placed = superior_gone key (transaction_of key w.state) refl placed role
+  missed_whole (Some (Subordinate key place)) role placed =
+      let parts = and_parts (nat_le 1 place) (option_map_or (λ (t : Transaction). nat_lt place (length t.parts)) (transaction_of key w.state) false) placed in
+      part_gone_from key place (transaction_of key w.state) refl parts.0 (some_range (transaction_of key w.state) place parts.1) role
+
+  -- A CONNECTION FAILS, and all is whole
+  pub fail_whole : Whole (fail c w).state
+  unfolding fail
+  fail_whole = missed_whole c.role refl placed_at
+
+pub closed_whole : (c : Connection) (w : Work) → Whole w.state → connection_of c.number w.state ≡ Some c → Whole (closed c w).state
+unfolding closed
+closed_whole c w whole there = fail_whole c (tell c.number Close w) whole there
+
+pub wrong_whole : (c : Connection) (w : Work) → Whole w.state → connection_of c.number w.state ≡ Some c → Whole (wrong c w).state
+unfolding wrong
+wrong_whole c w whole there = closed_whole c (tell c.number (Say said.Error) w) whole there
