@@ -136,7 +136,7 @@ stands_still old new c stay is = let parts = and_parts (is_connected c && asks_a
 pub all_stand_still : (old new : State) (cs : List Connection) → RolesStay old new → list_all (stands old) cs ≡ true → list_all (stands new) cs ≡ true
 all_stand_still old new cs stay all = all_more (stands old) (stands new) cs (λ c. stands_still old new c stay) all
 
-same_roles : (old new : State) → new.transactions ≡ old.transactions → RolesStay old new
+pub same_roles : (old new : State) → new.transactions ≡ old.transactions → RolesStay old new
 same_roles old new same (Superior key) is = rw same is
 same_roles old new same (Subordinate key part) is = rw same is
 

@@ -4,6 +4,7 @@ pub mod Around
 pub mod Closing
 pub mod Deciding
 pub mod Errands
+pub mod Events
 pub mod Found
 pub mod Keys
 pub mod Leaving
