@@ -131,7 +131,7 @@ stoppable_part Prepared can link answer is = absurd (cc)
 stoppable_part Committed can link answer is = absurd (cc)
 stoppable_part Aborted can link answer is = aborted_may_abort link answer is
 
-untold_in : (phase : Phase) → is_stoppable phase ≡ true → (part : Participant) (link : Link) → not part.acknowledged || may_have_acknowledged phase link part.answer ≡ true → not part.acknowledged ≡ true
+pub untold_in : (phase : Phase) → is_stoppable phase ≡ true → (part : Participant) (link : Link) → not part.acknowledged || may_have_acknowledged phase link part.answer ≡ true → not part.acknowledged ≡ true
 untold_in Active can part link is = step (not part.acknowledged) is where
   step : (b : Bool) → b || false ≡ true → b ≡ true
   step true is = refl
@@ -291,7 +291,7 @@ module _ (key : Key) (t : Transaction) (c : Connection) (w : Work) (whole : Whol
   abbrev left : State
   left = with_connections key w.state (without (has_number c.number) w.state.connections)
 
-  known : InPhase key t w.state
+  pub known : InPhase key t w.state
   known = in_phase key t w.state found (all_found (is_transaction w.state) (has_key key) w.state.transactions t whole.transactions found)
 
   module _ (on : c.role ≡ Some (Superior key)) where
@@ -340,7 +340,7 @@ module _ (key : Key) (t : Transaction) (c : Connection) (w : Work) (whole : Whol
 
 -- The connection of a part is taken out
 
-other_place : (place m : ℕ) → ¬ (place ≡ suc m) → (place == suc m) ≡ false
+pub other_place : (place m : ℕ) → ¬ (place ≡ suc m) → (place == suc m) ≡ false
 other_place place m differs = false_from_ne_true (place == suc m) (λ same. differs (grind (arith, nat_tests, same)))
 
 module _ (m : ℕ) (t : Transaction) (c : Connection) (w : Work) (whole : Whole w.state) (there : connection_of c.number w.state ≡ Some c) (found : transaction_of t.key w.state ≡ Some t) (on : c.role ≡ Some (Subordinate t.key (suc m))) where

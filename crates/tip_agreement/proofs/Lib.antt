@@ -11,6 +11,7 @@ pub mod Leaving
 pub mod Owned
 pub mod Proceeding
 pub mod Reacting
+pub mod Responding
 pub mod Restarts
 pub mod Sound
 pub mod Starts
