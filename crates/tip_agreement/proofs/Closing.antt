@@ -295,7 +295,7 @@ module _ (key : Key) (t : Transaction) (c : Connection) (w : Work) (whole : Whol
   known = in_phase key t w.state found (all_found (is_transaction w.state) (has_key key) w.state.transactions t whole.transactions found)
 
   module _ (on : c.role ≡ Some (Superior key)) where
-    above_there : find (is_superior_of key) w.state.connections ≡ Some c
+    pub above_there : find (is_superior_of key) w.state.connections ≡ Some c
     above_there = found_once (is_superior_of key) (has_number c.number) w.state.connections c (once_superior key w.state.connections whole.apart) there (ap (asks_for key) on ∙ key_self key)
 
     around_left : Around key left
@@ -344,13 +344,13 @@ pub other_place : (place m : ℕ) → ¬ (place ≡ suc m) → (place == suc m) 
 other_place place m differs = false_from_ne_true (place == suc m) (λ same. differs (grind (arith, nat_tests, same)))
 
 module _ (m : ℕ) (t : Transaction) (c : Connection) (w : Work) (whole : Whole w.state) (there : connection_of c.number w.state ≡ Some c) (found : transaction_of t.key w.state ≡ Some t) (on : c.role ≡ Some (Subordinate t.key (suc m))) where
-  part_of : InPhase t.key t w.state
+  pub part_of : InPhase t.key t w.state
   part_of = known t.key t c w whole there found
 
   part_on : is_part_of t.key (suc m) c ≡ true
   part_on = ap (reaches t.key (suc m)) on ∙ and_from _ _ (key_self t.key) (place_self (suc m))
 
-  part_there : find (is_part_of t.key (suc m)) w.state.connections ≡ Some c
+  pub part_there : find (is_part_of t.key (suc m)) w.state.connections ≡ Some c
   part_there = found_once (is_part_of t.key (suc m)) (has_number c.number) w.state.connections c (once_part t.key (suc m) w.state.connections whole.apart) there part_on
 
   around_part : Around t.key (left t.key t c w whole there found)

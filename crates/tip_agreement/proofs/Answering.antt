@@ -1,0 +1,205 @@
+-- The responses of a subordinate leave a realm whole.
+use Rattle.std.proofs.Common.{◌≡◌, Bool, true, false, ℕ, suc, zero, List, [], ◌∷◌, Option, Some, None, cond, refl, ap, subst, sym, ◌∙◌, ◌⊎◌, inl, inr}
+use Rattle.std.specs.Prelude.{◌&&◌, ◌||◌, not, find, is_none, is_some, length, nat_le, nat_lt}
+use Rattle.std.specs.Option.{option_map_or}
+use Rattle.std.proofs.lemmas.Bool.{and_from, and_parts, both_ways, or_left, or_right}
+use Rattle.tip_rows.specs.Keys.{Key}
+use Rattle.tip_line.specs.declared.command.CommandName.{CommandName}
+use Rattle.tip_line.specs.declared.command.CommandName.TheVariants as command
+use Rattle.tip_line.specs.declared.response.ResponseName.{ResponseName}
+use Rattle.tip_line.specs.declared.response.ResponseName.TheVariants as response
+use Rattle.tip_conn.specs.Table.{next_of}
+use Rattle.tip_conn.specs.declared.state.Side.{Side}
+use Rattle.tip_conn.specs.declared.state.Side.TheVariants.{Primary, Secondary}
+use Rattle.tip_conn.specs.declared.state.State.{State as ConnectionState}
+use Rattle.tip_conn.specs.declared.state.State.TheVariants as state
+use Rattle.tip_conn.specs.declared.state.Turn.TheVariants.{Keep, Original}
+use Rattle.tip_txn.specs.Parts.{acknowledged, answered, named}
+use Rattle.tip_txn.specs.declared.answer.Ballot.{Ballot}
+use Rattle.tip_txn.specs.declared.answer.Ballot.TheVariants.{Yes, No, ReadOnly, Lost}
+use Rattle.tip_txn.specs.declared.answer.Phase.{Phase}
+use Rattle.tip_txn.specs.declared.answer.Phase.TheVariants.{Active, Asking, Prepared, Committed, Aborted}
+use Rattle.tip_txn.specs.declared.part.Participant.{Participant}
+use Rattle.tip_machine.specs.Connections.{advanced, advanced_to, asks_for, has_number, is_part_of, is_superior_of}
+use Rattle.tip_machine.specs.Invariants.Links.{Link, is_on_none, link, link_on}
+use Rattle.tip_machine.specs.Invariants.Links.Link.{Gone, Owes, Awaits}
+use Rattle.tip_machine.specs.Invariants.Phases.{is_named, is_part, is_part_in, is_party, is_superior, may_have_acknowledged}
+use Rattle.tip_machine.specs.Responses.{go_on, note_as}
+use Rattle.tip_machine.specs.States.{State, Work, connection_of, transaction_of}
+use Rattle.tip_machine.specs.Types.{Connection, Transaction}
+use Rattle.tip_machine.specs.declared.connection.Awaited.{Awaited}
+use Rattle.tip_machine.specs.declared.connection.Awaited.TheVariants as awaited
+use Rattle.tip_machine.specs.declared.connection.Role.{Role}
+use Rattle.tip_machine.specs.declared.connection.Role.TheVariants.{Superior, Subordinate}
+use Rattle.tip_machine.specs.declared.transaction.Origin.{Origin}
+use Rattle.tip_machine.specs.declared.transaction.Origin.TheVariants as origin
+use Rattle.tip_agreement.proofs.Apart.{all_found}
+use Rattle.tip_agreement.proofs.Around.{Whole, is_placed, stands}
+use Rattle.tip_agreement.proofs.Closing.{InTable, above_there, in_table, known, part_of, part_there, untold_in}
+use Rattle.tip_agreement.proofs.Owned.{InPhase, key_found}
+use Rattle.tip_agreement.proofs.Proceeding.{AllWhole}
+use Rattle.tip_agreement.proofs.Reacting.{Standing, idle, standing}
+use Rattle.tip_agreement.proofs.Responding.{Becomes, is_going, noted_whole, part_before}
+use Rattle.tip_agreement.proofs.Sound.{PartAt, part_held}
+
+-- what only a subordinate answers
+abbrev is_partly : Awaited → Bool
+is_partly (awaited.Identify purpose) = false
+is_partly awaited.Push = true
+is_partly awaited.Pull = false
+is_partly awaited.Prepare = true
+is_partly awaited.Commit = true
+is_partly awaited.Abort = true
+is_partly (awaited.Query key) = false
+is_partly awaited.Reconnect = true
+
+none_awaits : (at : ConnectionState) (a : Awaited) → is_on_none (Awaits at (Some a)) ≡ true → is_partly a ≡ false
+none_awaits state.Initial (awaited.Identify purpose) is = refl
+none_awaits state.Idle (awaited.Query key) is = refl
+none_awaits at a is = absurd (cc)
+
+abbrev awaits_part : Link → Bool
+awaits_part (Awaits at (Some a)) = is_partly a
+awaits_part other = false
+
+active_awaits : (from : Origin) (link : Link) → is_superior Active from link ≡ true → awaits_part link ≡ false
+active_awaits origin.Root (Owes state.Begun None) is = refl
+active_awaits (origin.Subordinate address superior) (Awaits state.Idle (Some awaited.Pull)) is = refl
+active_awaits (origin.Subordinate address superior) (Owes state.Enlisted None) is = refl
+active_awaits from link is = absurd (cc)
+
+asking_awaits : (from : Origin) (link : Link) → is_superior Asking from link ≡ true → awaits_part link ≡ false
+asking_awaits origin.Root (Owes state.Begun (Some command.Commit)) is = refl
+asking_awaits (origin.Subordinate (Some address) superior) (Owes state.Enlisted (Some command.Prepare)) is = refl
+asking_awaits (origin.Subordinate address superior) (Owes state.Enlisted (Some command.Commit)) is = refl
+asking_awaits from link is = absurd (cc)
+
+prepared_awaits : (from : Origin) (link : Link) → is_superior Prepared from link ≡ true → awaits_part link ≡ false
+prepared_awaits (origin.Subordinate (Some address) superior) (Owes state.Prepared None) is = refl
+prepared_awaits (origin.Subordinate (Some address) superior) Gone is = refl
+prepared_awaits from link is = absurd (cc)
+
+committed_awaits : (from : Origin) (link : Link) → is_superior Committed from link ≡ true → awaits_part link ≡ false
+committed_awaits from Gone is = refl
+committed_awaits from link is = absurd (cc)
+
+aborted_awaits : (from : Origin) (link : Link) → is_superior Aborted from link ≡ true → awaits_part link ≡ false
+aborted_awaits origin.Root (Owes state.Begun None) is = refl
+aborted_awaits (origin.Subordinate address superior) (Awaits state.Idle (Some awaited.Pull)) is = refl
+aborted_awaits (origin.Subordinate address superior) (Owes state.Enlisted None) is = refl
+aborted_awaits from Gone is = refl
+aborted_awaits from link is = absurd (cc)
+
+above_awaits : (phase : Phase) (from : Origin) (link : Link) → is_superior phase from link ≡ true → awaits_part link ≡ false
+above_awaits Active from link is = active_awaits from link is
+above_awaits Asking from link is = asking_awaits from link is
+above_awaits Prepared from link is = prepared_awaits from link is
+above_awaits Committed from link is = committed_awaits from link is
+above_awaits Aborted from link is = aborted_awaits from link is
+
+-- the part whose connection it is
+pub record PartOf (c : Connection) (s : State) : Type 0 where
+  pub transaction : Transaction
+  pub place : ℕ
+  pub found : transaction_of transaction.key s ≡ Some transaction
+  pub on : c.role ≡ Some (Subordinate transaction.key (suc place))
+  pub held : PartAt (is_part_in transaction.phase) (link (Some c))
+
+module _ (c : Connection) (w : Work) (whole : Whole w.state) (there : connection_of c.number w.state ≡ Some c) (a : Awaited) (side : c.side ≡ Primary) (waits : c.awaited ≡ Some a) (partly : is_partly a ≡ true) where
+  stood : Standing w.state c
+  stood = standing w.state c (all_found (stands w.state) (has_number c.number) w.state.connections c whole.standing there)
+
+  link_now : link (Some c) ≡ Awaits c.state (Some a)
+  link_now = ap (λ side. link_on side c) side ∙ ap (Awaits c.state) waits
+
+  never_alone : c.role ≡ None → ⊥
+  never_alone none = both_ways (is_partly a) (none_awaits c.state a (subst (λ l. is_on_none l ≡ true) link_now (subst (λ r. is_some r || is_on_none (link_on c.side c) ≡ true) none stood.free))) partly
+
+  never_above : (key : Key) (found : Option Transaction) → transaction_of key w.state ≡ found → is_some found ≡ true → c.role ≡ Some (Superior key) → ⊥
+  never_above key None is some role = cc
+  never_above key (Some t) is some role =
+      let fits = (known key t c w whole there is).owned.above in
+      let above : is_superior t.phase t.origin (Awaits c.state (Some a)) ≡ true = subst (λ l. is_superior t.phase t.origin l ≡ true) (ap link (above_there key t c w whole there is role) ∙ link_now) fits in
+      both_ways (is_partly a) (above_awaits t.phase t.origin (Awaits c.state (Some a)) above) partly
+
+  its_part : (key : Key) (place : ℕ) (found : Option Transaction) → transaction_of key w.state ≡ found → nat_le 1 place && option_map_or (λ (t : Transaction). nat_lt place (length t.parts)) found false ≡ true → c.role ≡ Some (Subordinate key place) → PartOf c w.state
+  its_part key place None is range role = absurd (both_ways false refl (and_parts (nat_le 1 place) false range).1)
+  its_part key zero (Some t) is range role = absurd (cc)
+  its_part key (suc m) (Some t) is range role =
+      let same = key_found key t w.state is in
+      let found = subst (λ k. transaction_of k w.state ≡ Some t) same is in
+      let on = subst (λ k. c.role ≡ Some (Subordinate k (suc m))) same role in
+      let parts = and_parts (nat_le 1 (suc m)) (nat_lt (suc m) (length t.parts)) range in
+      let held = part_held (is_part_in t.phase) (is_party t.phase) t.place (suc m) t.parts t.key w.state.connections parts.0 parts.1 (part_of m t c w whole there found on).owned.parts in
+      record { transaction = t; place = m; found = found; on = on; held = subst (λ o. PartAt (is_part_in t.phase) (link o)) (part_there m t c w whole there found on) held }
+
+  part_known : (role : Option Role) → c.role ≡ role → is_placed w.state role ≡ true → PartOf c w.state
+  part_known None role placed = absurd (never_alone role)
+  part_known (Some (Superior key)) role placed = absurd (never_above key (transaction_of key w.state) refl placed role)
+  part_known (Some (Subordinate key place)) role placed = its_part key place (transaction_of key w.state) refl placed role
+
+  pub part_now : PartOf c w.state
+  part_now = part_known c.role refl stood.placed
+
+either_true : (b : Bool) → b || false ≡ true → b ≡ true
+either_true true is = refl
+either_true false is = is
+
+-- What becomes of a connection by the table
+
+leaves : (c : Connection) (s : State) → Becomes s c (advanced_to (Some (state.Idle, Original)) c)
+leaves c s = record { role = inr refl; stand = idle s c }
+
+leave_link : (key : Key) (place : ℕ) (c d : Connection) → d ≡ advanced_to (Some (state.Idle, Original)) c → link (cond (is_part_of key place d) (Some d) None) ≡ Gone
+leave_link key place c d is = subst (λ e. link (cond (is_part_of key place e) (Some e) None) ≡ Gone) (sym is) refl
+
+-- A response with which the subordinate leaves
+module _ (a : Awaited) (command : CommandName) (response : ResponseName) (note : Participant → Participant) (goes : (phase : Phase) (at : ConnectionState) (answer : Option Ballot) → is_part phase (Awaits at (Some a)) answer ≡ true → (next_of command at response ≡ Some (state.Idle, Original)) × (is_going phase ≡ true)) (fits : (phase : Phase) (at : ConnectionState) (part : Participant) → InTable phase (Awaits at (Some a)) part → part_before phase Gone (note part) ≡ true) (same : (answer : Option Ballot) (at : ConnectionState) → is_part Committed (Awaits at (Some a)) answer ≡ true → (p : Participant) → (note p).answer ≡ p.answer) where
+  pub leaving_whole : (c : Connection) (w : Work) → Whole w.state → connection_of c.number w.state ≡ Some c → c.side ≡ Primary → c.awaited ≡ Some a → is_partly a ≡ true → AllWhole (note_as c.role note (go_on command response c w))
+  leaving_whole c w whole there side waits partly =
+      let part = part_now c w whole there a side waits partly in
+      let t = part.transaction in
+      let now = link_now c w whole there a side waits partly in
+      let held = in_table t.phase (Awaits c.state (Some a)) part.held.part (subst (λ l. is_part_in t.phase l part.held.part ≡ true) now part.held.holds) in
+      let row = goes t.phase c.state part.held.part.answer held.fits in
+      let is : advanced command response c ≡ advanced_to (Some (state.Idle, Original)) c = ap (λ place. advanced_to place c) row.0 in
+      subst (λ r. AllWhole (note_as r note (go_on command response c w))) (sym part.on)
+      (noted_whole part.place t c w whole there part.found part.on (advanced command response) (subst (Becomes w.state c) (sym is) (leaves c w.state)) note Gone (leave_link t.key (suc part.place) c (advanced command response c) is) row.1
+      (λ p is. fits t.phase c.state p (in_table t.phase (Awaits c.state (Some a)) p (subst (λ l. is_part_in t.phase l p ≡ true) now is)))
+      (λ committed. same part.held.part.answer c.state (subst (λ f. is_part f (Awaits c.state (Some a)) part.held.part.answer ≡ true) committed held.fits)))
+
+-- PUSH is refused, or was known
+
+push_goes : (response : ResponseName) → next_of command.Push state.Idle response ≡ Some (state.Idle, Original) → (phase : Phase) (at : ConnectionState) (answer : Option Ballot) → is_part phase (Awaits at (Some awaited.Push)) answer ≡ true → (next_of command.Push at response ≡ Some (state.Idle, Original)) × (is_going phase ≡ true)
+push_goes response next Active state.Idle None is = (next, refl)
+push_goes response next Asking state.Idle None is = (next, refl)
+push_goes response next Aborted state.Idle None is = (next, refl)
+push_goes response next Prepared state.Idle answer is = absurd (cc)
+push_goes response next Committed state.Idle answer is = absurd (cc)
+push_goes response next phase at answer is = absurd (cc)
+
+push_fits : (phase : Phase) (at : ConnectionState) (answer : Option Ballot) (part : Participant) → is_part phase (Awaits at (Some awaited.Push)) answer ≡ true → not part.acknowledged || may_have_acknowledged phase (Awaits at (Some awaited.Push)) answer ≡ true → part_before phase Gone (answered ReadOnly part) ≡ true
+push_fits Active state.Idle None part is told = and_from _ _ told refl
+push_fits Asking state.Idle None part is told = and_from _ _ (either_true (not part.acknowledged) told) refl
+push_fits Aborted state.Idle None part is told = and_from _ _ (either_true (not part.acknowledged) told) refl
+push_fits Prepared state.Idle answer part is told = absurd (cc)
+push_fits Committed state.Idle answer part is told = absurd (cc)
+push_fits phase at answer part is told = absurd (cc)
+
+never_pushed : (at : ConnectionState) (answer : Option Ballot) → is_part Committed (Awaits at (Some awaited.Push)) answer ≡ true → ⊥
+never_pushed state.Idle answer is = cc
+never_pushed at answer is = cc
+
+already_next : next_of command.Push state.Idle response.AlreadyPushed ≡ Some (state.Idle, Original)
+unfolding next_of
+already_next = refl
+
+not_pushed_next : next_of command.Push state.Idle response.NotPushed ≡ Some (state.Idle, Original)
+unfolding next_of
+not_pushed_next = refl
+
+pub already_pushed_whole : (c : Connection) (w : Work) → Whole w.state → connection_of c.number w.state ≡ Some c → c.side ≡ Primary → c.awaited ≡ Some awaited.Push → AllWhole (note_as c.role (answered ReadOnly) (go_on command.Push response.AlreadyPushed c w))
+already_pushed_whole c w whole there side waits = leaving_whole awaited.Push command.Push response.AlreadyPushed (answered ReadOnly) (push_goes response.AlreadyPushed already_next) (λ phase at part in_it. push_fits phase at part.answer part in_it.fits in_it.told) (λ answer at is. absurd (never_pushed at answer is)) c w whole there side waits refl
+
+pub not_pushed_whole : (c : Connection) (w : Work) → Whole w.state → connection_of c.number w.state ≡ Some c → c.side ≡ Primary → c.awaited ≡ Some awaited.Push → AllWhole (note_as c.role (answered ReadOnly) (go_on command.Push response.NotPushed c w))
+not_pushed_whole c w whole there side waits = leaving_whole awaited.Push command.Push response.NotPushed (answered ReadOnly) (push_goes response.NotPushed not_pushed_next) (λ phase at part in_it. push_fits phase at part.answer part in_it.fits in_it.told) (λ answer at is. absurd (never_pushed at answer is)) c w whole there side waits refl
