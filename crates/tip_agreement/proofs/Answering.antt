@@ -2,7 +2,7 @@
 use Rattle.std.proofs.Common.{◌≡◌, Bool, true, false, ℕ, suc, zero, List, [], ◌∷◌, Option, Some, None, cond, refl, ap, subst, sym, ◌∙◌, ◌⊎◌, inl, inr}
 use Rattle.std.specs.Prelude.{◌&&◌, ◌||◌, not, find, is_none, is_some, length, nat_le, nat_lt}
 use Rattle.std.specs.Option.{option_map_or}
-use Rattle.std.proofs.lemmas.Bool.{and_from, and_parts, both_ways, or_left, or_right}
+use Rattle.std.proofs.lemmas.Bool.{and_from, and_parts, both_ways, not_from_false, or_left, or_right}
 use Rattle.tip_rows.specs.Keys.{Key}
 use Rattle.tip_line.specs.declared.command.CommandName.{CommandName}
 use Rattle.tip_line.specs.declared.command.CommandName.TheVariants as command
@@ -20,12 +20,14 @@ use Rattle.tip_txn.specs.declared.answer.Ballot.TheVariants.{Yes, No, ReadOnly, 
 use Rattle.tip_txn.specs.declared.answer.Phase.{Phase}
 use Rattle.tip_txn.specs.declared.answer.Phase.TheVariants.{Active, Asking, Prepared, Committed, Aborted}
 use Rattle.tip_txn.specs.declared.part.Participant.{Participant}
-use Rattle.tip_machine.specs.Connections.{advanced, advanced_to, asks_for, has_number, is_part_of, is_superior_of}
+use Rattle.tip_machine.specs.Alone.{is_early}
+use Rattle.tip_machine.specs.Connections.{advanced, advanced_to, has_number, is_part_of, reaches, role_in}
 use Rattle.tip_machine.specs.Invariants.Links.{Link, is_on_none, link, link_on}
 use Rattle.tip_machine.specs.Invariants.Links.Link.{Gone, Owes, Awaits}
-use Rattle.tip_machine.specs.Invariants.Phases.{is_named, is_part, is_part_in, is_party, is_superior, may_have_acknowledged}
+use Rattle.tip_machine.specs.Invariants.Phases.{has_pair, is_named, is_part, is_part_in, is_party, is_superior, may_have_acknowledged}
 use Rattle.tip_machine.specs.Responses.{go_on, note_as}
 use Rattle.tip_machine.specs.States.{State, Work, connection_of, transaction_of}
+use Rattle.tip_machine.specs.Transactions.{is_yes}
 use Rattle.tip_machine.specs.Types.{Connection, Transaction}
 use Rattle.tip_machine.specs.declared.connection.Awaited.{Awaited}
 use Rattle.tip_machine.specs.declared.connection.Awaited.TheVariants as awaited
@@ -36,9 +38,10 @@ use Rattle.tip_machine.specs.declared.transaction.Origin.TheVariants as origin
 use Rattle.tip_agreement.proofs.Apart.{all_found}
 use Rattle.tip_agreement.proofs.Around.{Whole, is_placed, stands}
 use Rattle.tip_agreement.proofs.Closing.{InTable, above_there, in_table, known, part_of, part_there, untold_in}
-use Rattle.tip_agreement.proofs.Owned.{InPhase, key_found}
-use Rattle.tip_agreement.proofs.Proceeding.{AllWhole}
-use Rattle.tip_agreement.proofs.Reacting.{Standing, idle, standing}
+use Rattle.tip_agreement.proofs.Deciding.{may_commit}
+use Rattle.tip_agreement.proofs.Owned.{InPhase, key_found, key_self, place_self}
+use Rattle.tip_agreement.proofs.Proceeding.{AllWhole, may_ask}
+use Rattle.tip_agreement.proofs.Reacting.{Standing, acts_free, idle, standing}
 use Rattle.tip_agreement.proofs.Responding.{Becomes, is_going, noted_whole, part_before}
 use Rattle.tip_agreement.proofs.Sound.{PartAt, part_held}
 
@@ -203,3 +206,112 @@ already_pushed_whole c w whole there side waits = leaving_whole awaited.Push com
 
 pub not_pushed_whole : (c : Connection) (w : Work) → Whole w.state → connection_of c.number w.state ≡ Some c → c.side ≡ Primary → c.awaited ≡ Some awaited.Push → AllWhole (note_as c.role (answered ReadOnly) (go_on command.Push response.NotPushed c w))
 not_pushed_whole c w whole there side waits = leaving_whole awaited.Push command.Push response.NotPushed (answered ReadOnly) (push_goes response.NotPushed not_pushed_next) (λ phase at part in_it. push_fits phase at part.answer part in_it.fits in_it.told) (λ answer at is. absurd (never_pushed at answer is)) c w whole there side waits refl
+
+-- PREPARE is refused, or there is nothing to commit
+
+prepare_goes : (response : ResponseName) → next_of command.Prepare state.Enlisted response ≡ Some (state.Idle, Original) → (phase : Phase) (at : ConnectionState) (answer : Option Ballot) → is_part phase (Awaits at (Some awaited.Prepare)) answer ≡ true → (next_of command.Prepare at response ≡ Some (state.Idle, Original)) × (is_going phase ≡ true)
+prepare_goes response next Asking state.Enlisted None is = (next, refl)
+prepare_goes response next Aborted state.Enlisted None is = (next, refl)
+prepare_goes response next Active state.Idle answer is = absurd (cc)
+prepare_goes response next Prepared state.Idle answer is = absurd (cc)
+prepare_goes response next Committed state.Idle answer is = absurd (cc)
+prepare_goes response next phase at answer is = absurd (cc)
+
+prepare_fits : (ballot : Ballot) → may_ask Gone (Some ballot) ≡ true → is_yes (Some ballot) ≡ false → (phase : Phase) (at : ConnectionState) (answer : Option Ballot) (part : Participant) → is_part phase (Awaits at (Some awaited.Prepare)) answer ≡ true → not part.acknowledged || may_have_acknowledged phase (Awaits at (Some awaited.Prepare)) answer ≡ true → part_before phase Gone (answered ballot part) ≡ true
+prepare_fits ballot asked other Asking state.Enlisted None part is told = and_from _ _ (and_from _ _ asked (either_true (not part.acknowledged) told)) (or_left _ _ (not_from_false _ other))
+prepare_fits ballot asked other Aborted state.Enlisted None part is told = and_from _ _ (either_true (not part.acknowledged) told) (or_left _ _ (not_from_false _ other))
+prepare_fits ballot asked other Active state.Idle answer part is told = absurd (cc)
+prepare_fits ballot asked other Prepared state.Idle answer part is told = absurd (cc)
+prepare_fits ballot asked other Committed state.Idle answer part is told = absurd (cc)
+prepare_fits ballot asked other phase at answer part is told = absurd (cc)
+
+never_asked : (at : ConnectionState) (answer : Option Ballot) → is_part Committed (Awaits at (Some awaited.Prepare)) answer ≡ true → ⊥
+never_asked state.Idle answer is = cc
+never_asked at answer is = cc
+
+aborted_next : next_of command.Prepare state.Enlisted response.Aborted ≡ Some (state.Idle, Original)
+unfolding next_of
+aborted_next = refl
+
+read_only_next : next_of command.Prepare state.Enlisted response.ReadOnly ≡ Some (state.Idle, Original)
+unfolding next_of
+read_only_next = refl
+
+pub refused_whole : (c : Connection) (w : Work) → Whole w.state → connection_of c.number w.state ≡ Some c → c.side ≡ Primary → c.awaited ≡ Some awaited.Prepare → AllWhole (note_as c.role (answered No) (go_on command.Prepare response.Aborted c w))
+refused_whole c w whole there side waits = leaving_whole awaited.Prepare command.Prepare response.Aborted (answered No) (prepare_goes response.Aborted aborted_next) (λ phase at part in_it. prepare_fits No refl refl phase at part.answer part in_it.fits in_it.told) (λ answer at is. absurd (never_asked at answer is)) c w whole there side waits refl
+
+pub read_only_whole : (c : Connection) (w : Work) → Whole w.state → connection_of c.number w.state ≡ Some c → c.side ≡ Primary → c.awaited ≡ Some awaited.Prepare → AllWhole (note_as c.role (answered ReadOnly) (go_on command.Prepare response.ReadOnly c w))
+read_only_whole c w whole there side waits = leaving_whole awaited.Prepare command.Prepare response.ReadOnly (answered ReadOnly) (prepare_goes response.ReadOnly read_only_next) (λ phase at part in_it. prepare_fits ReadOnly refl refl phase at part.answer part in_it.fits in_it.told) (λ answer at is. absurd (never_asked at answer is)) c w whole there side waits refl
+
+-- COMMIT is acknowledged, or the subordinate knows no such transaction any more
+
+told_gone : (part : Participant) → part.answer ≡ Some Yes → has_pair part ≡ true → part_before Committed Gone (acknowledged part) ≡ true
+told_gone part same pair = and_from _ _ (and_from _ _ (ap (may_commit Gone) same) (ap (may_have_acknowledged Committed Gone) same)) (or_right _ _ pair)
+
+commit_goes : next_of command.Commit state.Prepared response.Committed ≡ Some (state.Idle, Original) → (phase : Phase) (at : ConnectionState) (answer : Option Ballot) → is_part phase (Awaits at (Some awaited.Commit)) answer ≡ true → (next_of command.Commit at response.Committed ≡ Some (state.Idle, Original)) × (is_going phase ≡ true)
+commit_goes next Committed state.Prepared (Some Yes) is = (next, refl)
+commit_goes next Active state.Idle answer is = absurd (cc)
+commit_goes next Asking state.Idle answer is = absurd (cc)
+commit_goes next Prepared state.Idle answer is = absurd (cc)
+commit_goes next Aborted state.Idle answer is = absurd (cc)
+commit_goes next phase at answer is = absurd (cc)
+
+commit_fits : (phase : Phase) (at : ConnectionState) (answer : Option Ballot) (part : Participant) → part.answer ≡ answer → is_part phase (Awaits at (Some awaited.Commit)) answer ≡ true → is_named (Awaits at (Some awaited.Commit)) part ≡ true → part_before phase Gone (acknowledged part) ≡ true
+commit_fits Committed state.Prepared (Some Yes) part same is pair = told_gone part same pair
+commit_fits Active state.Idle answer part same is pair = absurd (cc)
+commit_fits Asking state.Idle answer part same is pair = absurd (cc)
+commit_fits Prepared state.Idle answer part same is pair = absurd (cc)
+commit_fits Aborted state.Idle answer part same is pair = absurd (cc)
+commit_fits phase at answer part same is pair = absurd (cc)
+
+reconnect_goes : next_of command.Reconnect state.Idle response.NotReconnected ≡ Some (state.Idle, Original) → (phase : Phase) (at : ConnectionState) (answer : Option Ballot) → is_part phase (Awaits at (Some awaited.Reconnect)) answer ≡ true → (next_of command.Reconnect at response.NotReconnected ≡ Some (state.Idle, Original)) × (is_going phase ≡ true)
+reconnect_goes next Committed state.Idle (Some Yes) is = (next, refl)
+reconnect_goes next Active state.Idle answer is = absurd (cc)
+reconnect_goes next Asking state.Idle answer is = absurd (cc)
+reconnect_goes next Prepared state.Idle answer is = absurd (cc)
+reconnect_goes next Aborted state.Idle answer is = absurd (cc)
+reconnect_goes next phase at answer is = absurd (cc)
+
+reconnect_fits : (phase : Phase) (at : ConnectionState) (answer : Option Ballot) (part : Participant) → part.answer ≡ answer → is_part phase (Awaits at (Some awaited.Reconnect)) answer ≡ true → is_named (Awaits at (Some awaited.Reconnect)) part ≡ true → part_before phase Gone (acknowledged part) ≡ true
+reconnect_fits Committed state.Idle (Some Yes) part same is pair = told_gone part same pair
+reconnect_fits Active state.Idle answer part same is pair = absurd (cc)
+reconnect_fits Asking state.Idle answer part same is pair = absurd (cc)
+reconnect_fits Prepared state.Idle answer part same is pair = absurd (cc)
+reconnect_fits Aborted state.Idle answer part same is pair = absurd (cc)
+reconnect_fits phase at answer part same is pair = absurd (cc)
+
+committed_next : next_of command.Commit state.Prepared response.Committed ≡ Some (state.Idle, Original)
+unfolding next_of
+committed_next = refl
+
+not_reconnected_next : next_of command.Reconnect state.Idle response.NotReconnected ≡ Some (state.Idle, Original)
+unfolding next_of
+not_reconnected_next = refl
+
+pub committed_so : (c : Connection) (w : Work) → Whole w.state → connection_of c.number w.state ≡ Some c → c.side ≡ Primary → c.awaited ≡ Some awaited.Commit → AllWhole (note_as c.role acknowledged (go_on command.Commit response.Committed c w))
+committed_so c w whole there side waits = leaving_whole awaited.Commit command.Commit response.Committed acknowledged (commit_goes committed_next) (λ phase at part in_it. commit_fits phase at part.answer part refl in_it.fits in_it.named) (λ answer at is p. refl) c w whole there side waits refl
+
+pub not_reconnected_whole : (c : Connection) (w : Work) → Whole w.state → connection_of c.number w.state ≡ Some c → c.side ≡ Primary → c.awaited ≡ Some awaited.Reconnect → AllWhole (note_as c.role acknowledged (go_on command.Reconnect response.NotReconnected c w))
+not_reconnected_whole c w whole there side waits = leaving_whole awaited.Reconnect command.Reconnect response.NotReconnected acknowledged (reconnect_goes not_reconnected_next) (λ phase at part in_it. reconnect_fits phase at part.answer part refl in_it.fits in_it.named) (λ answer at is p. refl) c w whole there side waits refl
+
+-- A response with which the subordinate stays
+
+stay_link : (key : Key) (place : ℕ) (at : ConnectionState) (c d : Connection) → d ≡ record c { state = at; owed = None; awaited = None } → c.role ≡ Some (Subordinate key place) → c.side ≡ Primary → link (cond (is_part_of key place d) (Some d) None) ≡ Awaits at None
+stay_link key place at c d is role side = subst (λ e. link (cond (is_part_of key place e) (Some e) None) ≡ Awaits at None) (sym is) (subst (λ b. link (cond b (Some (record c { state = at; owed = None; awaited = None })) None) ≡ Awaits at None) (sym (ap (reaches key place) role ∙ and_from _ _ (key_self key) (place_self place))) (ap (λ side. link_on side (record c { state = at; owed = None; awaited = None })) side))
+
+module _ (a : Awaited) (command : CommandName) (response : ResponseName) (next : ConnectionState) (late : is_early next ≡ false) (lasting : (role : Option Role) → role_in next role ≡ role) (note : Participant → Participant) (goes : (phase : Phase) (at : ConnectionState) (answer : Option Ballot) → is_part phase (Awaits at (Some a)) answer ≡ true → (next_of command at response ≡ Some (next, Keep)) × (is_going phase ≡ true)) (fits : (phase : Phase) (at : ConnectionState) (part : Participant) → InTable phase (Awaits at (Some a)) part → part_before phase (Awaits next None) (note part) ≡ true) (same : (answer : Option Ballot) (at : ConnectionState) → is_part Committed (Awaits at (Some a)) answer ≡ true → (p : Participant) → (note p).answer ≡ p.answer) where
+  stays_so : (c : Connection) (s : State) → Standing s c → is_some c.role ≡ true → Becomes s c (record c { state = next; owed = None; awaited = None })
+  stays_so c s known on = record { role = inl refl; stand = and_from _ _ (and_from _ _ (and_from _ _ (and_from _ _ (acts_free s c c.side next c.role) (or_left _ _ (not_from_false _ late))) (or_left _ _ on)) known.asks) known.placed }
+
+  pub staying_whole : (c : Connection) (w : Work) → Whole w.state → connection_of c.number w.state ≡ Some c → c.side ≡ Primary → c.awaited ≡ Some a → is_partly a ≡ true → AllWhole (note_as c.role note (go_on command response c w))
+  staying_whole c w whole there side waits partly =
+      let part = part_now c w whole there a side waits partly in
+      let t = part.transaction in
+      let now = link_now c w whole there a side waits partly in
+      let held = in_table t.phase (Awaits c.state (Some a)) part.held.part (subst (λ l. is_part_in t.phase l part.held.part ≡ true) now part.held.holds) in
+      let row = goes t.phase c.state part.held.part.answer held.fits in
+      let is : advanced command response c ≡ record c { state = next; owed = None; awaited = None } = ap (λ place. advanced_to place c) row.0 ∙ ap (λ role. record c { state = next; owed = None; awaited = None; role = role }) (lasting c.role) in
+      subst (λ r. AllWhole (note_as r note (go_on command response c w))) (sym part.on)
+      (noted_whole part.place t c w whole there part.found part.on (advanced command response) (subst (Becomes w.state c) (sym is) (stays_so c w.state (stood c w whole there a side waits partly) (ap is_some part.on))) note (Awaits next None) (stay_link t.key (suc part.place) next c (advanced command response c) is part.on side) row.1
+      (λ p is. fits t.phase c.state p (in_table t.phase (Awaits c.state (Some a)) p (subst (λ l. is_part_in t.phase l p ≡ true) now is)))
+      (λ committed. same part.held.part.answer c.state (subst (λ f. is_part f (Awaits c.state (Some a)) part.held.part.answer ≡ true) committed held.fits)))

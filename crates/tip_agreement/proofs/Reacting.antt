@@ -120,7 +120,7 @@ needs_nothing_so other = refl
 
 module _ (s : State) (c : Connection) where
   -- the same connection, with nothing owed and nothing awaited
-  acts_free : (side : Side) (state : ConnectionState) (role : Option Role) → acts_as side (record c { state = state; side = side; owed = None; awaited = None; role = role }) ≡ true
+  pub acts_free : (side : Side) (state : ConnectionState) (role : Option Role) → acts_as side (record c { state = state; side = side; owed = None; awaited = None; role = role }) ≡ true
   acts_free Primary state role = refl
   acts_free Secondary state role = refl
 
