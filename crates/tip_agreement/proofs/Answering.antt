@@ -14,6 +14,7 @@ use Rattle.tip_conn.specs.declared.state.Side.TheVariants.{Primary, Secondary}
 use Rattle.tip_conn.specs.declared.state.State.{State as ConnectionState}
 use Rattle.tip_conn.specs.declared.state.State.TheVariants as state
 use Rattle.tip_conn.specs.declared.state.Turn.TheVariants.{Keep, Original}
+use Rattle.tip_table.specs.Lists.{changed}
 use Rattle.tip_txn.specs.Parts.{acknowledged, answered, named}
 use Rattle.tip_txn.specs.declared.answer.Ballot.{Ballot}
 use Rattle.tip_txn.specs.declared.answer.Ballot.TheVariants.{Yes, No, ReadOnly, Lost}
@@ -25,9 +26,11 @@ use Rattle.tip_machine.specs.Connections.{advanced, advanced_to, has_number, is_
 use Rattle.tip_machine.specs.Invariants.Links.{Link, is_on_none, link, link_on}
 use Rattle.tip_machine.specs.Invariants.Links.Link.{Gone, Owes, Awaits}
 use Rattle.tip_machine.specs.Invariants.Phases.{has_pair, is_named, is_part, is_part_in, is_party, is_superior, may_have_acknowledged}
-use Rattle.tip_machine.specs.Responses.{go_on, note_as}
+use Rattle.tip_machine.specs.Changes.{alter}
+use Rattle.tip_machine.specs.Proceeding.{proceed}
+use Rattle.tip_machine.specs.Responses.{go_on, note_as, proceed_as}
 use Rattle.tip_machine.specs.States.{State, Work, connection_of, transaction_of}
-use Rattle.tip_machine.specs.Transactions.{is_yes}
+use Rattle.tip_machine.specs.Transactions.{has_key, is_yes, noting}
 use Rattle.tip_machine.specs.Types.{Connection, Transaction}
 use Rattle.tip_machine.specs.declared.connection.Awaited.{Awaited}
 use Rattle.tip_machine.specs.declared.connection.Awaited.TheVariants as awaited
@@ -35,9 +38,10 @@ use Rattle.tip_machine.specs.declared.connection.Role.{Role}
 use Rattle.tip_machine.specs.declared.connection.Role.TheVariants.{Superior, Subordinate}
 use Rattle.tip_machine.specs.declared.transaction.Origin.{Origin}
 use Rattle.tip_machine.specs.declared.transaction.Origin.TheVariants as origin
+use Rattle.tip_agreement.proofs.Aborting.{may_abort}
 use Rattle.tip_agreement.proofs.Apart.{all_found}
 use Rattle.tip_agreement.proofs.Around.{Whole, is_placed, stands}
-use Rattle.tip_agreement.proofs.Closing.{InTable, above_there, in_table, known, part_of, part_there, untold_in}
+use Rattle.tip_agreement.proofs.Closing.{InTable, above_there, changed_none, in_table, known, part_of, part_there, untold_in}
 use Rattle.tip_agreement.proofs.Deciding.{may_commit}
 use Rattle.tip_agreement.proofs.Owned.{InPhase, key_found, key_self, place_self}
 use Rattle.tip_agreement.proofs.Proceeding.{AllWhole, may_ask}
@@ -315,3 +319,130 @@ module _ (a : Awaited) (command : CommandName) (response : ResponseName) (next :
       (noted_whole part.place t c w whole there part.found part.on (advanced command response) (subst (Becomes w.state c) (sym is) (stays_so c w.state (stood c w whole there a side waits partly) (ap is_some part.on))) note (Awaits next None) (stay_link t.key (suc part.place) next c (advanced command response c) is part.on side) row.1
       (λ p is. fits t.phase c.state p (in_table t.phase (Awaits c.state (Some a)) p (subst (λ l. is_part_in t.phase l p ≡ true) now is)))
       (λ committed. same part.held.part.answer c.state (subst (λ f. is_part f (Awaits c.state (Some a)) part.held.part.answer ≡ true) committed held.fits)))
+
+-- PUSHED: the part says its identifier
+
+pushed_goes : next_of command.Push state.Idle response.Pushed ≡ Some (state.Enlisted, Keep) → (phase : Phase) (at : ConnectionState) (answer : Option Ballot) → is_part phase (Awaits at (Some awaited.Push)) answer ≡ true → (next_of command.Push at response.Pushed ≡ Some (state.Enlisted, Keep)) × (is_going phase ≡ true)
+pushed_goes next Active state.Idle None is = (next, refl)
+pushed_goes next Asking state.Idle None is = (next, refl)
+pushed_goes next Aborted state.Idle None is = (next, refl)
+pushed_goes next Prepared state.Idle answer is = absurd (cc)
+pushed_goes next Committed state.Idle answer is = absurd (cc)
+pushed_goes next phase at answer is = absurd (cc)
+
+pushed_fits : (id : List ℕ) (phase : Phase) (at : ConnectionState) (answer : Option Ballot) (part : Participant) → part.answer ≡ answer → is_part phase (Awaits at (Some awaited.Push)) answer ≡ true → not part.acknowledged || may_have_acknowledged phase (Awaits at (Some awaited.Push)) answer ≡ true → is_named (Awaits at (Some awaited.Push)) part ≡ true → part_before phase (Awaits state.Enlisted None) (named id part) ≡ true
+pushed_fits id Active state.Idle None part same is told address = and_from _ _ (and_from _ _ (ap (is_part Active (Awaits state.Enlisted None)) same) (or_left _ _ (either_true (not part.acknowledged) told))) (and_from _ _ address refl)
+pushed_fits id Asking state.Idle None part same is told address = and_from _ _ (and_from _ _ (ap (may_ask (Awaits state.Enlisted None)) same) (either_true (not part.acknowledged) told)) (and_from _ _ address refl)
+pushed_fits id Aborted state.Idle None part same is told address = and_from _ _ (and_from _ _ (ap (may_abort (Awaits state.Enlisted None)) same) (either_true (not part.acknowledged) told)) (and_from _ _ address refl)
+pushed_fits id Prepared state.Idle answer part same is told address = absurd (cc)
+pushed_fits id Committed state.Idle answer part same is told address = absurd (cc)
+pushed_fits id phase at answer part same is told address = absurd (cc)
+
+pushed_next : next_of command.Push state.Idle response.Pushed ≡ Some (state.Enlisted, Keep)
+unfolding next_of
+pushed_next = refl
+
+pub pushed_whole : (id : List ℕ) (c : Connection) (w : Work) → Whole w.state → connection_of c.number w.state ≡ Some c → c.side ≡ Primary → c.awaited ≡ Some awaited.Push → AllWhole (note_as c.role (named id) (go_on command.Push response.Pushed c w))
+pushed_whole id c w whole there side waits = staying_whole awaited.Push command.Push response.Pushed state.Enlisted refl (λ role. refl) (named id) (pushed_goes pushed_next) (λ phase at part in_it. pushed_fits id phase at part.answer part refl in_it.fits in_it.told in_it.named) (λ answer at is p. refl) c w whole there side waits refl
+
+-- PREPARED: the part says yes
+
+prepared_goes : next_of command.Prepare state.Enlisted response.Prepared ≡ Some (state.Prepared, Keep) → (phase : Phase) (at : ConnectionState) (answer : Option Ballot) → is_part phase (Awaits at (Some awaited.Prepare)) answer ≡ true → (next_of command.Prepare at response.Prepared ≡ Some (state.Prepared, Keep)) × (is_going phase ≡ true)
+prepared_goes next Asking state.Enlisted None is = (next, refl)
+prepared_goes next Aborted state.Enlisted None is = (next, refl)
+prepared_goes next Active state.Idle answer is = absurd (cc)
+prepared_goes next Prepared state.Idle answer is = absurd (cc)
+prepared_goes next Committed state.Idle answer is = absurd (cc)
+prepared_goes next phase at answer is = absurd (cc)
+
+prepared_fits : (phase : Phase) (at : ConnectionState) (answer : Option Ballot) (part : Participant) → is_part phase (Awaits at (Some awaited.Prepare)) answer ≡ true → not part.acknowledged || may_have_acknowledged phase (Awaits at (Some awaited.Prepare)) answer ≡ true → is_named (Awaits at (Some awaited.Prepare)) part ≡ true → part_before phase (Awaits state.Prepared None) (answered Yes part) ≡ true
+prepared_fits Asking state.Enlisted None part is told pair = and_from _ _ (either_true (not part.acknowledged) told) pair
+prepared_fits Aborted state.Enlisted None part is told pair = and_from _ _ (either_true (not part.acknowledged) told) pair
+prepared_fits Active state.Idle answer part is told pair = absurd (cc)
+prepared_fits Prepared state.Idle answer part is told pair = absurd (cc)
+prepared_fits Committed state.Idle answer part is told pair = absurd (cc)
+prepared_fits phase at answer part is told pair = absurd (cc)
+
+prepared_next : next_of command.Prepare state.Enlisted response.Prepared ≡ Some (state.Prepared, Keep)
+unfolding next_of
+prepared_next = refl
+
+pub prepared_whole : (c : Connection) (w : Work) → Whole w.state → connection_of c.number w.state ≡ Some c → c.side ≡ Primary → c.awaited ≡ Some awaited.Prepare → AllWhole (note_as c.role (answered Yes) (go_on command.Prepare response.Prepared c w))
+prepared_whole c w whole there side waits = staying_whole awaited.Prepare command.Prepare response.Prepared state.Prepared refl (λ role. refl) (answered Yes) (prepared_goes prepared_next) (λ phase at part in_it. prepared_fits phase at part.answer part in_it.fits in_it.told in_it.named) (λ answer at is. absurd (never_asked at answer is)) c w whole there side waits refl
+
+-- ABORT is acknowledged, or a subordinate is there again: nothing is noted
+
+noting_none : (m : ℕ) (t : Transaction) → noting m (λ p. p) t ≡ t
+noting_none m t = λ i. record t { parts = changed_none m t.parts i }
+
+changed_still : (test : Transaction → Bool) (f : Transaction → Transaction) (ts : List Transaction) → ((t : Transaction) → f t ≡ t) → changed test f ts ≡ ts
+changed_still test f [] same = refl
+changed_still test f (t ∷ ts) same = step (test t) (changed_still test f ts same) where
+  step : (b : Bool) → changed test f ts ≡ ts → cond b (f t ∷ ts) (t ∷ changed test f ts) ≡ t ∷ ts
+  step true rest = ap (λ u. u ∷ ts) (same t)
+  step false rest = ap (λ us. t ∷ us) rest
+
+alter_none : (key : Key) (m : ℕ) (w : Work) → alter key (noting m (λ p. p)) w ≡ w
+alter_none key m w = λ i. record w { state = record w.state { transactions = changed_still (has_key key) (noting m (λ p. p)) w.state.transactions (noting_none m) i } }
+
+-- what is noted as it was, goes on as it was
+unnoted : (role : Option Role) (key : Key) (place : ℕ) (v : Work) → role ≡ Some (Subordinate key place) → AllWhole (note_as role (λ p. p) v) → AllWhole (proceed_as role v)
+unnoted role key place v is whole = subst (λ r. AllWhole (proceed_as r v)) (sym is) (subst (λ u. AllWhole (proceed key u)) (alter_none key place v) (subst (λ r. AllWhole (note_as r (λ p. p) v)) is whole))
+
+abort_goes : next_of command.Abort state.Enlisted response.Aborted ≡ Some (state.Idle, Original) → next_of command.Abort state.Prepared response.Aborted ≡ Some (state.Idle, Original) → (phase : Phase) (at : ConnectionState) (answer : Option Ballot) → is_part phase (Awaits at (Some awaited.Abort)) answer ≡ true → (next_of command.Abort at response.Aborted ≡ Some (state.Idle, Original)) × (is_going phase ≡ true)
+abort_goes first last Aborted state.Enlisted None is = (first, refl)
+abort_goes first last Aborted state.Prepared (Some Yes) is = (last, refl)
+abort_goes first last Active state.Idle answer is = absurd (cc)
+abort_goes first last Asking state.Idle answer is = absurd (cc)
+abort_goes first last Prepared state.Idle answer is = absurd (cc)
+abort_goes first last Committed state.Idle answer is = absurd (cc)
+abort_goes first last phase at answer is = absurd (cc)
+
+abort_fits : (phase : Phase) (at : ConnectionState) (answer : Option Ballot) (part : Participant) → part.answer ≡ answer → is_part phase (Awaits at (Some awaited.Abort)) answer ≡ true → not part.acknowledged || may_have_acknowledged phase (Awaits at (Some awaited.Abort)) answer ≡ true → is_named (Awaits at (Some awaited.Abort)) part ≡ true → part_before phase Gone part ≡ true
+abort_fits Aborted state.Enlisted None part same is told pair = and_from _ _ (either_true (not part.acknowledged) told) (or_left _ _ (not_from_false _ (ap is_yes same)))
+abort_fits Aborted state.Prepared (Some Yes) part same is told pair = and_from _ _ (either_true (not part.acknowledged) told) (or_right _ _ pair)
+abort_fits Active state.Idle answer part same is told pair = absurd (cc)
+abort_fits Asking state.Idle answer part same is told pair = absurd (cc)
+abort_fits Prepared state.Idle answer part same is told pair = absurd (cc)
+abort_fits Committed state.Idle answer part same is told pair = absurd (cc)
+abort_fits phase at answer part same is told pair = absurd (cc)
+
+abort_enlisted_next : next_of command.Abort state.Enlisted response.Aborted ≡ Some (state.Idle, Original)
+unfolding next_of
+abort_enlisted_next = refl
+
+abort_prepared_next : next_of command.Abort state.Prepared response.Aborted ≡ Some (state.Idle, Original)
+unfolding next_of
+abort_prepared_next = refl
+
+pub aborted_so : (c : Connection) (w : Work) → Whole w.state → connection_of c.number w.state ≡ Some c → c.side ≡ Primary → c.awaited ≡ Some awaited.Abort → AllWhole (proceed_as c.role (go_on command.Abort response.Aborted c w))
+aborted_so c w whole there side waits =
+    let part = part_now c w whole there awaited.Abort side waits refl in
+    unnoted c.role part.transaction.key (suc part.place) (go_on command.Abort response.Aborted c w) part.on
+    (leaving_whole awaited.Abort command.Abort response.Aborted (λ p. p) (abort_goes abort_enlisted_next abort_prepared_next) (λ phase at part in_it. abort_fits phase at part.answer part refl in_it.fits in_it.told in_it.named) (λ answer at is p. refl) c w whole there side waits refl)
+
+reconnected_goes : next_of command.Reconnect state.Idle response.Reconnected ≡ Some (state.Prepared, Keep) → (phase : Phase) (at : ConnectionState) (answer : Option Ballot) → is_part phase (Awaits at (Some awaited.Reconnect)) answer ≡ true → (next_of command.Reconnect at response.Reconnected ≡ Some (state.Prepared, Keep)) × (is_going phase ≡ true)
+reconnected_goes next Committed state.Idle (Some Yes) is = (next, refl)
+reconnected_goes next Active state.Idle answer is = absurd (cc)
+reconnected_goes next Asking state.Idle answer is = absurd (cc)
+reconnected_goes next Prepared state.Idle answer is = absurd (cc)
+reconnected_goes next Aborted state.Idle answer is = absurd (cc)
+reconnected_goes next phase at answer is = absurd (cc)
+
+reconnected_fits : (phase : Phase) (at : ConnectionState) (answer : Option Ballot) (part : Participant) → part.answer ≡ answer → is_part phase (Awaits at (Some awaited.Reconnect)) answer ≡ true → not part.acknowledged || may_have_acknowledged phase (Awaits at (Some awaited.Reconnect)) answer ≡ true → is_named (Awaits at (Some awaited.Reconnect)) part ≡ true → part_before phase (Awaits state.Prepared None) part ≡ true
+reconnected_fits Committed state.Idle (Some Yes) part same is told pair = and_from _ _ (and_from _ _ (ap (may_commit (Awaits state.Prepared None)) same) (or_left _ _ (either_true (not part.acknowledged) told))) pair
+reconnected_fits Active state.Idle answer part same is told pair = absurd (cc)
+reconnected_fits Asking state.Idle answer part same is told pair = absurd (cc)
+reconnected_fits Prepared state.Idle answer part same is told pair = absurd (cc)
+reconnected_fits Aborted state.Idle answer part same is told pair = absurd (cc)
+reconnected_fits phase at answer part same is told pair = absurd (cc)
+
+reconnected_next : next_of command.Reconnect state.Idle response.Reconnected ≡ Some (state.Prepared, Keep)
+unfolding next_of
+reconnected_next = refl
+
+pub reconnected_whole : (c : Connection) (w : Work) → Whole w.state → connection_of c.number w.state ≡ Some c → c.side ≡ Primary → c.awaited ≡ Some awaited.Reconnect → AllWhole (proceed_as c.role (go_on command.Reconnect response.Reconnected c w))
+reconnected_whole c w whole there side waits =
+    let part = part_now c w whole there awaited.Reconnect side waits refl in
+    unnoted c.role part.transaction.key (suc part.place) (go_on command.Reconnect response.Reconnected c w) part.on
+    (staying_whole awaited.Reconnect command.Reconnect response.Reconnected state.Prepared refl (λ role. refl) (λ p. p) (reconnected_goes reconnected_next) (λ phase at part in_it. reconnected_fits phase at part.answer part refl in_it.fits in_it.told in_it.named) (λ answer at is p. refl) c w whole there side waits refl)
