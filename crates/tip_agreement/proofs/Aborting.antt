@@ -1,11 +1,10 @@
 -- A transaction that is aborted leaves a realm whole.
-use Rattle.std.proofs.Common.{◌≡◌, Bool, true, false, ℕ, List, [], ◌∷◌, Option, Some, None, cond, refl, ap, subst, sym, arith, ◌∙◌}
-use Rattle.std.specs.Prelude.{◌&&◌, ◌||◌, not, find, map, length, nat_le}
+use Rattle.std.proofs.Common.{◌≡◌, Bool, true, false, ℕ, List, [], ◌∷◌, Option, Some, None, cond, refl, subst, sym, arith, ◌∙◌}
+use Rattle.std.specs.Prelude.{◌&&◌, not, length, nat_le}
 use Rattle.std.specs.List.{list_any}
 use Rattle.std.proofs.lemmas.Bool.{and_from, and_parts, both_ways, not-true, not_from_false, or_left}
 use Rattle.std.proofs.lemmas.Bool.Decides.{nat_tests}
 use Rattle.tip_rows.specs.Keys.{Key}
-use Rattle.tip_branch.specs.Notes.{PartyNotes}
 use Rattle.tip_branch.specs.declared.member.Errand.{Errand}
 use Rattle.tip_branch.specs.declared.member.Errand.TheVariants as errand
 use Rattle.tip_conn.specs.Table.{next_of}
@@ -15,12 +14,12 @@ use Rattle.tip_txn.specs.declared.answer.Ballot.{Ballot}
 use Rattle.tip_txn.specs.declared.answer.Ballot.TheVariants.{Yes}
 use Rattle.tip_txn.specs.declared.answer.Phase.TheVariants.{Aborted}
 use Rattle.tip_txn.specs.declared.part.Participant.{Participant}
-use Rattle.tip_machine.specs.Connections.{is_on, is_superior_of}
+use Rattle.tip_machine.specs.Connections.{is_on}
 use Rattle.tip_machine.specs.Invariants.Links.{Link}
 use Rattle.tip_machine.specs.Invariants.Links.Link.{Gone, Owes, Awaits}
 use Rattle.tip_machine.specs.Invariants.Parties.{is_its_own}
 use Rattle.tip_machine.specs.Invariants.Phases.{is_named, is_part, is_part_in, is_party, is_superior}
-use Rattle.tip_machine.specs.Changes.{alter, end, on}
+use Rattle.tip_machine.specs.Changes.{end, on}
 use Rattle.tip_machine.specs.Proceeding.{abort, dispatch, dispatched, enter, give_out, let_go, release}
 use Rattle.tip_machine.specs.Reactions.{aborts, react}
 use Rattle.tip_machine.specs.States.{State, Work, transaction_of}
@@ -30,9 +29,9 @@ use Rattle.tip_machine.specs.declared.connection.Awaited.TheVariants as awaited
 use Rattle.tip_machine.specs.declared.transaction.Origin.{Origin}
 use Rattle.tip_machine.specs.declared.transaction.Origin.TheVariants as origin
 use Rattle.tip_machine.specs.declared.transaction.PartyPlace.TheVariants.{Here, Out, Spent}
-use Rattle.tip_agreement.proofs.Around.{Around, Whole, alter_around, altered, end_whole, whole_of, with_connections}
-use Rattle.tip_agreement.proofs.Owned.{InPhase, Owned, above_after, alter_owned, from_phase, have_parts, key_found, part_after, parts_from, react_owned}
-use Rattle.tip_agreement.proofs.Reacting.{aborts_so, become, react_around}
+use Rattle.tip_agreement.proofs.Around.{Around, Whole, alter_around, altered, end_whole, whole_of}
+use Rattle.tip_agreement.proofs.Owned.{Owned, above_after, alter_owned, from_phase, have_parts, key_found, part_after, parts_from, react_owned}
+use Rattle.tip_agreement.proofs.Reacting.{aborts_so, react_around}
 
 -- The tables before
 

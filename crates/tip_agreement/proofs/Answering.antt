@@ -1,6 +1,6 @@
 -- The responses of a subordinate leave a realm whole.
-use Rattle.std.proofs.Common.{◌≡◌, Bool, true, false, ℕ, suc, zero, List, [], ◌∷◌, Option, Some, None, cond, refl, ap, subst, sym, ◌∙◌, ◌⊎◌, inl, inr}
-use Rattle.std.specs.Prelude.{◌&&◌, ◌||◌, not, find, is_none, is_some, length, nat_le, nat_lt}
+use Rattle.std.proofs.Common.{◌≡◌, Bool, true, false, ℕ, suc, zero, List, [], ◌∷◌, Option, Some, None, cond, refl, ap, subst, sym, ◌∙◌, inl, inr}
+use Rattle.std.specs.Prelude.{◌&&◌, ◌||◌, not, is_some, length, nat_le, nat_lt}
 use Rattle.std.specs.Option.{option_map_or}
 use Rattle.std.proofs.lemmas.Bool.{and_from, and_parts, both_ways, not_from_false, or_left, or_right}
 use Rattle.tip_rows.specs.Keys.{Key}
@@ -9,15 +9,14 @@ use Rattle.tip_line.specs.declared.command.CommandName.TheVariants as command
 use Rattle.tip_line.specs.declared.response.ResponseName.{ResponseName}
 use Rattle.tip_line.specs.declared.response.ResponseName.TheVariants as response
 use Rattle.tip_conn.specs.Table.{next_of}
-use Rattle.tip_conn.specs.declared.state.Side.{Side}
-use Rattle.tip_conn.specs.declared.state.Side.TheVariants.{Primary, Secondary}
+use Rattle.tip_conn.specs.declared.state.Side.TheVariants.{Primary}
 use Rattle.tip_conn.specs.declared.state.State.{State as ConnectionState}
 use Rattle.tip_conn.specs.declared.state.State.TheVariants as state
 use Rattle.tip_conn.specs.declared.state.Turn.TheVariants.{Keep, Original}
 use Rattle.tip_table.specs.Lists.{changed}
 use Rattle.tip_txn.specs.Parts.{acknowledged, answered, named}
 use Rattle.tip_txn.specs.declared.answer.Ballot.{Ballot}
-use Rattle.tip_txn.specs.declared.answer.Ballot.TheVariants.{Yes, No, ReadOnly, Lost}
+use Rattle.tip_txn.specs.declared.answer.Ballot.TheVariants.{Yes, No, ReadOnly}
 use Rattle.tip_txn.specs.declared.answer.Phase.{Phase}
 use Rattle.tip_txn.specs.declared.answer.Phase.TheVariants.{Active, Asking, Prepared, Committed, Aborted}
 use Rattle.tip_txn.specs.declared.part.Participant.{Participant}
@@ -41,9 +40,9 @@ use Rattle.tip_machine.specs.declared.transaction.Origin.TheVariants as origin
 use Rattle.tip_agreement.proofs.Aborting.{may_abort}
 use Rattle.tip_agreement.proofs.Apart.{all_found}
 use Rattle.tip_agreement.proofs.Around.{Whole, is_placed, stands}
-use Rattle.tip_agreement.proofs.Closing.{InTable, above_there, changed_none, in_table, known, part_of, part_there, untold_in}
+use Rattle.tip_agreement.proofs.Closing.{InTable, above_there, changed_none, in_table, known, part_of, part_there}
 use Rattle.tip_agreement.proofs.Deciding.{may_commit}
-use Rattle.tip_agreement.proofs.Owned.{InPhase, key_found, key_self, place_self}
+use Rattle.tip_agreement.proofs.Owned.{key_found, key_self, place_self}
 use Rattle.tip_agreement.proofs.Proceeding.{AllWhole, may_ask}
 use Rattle.tip_agreement.proofs.Reacting.{Standing, acts_free, idle, standing}
 use Rattle.tip_agreement.proofs.Responding.{Becomes, is_going, noted_whole, part_before}

@@ -1,25 +1,22 @@
 -- All of a realm but one transaction, as a rule goes on that works on that one.
-use Rattle.std.proofs.Common.{◌≡◌, Bool, true, false, ℕ, ◌+◌, List, [], ◌∷◌, ◌++◌, Option, Some, None, cond, refl, ap, subst, sym, arith, ◌∙◌, ◌⊎◌, inl, inr}
-use Rattle.std.specs.Prelude.{◌&&◌, ◌||◌, ◌==◌, not, find, map, filter_map, length, nat_le, nat_lt, is_some}
+use Rattle.std.proofs.Common.{◌≡◌, Bool, true, false, ℕ, ◌+◌, List, [], ◌∷◌, Option, Some, None, cond, refl, ap, subst, sym, arith, ◌∙◌, ◌⊎◌, inl, inr}
+use Rattle.std.specs.Prelude.{◌&&◌, ◌||◌, ◌==◌, not, find, length, nat_le, nat_lt, is_some}
 use Rattle.std.specs.List.{list_all, list_any}
 use Rattle.std.specs.Option.{option_map_or}
-use Rattle.std.proofs.lemmas.Bool.{and_from, and_parts, both_ways, not-true, not_from_false, or_from, or_left, or_right, or_parts, cases_Bool}
+use Rattle.std.proofs.lemmas.Bool.{and_from, and_parts, both_ways, not-true, or_left, or_right, or_parts, cases_Bool}
 use Rattle.std.proofs.lemmas.Bool.Decides.{nat_tests}
-use Rattle.std.proofs.lemmas.Option.{none-some, same_Some}
+use Rattle.std.proofs.lemmas.Option.{same_Some}
 use Rattle.tip_rows.specs.Keys.{Key, is_same}
 use Rattle.tip_rows.proofs.OrderLemmas.{same_key}
 use Rattle.tip_table.specs.Lists.{changed, without}
 use Rattle.tip_conn.specs.declared.state.Side.{Side}
-use Rattle.tip_conn.specs.declared.state.State.{State as ConnectionState}
-use Rattle.tip_conn.specs.declared.state.State.TheVariants.{Initial, Idle, Begun, Enlisted, Prepared, Error}
 use Rattle.tip_txn.specs.declared.answer.Phase.{Phase}
 use Rattle.tip_txn.specs.declared.answer.Phase.TheVariants as phase
 use Rattle.tip_txn.specs.declared.part.Participant.{Participant}
 use Rattle.tip_machine.specs.Connections.{asks_for, has_number, is_on, is_part_of, is_secondary, is_superior_of, names, reaches}
-use Rattle.tip_machine.specs.Invariants.{IsSound}
-use Rattle.tip_machine.specs.Invariants.Links.{are_distinct, have_roles, is_connected, is_role_in, is_same_role, link, roles_of}
+use Rattle.tip_machine.specs.Invariants.Links.{are_distinct, is_connected, is_role_in, is_same_role, link}
 use Rattle.tip_machine.specs.Invariants.Parties.{is_its_own}
-use Rattle.tip_machine.specs.Invariants.Phases.{are_parts, are_parts_from, has_come_to, has_its_address, is_over, is_part_in, is_party, is_superior, is_transaction, superior_of}
+use Rattle.tip_machine.specs.Invariants.Phases.{are_parts, are_parts_from, has_come_to, has_its_address, is_over, is_part_in, is_party, is_superior, is_transaction}
 use Rattle.tip_machine.specs.States.{State, connection_of, transaction_of}
 use Rattle.tip_machine.specs.Transactions.{decision_of, has_key, is_spent}
 use Rattle.tip_machine.specs.Types.{Connection, PartyPlace, Transaction}
@@ -28,8 +25,8 @@ use Rattle.tip_machine.specs.declared.connection.Role.TheVariants.{Superior, Sub
 use Rattle.tip_machine.specs.declared.transaction.PartyPlace.TheVariants.{Here, Out, Spent}
 use Rattle.tip_machine.proofs.Lists.{find-changed, find-without}
 use Rattle.tip_machine.proofs.Walks.{found_changed, found_passes}
-use Rattle.tip_agreement.proofs.Apart.{all_changed, all_of_none, all_found, all_mapped, all_more, all_without}
-use Rattle.tip_agreement.proofs.Found.{Once, any_apart, any_beside, any_left, apart_less, apart_mapped, apart_set, find_apart, find_beside, find_left, once_of}
+use Rattle.tip_agreement.proofs.Apart.{all_changed, all_of_none, all_more, all_without}
+use Rattle.tip_agreement.proofs.Found.{any_apart, any_left, apart_less, apart_set, find_apart, find_left}
 use Rattle.tip_agreement.proofs.Keys.{keys_changed, keys_of, apart_without}
 
 -- Roles

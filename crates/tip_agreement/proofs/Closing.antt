@@ -1,19 +1,18 @@
 -- A connection that is lost or closed leaves a realm whole.
-use Rattle.std.proofs.Common.{◌≡◌, ◌≤◌, ◌<◌, Bool, true, false, ℕ, ◌+◌, suc, zero, List, [], ◌∷◌, Option, Some, None, cond, refl, ap, subst, sym, arith, ◌∙◌}
-use Rattle.std.specs.Prelude.{◌&&◌, ◌||◌, ◌==◌, not, find, is_some, length, map, nat_le, nat_lt}
-use Rattle.std.specs.List.{list_all, list_any}
+use Rattle.std.proofs.Common.{◌≡◌, ◌<◌, Bool, true, false, ℕ, ◌+◌, suc, zero, List, [], ◌∷◌, Option, Some, None, cond, refl, ap, subst, sym, arith, ◌∙◌}
+use Rattle.std.specs.Prelude.{◌&&◌, ◌||◌, ◌==◌, not, find, is_some, length, nat_le, nat_lt}
+use Rattle.std.specs.List.{list_all}
 use Rattle.std.specs.Option.{option_map_or}
-use Rattle.std.proofs.lemmas.Bool.{and_from, and_parts, and_right, both_ways, cases_Bool, false_from_ne_true, not-true, not_from_false, or_left, or_right}
+use Rattle.std.proofs.lemmas.Bool.{and_from, and_parts, and_right, false_from_ne_true, not_from_false, or_left, or_right}
 use Rattle.std.proofs.lemmas.Bool.Decides.{nat_tests}
-use Rattle.std.proofs.lemmas.Option.{none-some, same_Some}
-use Rattle.tip_rows.specs.Keys.{Key, is_same}
+use Rattle.tip_rows.specs.Keys.{Key}
 use Rattle.tip_branch.specs.declared.member.Errand.TheVariants as errand
 use Rattle.tip_conn.specs.declared.state.State.TheVariants as state
 use Rattle.tip_line.specs.declared.command.CommandName.TheVariants as command
 use Rattle.tip_table.specs.Lists.{without}
 use Rattle.tip_txn.specs.Parts.{answer_at, answered, changed_at}
 use Rattle.tip_txn.specs.declared.answer.Ballot.{Ballot}
-use Rattle.tip_txn.specs.declared.answer.Ballot.TheVariants.{Yes, No, ReadOnly, Lost}
+use Rattle.tip_txn.specs.declared.answer.Ballot.TheVariants.{Yes, ReadOnly, Lost}
 use Rattle.tip_txn.specs.declared.answer.Phase.{Phase}
 use Rattle.tip_txn.specs.declared.answer.Phase.TheVariants.{Active, Asking, Prepared, Committed, Aborted}
 use Rattle.tip_txn.specs.declared.part.Participant.{Participant}
@@ -22,7 +21,7 @@ use Rattle.tip_machine.specs.Changes.{alter, on, tell}
 use Rattle.tip_machine.specs.Failing.{closed, fail, gone, lost_unanswered, missed, part_lost, superior_lost, wrong}
 use Rattle.tip_machine.specs.Invariants.Links.{Link, link}
 use Rattle.tip_machine.specs.Invariants.Links.Link.{Gone, Owes, Awaits}
-use Rattle.tip_machine.specs.Invariants.Phases.{has_its_address, has_pair, is_over, is_transaction, is_named, is_part, is_part_in, is_party, is_superior, may_have_acknowledged}
+use Rattle.tip_machine.specs.Invariants.Phases.{has_its_address, is_over, is_transaction, is_named, is_part, is_part_in, is_party, is_superior, may_have_acknowledged}
 use Rattle.tip_machine.specs.States.{State, Work, connection_of, transaction_of}
 use Rattle.tip_machine.specs.Proceeding.{abort}
 use Rattle.tip_machine.specs.Transactions.{has_key, is_yes, noting}

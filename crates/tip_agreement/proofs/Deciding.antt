@@ -1,12 +1,11 @@
 -- A transaction that is committed, promised or asked leaves a realm whole.
-use Rattle.std.proofs.Common.{◌≡◌, Bool, true, false, ℕ, ◌+◌, List, [], ◌∷◌, Option, Some, None, cond, refl, ap, subst, sym, arith, ◌∙◌}
-use Rattle.std.specs.Prelude.{◌&&◌, ◌||◌, not, find, map, length, nat_le}
+use Rattle.std.proofs.Common.{◌≡◌, Bool, true, false, Option, Some, None, cond, refl, ap, subst, sym, ◌∙◌}
+use Rattle.std.specs.Prelude.{◌&&◌, ◌||◌, not, length}
 use Rattle.std.specs.List.{list_any}
-use Rattle.std.proofs.lemmas.Bool.{and_from, and_parts, both_ways, not-true, not_from_false, or_left}
+use Rattle.std.proofs.lemmas.Bool.{and_from, and_parts, both_ways, not-true, or_left}
 use Rattle.tip_rows.specs.Keys.{Key}
 use Rattle.tip_branch.specs.Members.{is_active}
 use Rattle.tip_branch.specs.Notes.{PartyNotes}
-use Rattle.tip_branch.specs.declared.member.Errand.{Errand}
 use Rattle.tip_branch.specs.declared.member.Errand.TheVariants as errand
 use Rattle.tip_conn.specs.Table.{next_of}
 use Rattle.tip_conn.specs.declared.state.State.TheVariants as state
@@ -15,27 +14,25 @@ use Rattle.tip_txn.specs.declared.answer.Ballot.{Ballot}
 use Rattle.tip_txn.specs.declared.answer.Ballot.TheVariants.{Yes, No, ReadOnly, Lost}
 use Rattle.tip_txn.specs.declared.answer.Decision.TheVariants as decision
 use Rattle.tip_txn.specs.declared.answer.Phase.{Phase}
-use Rattle.tip_txn.specs.declared.answer.Phase.TheVariants.{Active, Asking, Prepared, Committed, Aborted}
+use Rattle.tip_txn.specs.declared.answer.Phase.TheVariants.{Prepared, Committed}
 use Rattle.tip_txn.specs.declared.part.Participant.{Participant}
-use Rattle.tip_machine.specs.Connections.{is_on, is_superior_of}
 use Rattle.tip_machine.specs.Invariants.Links.{Link}
 use Rattle.tip_machine.specs.Invariants.Links.Link.{Gone, Owes, Awaits}
-use Rattle.tip_machine.specs.Invariants.Parties.{has_left, has_promised, is_its_own}
+use Rattle.tip_machine.specs.Invariants.Parties.{is_its_own}
 use Rattle.tip_machine.specs.Invariants.Phases.{is_named, is_part, is_part_in, is_party, is_superior, may_have_acknowledged}
-use Rattle.tip_machine.specs.Changes.{alter, on}
 use Rattle.tip_machine.specs.Proceeding.{commit, dispatch, dispatched, enter, give_out, let_go, promise}
-use Rattle.tip_machine.specs.Reactions.{Reaction, asks, commits, promises, react}
+use Rattle.tip_machine.specs.Reactions.{Reaction, commits, promises, react}
 use Rattle.tip_machine.specs.States.{State, Work, transaction_of}
 use Rattle.tip_machine.specs.Transactions.{decision_of, entering, has_ready, standing_at}
-use Rattle.tip_machine.specs.Types.{Connection, PartyPlace, Transaction}
+use Rattle.tip_machine.specs.Types.{PartyPlace, Transaction}
 use Rattle.tip_machine.specs.declared.connection.Awaited.TheVariants as awaited
 use Rattle.tip_machine.specs.declared.transaction.Origin.{Origin}
 use Rattle.tip_machine.specs.declared.transaction.Origin.TheVariants as origin
 use Rattle.tip_machine.specs.declared.transaction.PartyPlace.TheVariants.{Here, Out, Spent}
 use Rattle.tip_agreement.proofs.Aborting.{le_self, on_some, own_as, party_now}
-use Rattle.tip_agreement.proofs.Around.{Around, Whole, alter_around, altered, whole_of, with_connections}
-use Rattle.tip_agreement.proofs.Owned.{InPhase, Owned, above_after, alter_owned, from_phase, have_parts, part_after, parts_from, react_owned}
-use Rattle.tip_agreement.proofs.Reacting.{IsOutcome, asks_so, become, commits_so, promises_so, react_around}
+use Rattle.tip_agreement.proofs.Around.{Around, Whole, alter_around, altered, whole_of}
+use Rattle.tip_agreement.proofs.Owned.{Owned, above_after, alter_owned, from_phase, part_after, react_owned}
+use Rattle.tip_agreement.proofs.Reacting.{IsOutcome, commits_so, promises_so, react_around}
 
 -- A phase is entered, and the connections react
 

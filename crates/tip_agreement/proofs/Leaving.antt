@@ -1,21 +1,19 @@
 -- A transaction that nobody is on any more is over, and all is whole.
-use Rattle.std.proofs.Common.{◌≡◌, ◌≤◌, ◌<◌, Bool, true, false, ℕ, ◌+◌, suc, List, [], ◌∷◌, Option, Some, None, cond, refl, ap, subst, sym, arith, ◌∙◌, ◌⊎◌, inl, inr}
-use Rattle.std.specs.Prelude.{◌&&◌, ◌||◌, not, drop, find, map, length, nat_le, nat_lt, is_none, is_some}
+use Rattle.std.proofs.Common.{◌≡◌, ◌≤◌, ◌<◌, Bool, true, false, ℕ, ◌+◌, suc, List, [], ◌∷◌, Option, Some, None, cond, refl, ap, subst, sym, arith, ◌∙◌, inl, inr}
+use Rattle.std.specs.Prelude.{◌&&◌, ◌||◌, not, drop, find, length, nat_le, nat_lt, is_some}
 use Rattle.std.specs.List.{list_all, list_any}
 use Rattle.std.specs.Option.{option_map_or}
-use Rattle.std.proofs.lemmas.Bool.{and_from, and_parts, both_ways, cases_eq, false≢true, not-true, not_from_false, or_left}
+use Rattle.std.proofs.lemmas.Bool.{and_from, and_parts, both_ways, cases_eq}
 use Rattle.std.proofs.lemmas.Bool.Decides.{nat_tests}
-use Rattle.std.proofs.lemmas.Option.{none-some, same_Some}
-use Rattle.tip_rows.specs.Keys.{Key, is_same}
+use Rattle.tip_rows.specs.Keys.{Key}
 use Rattle.tip_rows.proofs.OrderLemmas.{same_key}
-use Rattle.tip_branch.specs.declared.member.Errand.TheVariants as errand
 use Rattle.tip_conn.specs.Table.{next_of}
 use Rattle.tip_conn.specs.declared.state.Side.{Side}
 use Rattle.tip_conn.specs.declared.state.Side.TheVariants.{Primary, Secondary}
 use Rattle.tip_conn.specs.declared.state.State.TheVariants as state
 use Rattle.tip_line.specs.declared.command.CommandName.TheVariants as command
 use Rattle.tip_txn.specs.declared.answer.Ballot.{Ballot}
-use Rattle.tip_txn.specs.declared.answer.Ballot.TheVariants.{Yes, No, ReadOnly, Lost}
+use Rattle.tip_txn.specs.declared.answer.Ballot.TheVariants.{Yes}
 use Rattle.tip_txn.specs.declared.answer.Phase.{Phase}
 use Rattle.tip_txn.specs.declared.answer.Phase.TheVariants.{Committed}
 use Rattle.tip_txn.specs.declared.part.Participant.{Participant}
@@ -23,11 +21,11 @@ use Rattle.tip_machine.specs.Connections.{asks_for, is_on, is_part_of, is_superi
 use Rattle.tip_machine.specs.Invariants.Links.{Link, link, link_on}
 use Rattle.tip_machine.specs.Invariants.Links.Link.{Gone, Owes, Awaits}
 use Rattle.tip_machine.specs.Invariants.Phases.{is_part, is_part_in, is_superior, is_named, may_have_acknowledged}
-use Rattle.tip_machine.specs.Changes.{alter, end, on}
+use Rattle.tip_machine.specs.Changes.{end, on}
 use Rattle.tip_machine.specs.Proceeding.{dispatch, dispatched, errand_in, give_out, leave, let_go}
 use Rattle.tip_machine.specs.Reactions.{needs_nothing, react}
 use Rattle.tip_machine.specs.States.{State, Work, transaction_of}
-use Rattle.tip_machine.specs.Transactions.{entering, has_ready, is_done, is_spent, is_yes, standing_at, subordinates, willing_from}
+use Rattle.tip_machine.specs.Transactions.{has_ready, is_done, is_spent, is_yes, standing_at, subordinates, willing_from}
 use Rattle.tip_machine.specs.Types.{Connection, PartyPlace, Transaction}
 use Rattle.tip_machine.specs.declared.connection.Awaited.TheVariants as awaited
 use Rattle.tip_machine.specs.declared.connection.Role.{Role}
@@ -39,9 +37,9 @@ use Rattle.tip_machine.proofs.Lists.{find_any, none-found}
 use Rattle.tip_machine.proofs.Walks.{found_passes, on_each}
 use Rattle.tip_agreement.proofs.Aborting.{le_self}
 use Rattle.tip_agreement.proofs.Apart.{all_found}
-use Rattle.tip_agreement.proofs.Around.{Around, Whole, alter_around, altered, end_whole, is_placed, stands, with_connections}
-use Rattle.tip_agreement.proofs.Owned.{Owned, above_after, asked_by, have_parts, parts_from, part_after, place_self, react_owned, reached_as}
-use Rattle.tip_agreement.proofs.Reacting.{become, needs_nothing_so, react_around, standing}
+use Rattle.tip_agreement.proofs.Around.{Around, Whole, alter_around, altered, end_whole, is_placed, stands}
+use Rattle.tip_agreement.proofs.Owned.{Owned, above_after, have_parts, parts_from, part_after, place_self, react_owned}
+use Rattle.tip_agreement.proofs.Reacting.{needs_nothing_so, react_around, standing}
 
 -- No connection is left
 

@@ -7,6 +7,7 @@ pub mod Deciding
 pub mod Errands
 pub mod Events
 pub mod Found
+pub mod Heard
 pub mod Keys
 pub mod Leaving
 pub mod Owned

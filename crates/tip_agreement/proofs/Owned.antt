@@ -1,32 +1,29 @@
 -- What a rule knows of the transaction that it works on: tables of its superior, of its parts and of its party.
-use Rattle.std.proofs.Common.{◌≡◌, Bool, true, false, ℕ, ◌+◌, List, [], ◌∷◌, Option, Some, None, cond, refl, ap, subst, sym, arith, ◌∙◌, ◌⊎◌, inl, inr}
-use Rattle.std.specs.Prelude.{◌&&◌, ◌||◌, ◌==◌, not, find, map, is_none, is_some, length}
-use Rattle.std.specs.List.{list_all, list_any}
+use Rattle.std.proofs.Common.{◌≡◌, Bool, true, false, ℕ, ◌+◌, List, [], ◌∷◌, Option, Some, None, cond, refl, ap, subst, sym, arith, ◌∙◌, inl, inr}
+use Rattle.std.specs.Prelude.{◌&&◌, ◌==◌, not, find, map, is_none}
 use Rattle.std.specs.Option.{option_map_or}
-use Rattle.std.proofs.lemmas.Bool.{and_from, and_parts, both_ways, cases_Bool, not-true, or_left}
+use Rattle.std.proofs.lemmas.Bool.{and_from, and_parts}
 use Rattle.std.proofs.lemmas.Bool.Decides.{nat_tests}
-use Rattle.std.proofs.lemmas.Option.{none-some, same_Some}
 use Rattle.tip_rows.specs.Keys.{Key, is_same}
 use Rattle.tip_rows.proofs.OrderLemmas.{same_key}
-use Rattle.tip_table.specs.Lists.{changed, without}
 use Rattle.tip_line.specs.declared.command.CommandName.{CommandName}
 use Rattle.tip_conn.specs.Table.{next_of}
 use Rattle.tip_conn.specs.declared.state.Side.{Side}
 use Rattle.tip_conn.specs.declared.state.Side.TheVariants.{Primary, Secondary}
 use Rattle.tip_conn.specs.declared.state.State.{State as ConnectionState}
-use Rattle.tip_conn.specs.declared.state.State.TheVariants.{Initial, Idle, Begun, Enlisted, Prepared, Error}
+use Rattle.tip_conn.specs.declared.state.State.TheVariants.{Idle, Prepared}
 use Rattle.tip_conn.specs.declared.state.Turn.{Turn}
-use Rattle.tip_conn.specs.declared.state.Turn.TheVariants.{Keep, Reverse, Original}
+use Rattle.tip_conn.specs.declared.state.Turn.TheVariants.{Keep, Original}
 use Rattle.tip_txn.specs.declared.answer.Ballot.{Ballot}
 use Rattle.tip_txn.specs.declared.answer.Phase.{Phase}
 use Rattle.tip_txn.specs.declared.part.Participant.{Participant}
 use Rattle.tip_machine.specs.Answers.{response_name}
-use Rattle.tip_machine.specs.Connections.{advanced_to, asks_for, awaiting, has_number, is_on, is_part_of, is_superior_of, names, reaches, role_in}
+use Rattle.tip_machine.specs.Connections.{advanced_to, asks_for, awaiting, is_on, is_part_of, is_superior_of, names, reaches}
 use Rattle.tip_machine.specs.Invariants.Links.{Link, acts_as, are_distinct, link, link_on}
 use Rattle.tip_machine.specs.Invariants.Links.Link.{Gone, Owes, Awaits}
 use Rattle.tip_machine.specs.Invariants.Parties.{is_its_own}
 use Rattle.tip_machine.specs.Invariants.Phases.{are_parts, are_parts_from, has_come_to, has_its_address, is_over, is_part_in, is_party, is_superior, is_transaction, superior_of}
-use Rattle.tip_machine.specs.Reactions.{Demand, Reacted, Reaction, answers, demanded, demanded_as, demands, reacted, reacts, stays}
+use Rattle.tip_machine.specs.Reactions.{Demand, Reacted, Reaction, answers, demanded, demanded_as, demands, reacts, stays}
 use Rattle.tip_machine.specs.States.{State, transaction_of}
 use Rattle.tip_machine.specs.Transactions.{decision_of, has_key}
 use Rattle.tip_machine.specs.Types.{Connection, PartyPlace, Transaction}
@@ -37,7 +34,7 @@ use Rattle.tip_machine.specs.declared.connection.Role.TheVariants.{Superior, Sub
 use Rattle.tip_machine.specs.declared.transaction.PartyPlace.TheVariants.{Here, Out, Spent}
 use Rattle.tip_machine.proofs.Walks.{found_passes}
 use Rattle.tip_agreement.proofs.Apart.{all_found}
-use Rattle.tip_agreement.proofs.Around.{Around, altered, asks_as, clash, clashes, found_altered, stands, with_connections}
+use Rattle.tip_agreement.proofs.Around.{Around, altered, asks_as, clashes, found_altered, stands, with_connections}
 use Rattle.tip_agreement.proofs.Found.{Once, find_mapped, once_of, turned}
 use Rattle.tip_agreement.proofs.Reacting.{IsOutcome, Standing, become, is_end, is_outcome, outcome_ends, role_reacted, standing}
 
@@ -301,11 +298,11 @@ from_phase key t s in_it =
     let owned = in_it.owned in
     let same = key_found key t s owned.found in
     and_from _ _ (and_from _ _ (and_from _ _ (and_from _ _ (and_from _ _
-      (subst (λ k. is_superior t.phase t.origin (link (find (is_superior_of k) s.connections)) ≡ true) same owned.above)
-      (subst (λ k. has_its_address t.phase t.origin (find (is_superior_of k) s.connections) ≡ true) same in_it.address))
-      owned.own)
-      (same_have_parts t s t.parts ∙ subst (λ k. have_parts (is_part_in t.phase) (is_party t.phase) t.place t.parts k s.connections ≡ true) same owned.parts))
-      in_it.come)
+    (subst (λ k. is_superior t.phase t.origin (link (find (is_superior_of k) s.connections)) ≡ true) same owned.above)
+    (subst (λ k. has_its_address t.phase t.origin (find (is_superior_of k) s.connections) ≡ true) same in_it.address))
+    owned.own)
+    (same_have_parts t s t.parts ∙ subst (λ k. have_parts (is_part_in t.phase) (is_party t.phase) t.place t.parts k s.connections ≡ true) same owned.parts))
+    in_it.come)
     in_it.over
 
 -- the same of a phase that is known

@@ -3,7 +3,7 @@ use Rattle.std.proofs.Common.{◌≡◌, Bool, true, false, ℕ, ◌+◌, List, 
 use Rattle.std.specs.Prelude.{◌&&◌, ◌||◌, not, find, map, is_none}
 use Rattle.std.specs.List.{list_any}
 use Rattle.std.specs.Option.{option_and_then}
-use Rattle.std.proofs.lemmas.Bool.{and_from, and_parts, both_ways, cases_Bool, not-true, not_from_false, or_left, or_parts}
+use Rattle.std.proofs.lemmas.Bool.{and_from, and_parts, both_ways, not-true, not_from_false, or_left, or_parts}
 use Rattle.tip_rows.specs.Keys.{Key}
 use Rattle.tip_branch.specs.declared.member.Errand.TheVariants as errand
 use Rattle.tip_conn.specs.declared.state.Side.{Side}
@@ -13,17 +13,16 @@ use Rattle.tip_conn.specs.declared.state.State.TheVariants as state
 use Rattle.tip_line.specs.declared.command.CommandName.{CommandName}
 use Rattle.tip_line.specs.declared.command.CommandName.TheVariants as command
 use Rattle.tip_txn.specs.declared.answer.Ballot.{Ballot}
-use Rattle.tip_txn.specs.declared.answer.Ballot.TheVariants.{Yes, No, ReadOnly, Lost}
+use Rattle.tip_txn.specs.declared.answer.Ballot.TheVariants.{Yes, No, ReadOnly}
 use Rattle.tip_txn.specs.declared.answer.Decision.{Decision}
 use Rattle.tip_txn.specs.declared.answer.Decision.TheVariants as decisions
-use Rattle.tip_txn.specs.declared.answer.Phase.{Phase}
 use Rattle.tip_txn.specs.declared.answer.Phase.TheVariants.{Active, Asking, Prepared, Committed, Aborted}
 use Rattle.tip_txn.specs.declared.part.Participant.{Participant}
 use Rattle.tip_machine.specs.Connections.{is_superior_of}
 use Rattle.tip_machine.specs.Invariants.Links.{Link, link, link_on}
 use Rattle.tip_machine.specs.Invariants.Links.Link.{Gone, Owes, Awaits}
 use Rattle.tip_machine.specs.Invariants.Parties.{has_left, has_promised}
-use Rattle.tip_machine.specs.Invariants.Phases.{has_come_to, has_its_address, is_named, is_part, is_part_in, is_party, is_superior, is_transaction}
+use Rattle.tip_machine.specs.Invariants.Phases.{has_come_to, is_named, is_part, is_part_in, is_party, is_superior, is_transaction}
 use Rattle.tip_machine.specs.Changes.{attempt_on, end}
 use Rattle.tip_machine.specs.Proceeding.{abort, agree, commit, conclude, finish, leave, proceed, proceed_in, promise, wait}
 use Rattle.tip_machine.specs.Reactions.{asks, commits, react}
@@ -34,13 +33,13 @@ use Rattle.tip_machine.specs.declared.event.Change.TheVariants.{Remove}
 use Rattle.tip_machine.specs.declared.connection.Awaited.TheVariants as awaited
 use Rattle.tip_machine.specs.declared.transaction.Origin.{Origin}
 use Rattle.tip_machine.specs.declared.transaction.Origin.TheVariants as origin
-use Rattle.tip_machine.specs.declared.transaction.PartyPlace.TheVariants.{Here, Out, Spent}
+use Rattle.tip_machine.specs.declared.transaction.PartyPlace.TheVariants.{Here, Out}
 use Rattle.tip_machine.proofs.Walks.{Ends}
 use Rattle.tip_agreement.proofs.Aborting.{aborted_whole, may_abort, may_abort_above, may_abort_part, may_abort_party}
 use Rattle.tip_agreement.proofs.Around.{Around, Whole, whole_of, with_connections}
-use Rattle.tip_agreement.proofs.Deciding.{commit_whole, committed_whole, may_commit, may_commit_above, may_commit_part, may_promise, may_promise_above, may_promise_part, parts_committed, promise_whole}
+use Rattle.tip_agreement.proofs.Deciding.{commit_whole, may_commit, may_commit_above, may_commit_part, may_promise, may_promise_above, may_promise_part, parts_committed, promise_whole}
 use Rattle.tip_agreement.proofs.Leaving.{done_whole, is_gone, is_gone_part, leave_whole, may_leave_above}
-use Rattle.tip_agreement.proofs.Owned.{InPhase, Owned, above_after, from_as, have_parts, in_phase, key_found, parts_from, part_after, react_owned}
+use Rattle.tip_agreement.proofs.Owned.{Owned, above_after, from_as, have_parts, in_phase, key_found, parts_from, part_after, react_owned}
 use Rattle.tip_agreement.proofs.Reacting.{asks_so, become, commits_so, react_around}
 
 -- the tables in which none of the answers is one of these

@@ -1,9 +1,9 @@
 -- What a reaction leaves of the connections, and of all but its transaction.
-use Rattle.std.proofs.Common.{◌≡◌, Bool, true, false, ℕ, List, [], ◌∷◌, Option, Some, None, cond, refl, ap, subst, sym, ◌∙◌, ◌⊎◌, inl, inr}
+use Rattle.std.proofs.Common.{◌≡◌, Bool, true, false, ℕ, Option, Some, None, cond, refl, ap, subst, sym, ◌∙◌, ◌⊎◌, inl, inr}
 use Rattle.std.specs.Prelude.{◌&&◌, ◌||◌, not, find, map, is_none, is_some, option_map}
-use Rattle.std.specs.List.{list_all, list_any}
+use Rattle.std.specs.List.{list_all}
 use Rattle.std.specs.Option.{option_map_or}
-use Rattle.std.proofs.lemmas.Bool.{and_from, and_parts, both_ways, cases_Bool, not-true, or_left}
+use Rattle.std.proofs.lemmas.Bool.{and_from, and_parts, cases_Bool, or_left}
 use Rattle.std.proofs.lemmas.Option.{none-some, same_Some}
 use Rattle.tip_rows.specs.Keys.{Key, is_same}
 use Rattle.tip_line.specs.declared.command.CommandName.{CommandName}
@@ -16,9 +16,9 @@ use Rattle.tip_conn.specs.declared.state.Side.TheVariants.{Primary, Secondary}
 use Rattle.tip_conn.specs.declared.state.State.{State as ConnectionState}
 use Rattle.tip_conn.specs.declared.state.State.TheVariants.{Initial, Idle, Begun, Enlisted, Prepared, Error}
 use Rattle.tip_conn.specs.declared.state.Turn.{Turn}
-use Rattle.tip_conn.specs.declared.state.Turn.TheVariants.{Keep, Reverse, Original}
+use Rattle.tip_conn.specs.declared.state.Turn.TheVariants.{Keep, Original}
 use Rattle.tip_machine.specs.Answers.{response_name}
-use Rattle.tip_machine.specs.Connections.{advanced, advanced_to, awaiting, is_on, is_part_of, is_superior_of, names, role_in}
+use Rattle.tip_machine.specs.Connections.{advanced_to, awaiting, is_on, is_part_of, is_superior_of, names, role_in}
 use Rattle.tip_machine.specs.Invariants.Links.{acts_as, has_its_side, is_connected, is_on_none, link_on}
 use Rattle.tip_machine.specs.Reactions.{Demand, Reaction, aborts, answers, asks, commits, demanded, demanded_as, demands, needs_nothing, promises, Reacted, reacted, reacts, stays}
 use Rattle.tip_machine.specs.States.{State}

@@ -1,15 +1,14 @@
 -- What is noted of a part that answered, and what follows, leaves a realm whole.
-use Rattle.std.proofs.Common.{◌≡◌, Bool, true, false, ℕ, ◌+◌, suc, zero, List, [], ◌∷◌, Option, Some, None, cond, refl, ap, subst, sym, ◌∙◌, ◌⊎◌, inl, inr}
-use Rattle.std.specs.Prelude.{◌&&◌, ◌||◌, ◌==◌, not, find, is_none, is_some, length, map, nat_le}
+use Rattle.std.proofs.Common.{◌≡◌, Bool, true, false, ℕ, ◌+◌, suc, zero, List, [], ◌∷◌, Option, Some, None, cond, refl, ap, subst, ◌∙◌, ◌⊎◌, inl, inr}
+use Rattle.std.specs.Prelude.{find, map}
 use Rattle.std.specs.List.{list_any}
-use Rattle.std.proofs.lemmas.Bool.{and_from, and_left, and_parts, and_right, both_ways, not-true, or_from, or_left}
-use Rattle.tip_rows.specs.Keys.{Key, is_same}
+use Rattle.std.proofs.lemmas.Bool.{and_from, and_parts, and_right, or_from}
+use Rattle.tip_rows.specs.Keys.{Key}
 use Rattle.tip_branch.specs.declared.member.Errand.TheVariants as errand
 use Rattle.tip_conn.specs.declared.state.State.TheVariants as state
-use Rattle.tip_table.specs.Lists.{changed}
-use Rattle.tip_txn.specs.Parts.{answer_at, changed_at}
+use Rattle.tip_txn.specs.Parts.{changed_at}
 use Rattle.tip_txn.specs.declared.answer.Ballot.{Ballot}
-use Rattle.tip_txn.specs.declared.answer.Ballot.TheVariants.{Yes, No, ReadOnly, Lost}
+use Rattle.tip_txn.specs.declared.answer.Ballot.TheVariants.{Yes, ReadOnly}
 use Rattle.tip_txn.specs.declared.answer.Decision.{Decision}
 use Rattle.tip_txn.specs.declared.answer.Decision.TheVariants as decisions
 use Rattle.tip_txn.specs.declared.answer.Phase.{Phase}
@@ -18,19 +17,18 @@ use Rattle.tip_txn.specs.declared.part.Participant.{Participant}
 use Rattle.tip_machine.specs.Changes.{alter, change}
 use Rattle.tip_machine.specs.Connections.{asks_for, has_number, is_part_of, is_superior_of, reaches}
 use Rattle.tip_machine.specs.Invariants.Links.{Link, link}
-use Rattle.tip_machine.specs.Invariants.Links.Link.{Gone, Owes, Awaits}
-use Rattle.tip_machine.specs.Invariants.Parties.{is_its_own}
-use Rattle.tip_machine.specs.Invariants.Phases.{has_come_to, has_its_address, is_part, is_part_in, is_party, is_superior, is_transaction}
+use Rattle.tip_machine.specs.Invariants.Links.Link.{Gone, Awaits}
+use Rattle.tip_machine.specs.Invariants.Phases.{has_come_to, has_its_address, is_part, is_part_in, is_party, is_superior}
 use Rattle.tip_machine.specs.Proceeding.{proceed}
 use Rattle.tip_machine.specs.States.{State, Work, connection_of, transaction_of}
 use Rattle.tip_machine.specs.Transactions.{decision, decision_of, noting, refuses}
 use Rattle.tip_machine.specs.Types.{Connection, PartyPlace, Transaction}
 use Rattle.tip_machine.specs.declared.connection.Awaited.TheVariants as awaited
 use Rattle.tip_machine.specs.declared.connection.Role.{Role}
-use Rattle.tip_machine.specs.declared.connection.Role.TheVariants.{Superior, Subordinate}
-use Rattle.tip_machine.specs.declared.transaction.PartyPlace.TheVariants.{Here, Out, Spent}
+use Rattle.tip_machine.specs.declared.connection.Role.TheVariants.{Subordinate}
+use Rattle.tip_machine.specs.declared.transaction.PartyPlace.TheVariants.{Here, Out}
 use Rattle.tip_agreement.proofs.Aborting.{may_abort_above, may_abort_part, may_abort_party, own_as}
-use Rattle.tip_agreement.proofs.Around.{Around, Whole, alter_around, altered, around_of, beside, found_altered, set, stands, with_connections}
+use Rattle.tip_agreement.proofs.Around.{Around, Whole, alter_around, around_of, beside, found_altered, set, stands}
 use Rattle.tip_agreement.proofs.Closing.{have_noted, in_table, known, noted_length, other_place, stoppable_above, stoppable_parts, stoppable_party, untold_in}
 use Rattle.tip_agreement.proofs.Deciding.{may_commit, may_commit_part}
 use Rattle.tip_agreement.proofs.Found.{find_apart, find_at}

@@ -1,9 +1,9 @@
 -- A realm is whole where the invariants of its roles, its connections and its transactions hold.
-use Rattle.std.proofs.Common.{◌≡◌, ◌≤◌, ◌<◌, Bool, true, false, ℕ, ◌+◌, suc, List, [], ◌∷◌, Option, Some, None, cond, refl, ap, subst, sym, arith, ◌∙◌, ◌⊎◌, inl, inr}
-use Rattle.std.specs.Prelude.{◌&&◌, ◌||◌, not, find, filter_map, is_some, length, map, nat_le, nat_lt}
+use Rattle.std.proofs.Common.{◌≡◌, ◌≤◌, ◌<◌, Bool, true, false, ℕ, ◌+◌, suc, List, [], ◌∷◌, Option, Some, None, cond, refl, ap, subst, sym, arith, ◌∙◌, inl, inr}
+use Rattle.std.specs.Prelude.{◌&&◌, ◌||◌, not, find, filter_map, is_some, length, nat_le, nat_lt}
 use Rattle.std.specs.List.{list_all, list_any}
 use Rattle.std.specs.Option.{option_map_or}
-use Rattle.std.proofs.lemmas.Bool.{and_from, and_parts, both_ways, cases_eq, not-true, not_from_false, or_from, or_parts}
+use Rattle.std.proofs.lemmas.Bool.{and_from, and_parts, both_ways, cases_eq, not-true}
 use Rattle.std.proofs.lemmas.Bool.Decides.{nat_tests}
 use Rattle.std.proofs.lemmas.Option.{none-some, same_Some}
 use Rattle.tip_rows.specs.Keys.{Key, is_same}
@@ -15,9 +15,9 @@ use Rattle.tip_txn.specs.declared.answer.Ballot.{Ballot}
 use Rattle.tip_txn.specs.declared.answer.Phase.{Phase}
 use Rattle.tip_txn.specs.declared.answer.Phase.TheVariants.{Active, Asking, Prepared, Committed, Aborted}
 use Rattle.tip_txn.specs.declared.part.Participant.{Participant}
-use Rattle.tip_machine.specs.Connections.{is_part_of, reaches}
+use Rattle.tip_machine.specs.Connections.{is_part_of}
 use Rattle.tip_machine.specs.Invariants.Links.{Link, are_distinct, have_roles, is_connected, is_role_in, is_same_role, link, link_on, roles_of}
-use Rattle.tip_machine.specs.Invariants.Links.Link.{Gone, Owes, Awaits}
+use Rattle.tip_machine.specs.Invariants.Links.Link.{Owes}
 use Rattle.tip_machine.specs.Invariants.Phases.{is_part, is_part_in, is_party, is_transaction}
 use Rattle.tip_machine.specs.States.{State, transaction_of}
 use Rattle.tip_machine.specs.Transactions.{has_key}
@@ -26,11 +26,12 @@ use Rattle.tip_machine.specs.declared.connection.Role.{Role}
 use Rattle.tip_machine.specs.declared.connection.Role.TheVariants.{Superior, Subordinate}
 use Rattle.tip_machine.proofs.Lists.{find_any, none-found}
 use Rattle.tip_machine.proofs.Walks.{found_passes}
+use Rattle.tip_agreement.specs.Whole.{IsWhole}
 use Rattle.tip_agreement.proofs.Apart.{all_both, all_found, all_more, all_of_none}
 use Rattle.tip_agreement.proofs.Around.{Whole, asks_as, clash, clashes, is_placed, stands}
 use Rattle.tip_agreement.proofs.Found.{Once}
 use Rattle.tip_agreement.proofs.Keys.{keys_of}
-use Rattle.tip_agreement.proofs.Owned.{have_parts, in_phase, key_self, once_part, parts_from, place_self, reached_as}
+use Rattle.tip_agreement.proofs.Owned.{have_parts, in_phase, key_self, once_part, parts_from, place_self}
 
 -- Roles, as they are listed
 
@@ -150,12 +151,7 @@ whole_from s keys roles connections transactions =
       transactions = transactions;
     }
 
-pub record Invariants (s : State) : Type 0 where
-  pub roles : have_roles s ≡ true
-  pub connections : list_all is_connected s.connections ≡ true
-  pub transactions : list_all (is_transaction s) s.transactions ≡ true
-
-pub whole_to : (s : State) → Whole s → Invariants s
+pub whole_to : (s : State) → Whole s → IsWhole s
 whole_to s whole = record {
   roles = and_from _ _ (roles_placed s s.connections ∙ all_more (stands s) (λ (c : Connection). is_placed s c.role) s.connections (λ c is. (and_parts (is_connected c && asks_as c.role c.side) (is_placed s c.role) is).1) whole.standing) (roles_apart s.connections ∙ whole.apart);
   connections = all_more (stands s) is_connected s.connections (λ c is. (and_parts (is_connected c) (asks_as c.role c.side) (and_parts (is_connected c && asks_as c.role c.side) (is_placed s c.role) is).0).0) whole.standing;

@@ -1,5 +1,5 @@
 //! Laws of a realm's runs, each carried by a function that does nothing. They hold whatever is served.
-ghost use Rattle.std.specs.Prelude.{◌≡◌, List, true};
+ghost use Rattle.std.specs.Prelude.{◌≡◌, ℕ, List, Some, true};
 ghost use Rattle.tip_branch.specs.declared.branch.Badge.{Badge};
 ghost use Rattle.tip_rows.specs.Keys.{Key};
 ghost use Rattle.tip_machine.specs.Given.{are_numbered};
@@ -8,9 +8,17 @@ ghost use Rattle.tip_machine.specs.Invariants.{IsSound, are_keyed, are_known_onc
 ghost use Rattle.tip_machine.specs.Moves.{Move, World, moved};
 ghost use Rattle.tip_machine.specs.Served.{Serving};
 ghost use Rattle.tip_machine.specs.Starting.{IsStart};
-ghost use Rattle.tip_machine.specs.States.{State};
+ghost use Rattle.tip_machine.specs.States.{State, seated};
 ghost use Rattle.tip_machine.specs.Steps.{step_serving};
-ghost use Rattle.tip_machine.specs.Types.{Event};
+ghost use Rattle.tip_machine.specs.Types.{Connection, Event};
+ghost use Rattle.tip_machine.specs.declared.connection.Awaited.{Awaited};
+ghost use Rattle.tip_machine.specs.declared.connection.Purpose.{Purpose};
+ghost use Rattle.tip_machine.specs.declared.event.Event.TheVariants.{Open, Dial, Line, Lost};
+ghost use Rattle.tip_machine.specs.declared.event.Heard.TheVariants.{Response as AResponse};
+ghost use Rattle.tip_machine.specs.declared.event.Seat.{Seat};
+ghost use Rattle.tip_line.specs.declared.response.Response.{Response};
+ghost use Rattle.tip_conn.specs.declared.state.Side.TheVariants.{Primary};
+ghost use Rattle.tip_agreement.specs.Whole.{IsWhole, is_answer_of};
 ghost use Rattle.tip_machine.specs.declared.event.Outcome.{Outcome};
 
 /// The invariants hold where a run begins, if no two rows in doubt are of one superior's transaction.
@@ -28,4 +36,19 @@ pub fn losses_and_starts_keep_the_invariants()
 /// Whatever happens, the numbers of connections rise, and keys of transactions stay apart, each of them given.
 pub fn numbers_and_keys_are_kept()
     ensures { (serving : Serving) (state : State) (event : Event) (outcome : Outcome) → are_numbered state ≡ true → are_keyed state ≡ true → (are_numbered (step_serving serving state event outcome).state ≡ true) × (are_keyed (step_serving serving state event outcome).state ≡ true) }
+{}
+
+/// A new connection, from either side, and one that is lost leave roles, connections and transactions as the tables say.
+pub fn connections_that_come_and_go_keep_it_whole()
+    ensures opened { (serving : Serving) (world : World) (boxes : List Badge) (outcome : Outcome) → IsSound world → IsWhole (step_serving serving world.state (Open boxes) outcome).state }
+    ensures dialled { (serving : Serving) (world : World) (address : List ℕ) (purpose : Purpose) (boxes : List Badge) (outcome : Outcome) → IsSound world → IsWhole (step_serving serving world.state (Dial address purpose boxes) outcome).state }
+    ensures lost { (serving : Serving) (world : World) (seat : Seat) (outcome : Outcome) → IsSound world → IsWhole (step_serving serving world.state (Lost seat) outcome).state }
+{}
+
+/// Each answer of a subordinate does too, with all that follows from it: the next question, the promise, the commit, the abort or
+/// the end of its transaction, whatever becomes of the rows.
+pub fn the_answers_of_a_subordinate_keep_it_whole()
+    ensures { (serving : Serving) (world : World) (seat : Seat) (connection : Connection) (awaited : Awaited) (response : Response) (outcome : Outcome) → IsSound world →
+        seated seat world.state ≡ Some connection → connection.side ≡ Primary → connection.awaited ≡ Some awaited → is_answer_of awaited response ≡ true →
+        IsWhole (step_serving serving world.state (Line seat (AResponse response)) outcome).state }
 {}

@@ -1,0 +1,30 @@
+-- The invariants that say how a realm's connections and its transactions fit one another (ours).
+use Rattle.std.specs.Prelude.{◌≡◌, Bool, true, false}
+use Rattle.std.specs.List.{list_all}
+use Rattle.tip_line.specs.declared.response.Response.{Response}
+use Rattle.tip_line.specs.declared.response.Response.TheVariants.{Pushed, AlreadyPushed, NotPushed, Prepared, ReadOnly, Committed, Aborted, Reconnected, NotReconnected}
+use Rattle.tip_machine.specs.Invariants.Links.{have_roles, is_connected}
+use Rattle.tip_machine.specs.Invariants.Phases.{is_transaction}
+use Rattle.tip_machine.specs.States.{State}
+use Rattle.tip_machine.specs.declared.connection.Awaited.{Awaited}
+use Rattle.tip_machine.specs.declared.connection.Awaited.TheVariants.{Push, Prepare, Commit, Abort, Reconnect}
+
+-- three of the invariants, which hold only together
+pub record IsWhole (state : State) : Type 0 where
+  pub roles : have_roles state ≡ true
+  pub connections : list_all is_connected state.connections ≡ true
+  pub transactions : list_all (is_transaction state) state.transactions ≡ true
+
+-- what a subordinate answers to each command that we say to it (section 13)
+abbrev pub is_answer_of : Awaited → Response → Bool
+is_answer_of Push (Pushed id) = true
+is_answer_of Push (AlreadyPushed id) = true
+is_answer_of Push NotPushed = true
+is_answer_of Prepare Prepared = true
+is_answer_of Prepare Aborted = true
+is_answer_of Prepare ReadOnly = true
+is_answer_of Commit Committed = true
+is_answer_of Abort Aborted = true
+is_answer_of Reconnect Reconnected = true
+is_answer_of Reconnect NotReconnected = true
+is_answer_of awaited response = false
