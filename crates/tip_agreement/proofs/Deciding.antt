@@ -153,7 +153,7 @@ module _ (key : Key) (t : Transaction) (w : Work) (above : Link → Bool) (part 
       never answer is = cc
     dispatched_at Spent at = stays_at Spent at spent_still
 
-    dispatched_whole : Whole (dispatch key w).state
+    pub dispatched_whole : Whole (dispatch key w).state
     unfolding dispatch
     dispatched_whole = on_some (λ v. Whole v.state) (transaction_of key w.state) (entering Committed t) _ w known.owned.found (dispatched_at t.place refl)
 

@@ -1,10 +1,17 @@
 -- A subordinate's answers, as lines that are heard, leave a realm whole.
-use Rattle.std.proofs.Common.{◌≡◌, true, Some, subst, sym}
+use Rattle.std.proofs.Common.{◌≡◌, true, false, Some, cond, subst, sym}
 use Rattle.tip_line.specs.declared.refusal.Refusal.TheVariants.{Busy}
 use Rattle.tip_line.specs.declared.response.Response.{Response}
 use Rattle.tip_line.specs.declared.response.Response.TheVariants.{Pushed, AlreadyPushed, NotPushed, Prepared, ReadOnly, Committed, Aborted, Reconnected, NotReconnected}
-use Rattle.tip_conn.specs.declared.state.Side.TheVariants.{Primary}
+use Rattle.tip_conn.specs.declared.state.Side.{Side}
+use Rattle.tip_conn.specs.declared.state.Side.TheVariants.{Primary, Secondary}
+use Rattle.tip_conn.specs.declared.state.Admit.TheVariants.{Serve, Wrong}
+use Rattle.tip_conn.specs.Table.{admit_of, is_valid}
+use Rattle.tip_line.specs.Command.{name_of}
+use Rattle.tip_line.specs.declared.command.Command.{Command}
+use Rattle.tip_line.specs.declared.command.Command.TheVariants as commands
 use Rattle.tip_machine.specs.Changes.{refuse}
+use Rattle.tip_machine.specs.Commands.{commanded, serve_if}
 use Rattle.tip_machine.specs.Connections.{may_take}
 use Rattle.tip_machine.specs.Invariants.{IsSound}
 use Rattle.tip_machine.specs.Moves.{World}
@@ -17,13 +24,15 @@ use Rattle.tip_machine.specs.Types.{Connection}
 use Rattle.tip_machine.specs.declared.connection.Awaited.{Awaited}
 use Rattle.tip_machine.specs.declared.connection.Awaited.TheVariants.{Push, Prepare, Commit, Abort, Reconnect}
 use Rattle.tip_machine.specs.declared.event.Event.TheVariants.{Line}
-use Rattle.tip_machine.specs.declared.event.Heard.TheVariants.{Response as AResponse}
+use Rattle.tip_machine.specs.declared.event.Heard.{Heard}
+use Rattle.tip_machine.specs.declared.event.Heard.TheVariants.{Command as ACommand, Response as AResponse, Malformed}
 use Rattle.tip_machine.specs.declared.event.Outcome.{Outcome}
 use Rattle.tip_machine.specs.declared.event.Seat.{Seat}
 use Rattle.tip_machine.proofs.Walks.{either_attempt, seated_there}
-use Rattle.tip_agreement.specs.Whole.{IsWhole, is_answer_of}
+use Rattle.tip_agreement.specs.Whole.{IsWhole, is_answer_of, is_misplaced}
 use Rattle.tip_agreement.proofs.Answering.{aborted_so, already_pushed_whole, committed_so, not_pushed_whole, not_reconnected_whole, prepared_whole, pushed_whole, read_only_whole, reconnected_whole, refused_whole}
 use Rattle.tip_agreement.proofs.Around.{Whole}
+use Rattle.tip_agreement.proofs.Closing.{closed_whole, wrong_whole}
 use Rattle.tip_agreement.proofs.Events.{entered_whole, keeps_with}
 use Rattle.tip_agreement.proofs.Proceeding.{AllWhole}
 
@@ -52,3 +61,39 @@ pub answering_keeps : (serving : Serving) (world : World) (seat : Seat) (c : Con
 answering_keeps serving world seat c a response outcome sound seats side waits is =
     let w = entered world.state in
     keeps_with serving world (Line seat (AResponse response)) outcome (λ whole. subst (λ o. AllWhole (line serving o (AResponse response) w)) (sym seats) (line_whole c w (entered_whole world.state whole) (seated_there seat world.state c seats) side serving a response waits is)) sound
+
+-- Lines that are out of place
+
+module _ (c : Connection) (w : Work) (whole : Whole w.state) (there : connection_of c.number w.state ≡ Some c) where
+  misplaced_whole : (serving : Serving) (side : Side) (heard : Heard) → is_misplaced side heard ≡ true → AllWhole (hear serving side heard c w)
+  misplaced_whole serving Secondary Malformed is = wrong_whole c w whole there
+  misplaced_whole serving Primary Malformed is = wrong_whole c w whole there
+  misplaced_whole serving Secondary (AResponse response) is = wrong_whole c w whole there
+  misplaced_whole serving Primary (ACommand commands.Error) is = closed_whole c w whole there
+  misplaced_whole serving Primary (ACommand command) is = wrong_whole c w whole there
+  misplaced_whole serving side heard is = absurd (cc)
+
+  -- a command that the state doesn't admit
+  invalid_whole : (serving : Serving) (command : Command) → c.side ≡ Secondary → is_valid (name_of command) c.state ≡ false → AllWhole (hear serving Secondary (ACommand command) c w)
+  unfolding commanded
+  invalid_whole serving command side is = subst (λ s. AllWhole (serve_if serving (admit_of c.state s (name_of command)) command c w)) (sym side) (subst (λ b. AllWhole (serve_if serving (cond b Serve Wrong) command c w)) (sym is) (wrong_whole c w whole there))
+
+  taken_whole : (serving : Serving) (heard : Heard) → AllWhole (hear serving c.side heard c w) → AllWhole (line serving (Some c) heard w)
+  unfolding line
+  taken_whole serving heard hears = either_attempt AllWhole (may_take c) (hear serving c.side heard c w) (Attempt.Done (refuse Busy w)) hears whole
+
+-- what is so of a line that is heard
+heard_keeps : (serving : Serving) (world : World) (seat : Seat) (c : Connection) (heard : Heard) (outcome : Outcome) → IsSound world → seated seat world.state ≡ Some c → (Whole world.state → AllWhole (line serving (Some c) heard (entered world.state))) → IsWhole (step_serving serving world.state (Line seat heard) outcome).state
+heard_keeps serving world seat c heard outcome sound seats hears = keeps_with serving world (Line seat heard) outcome (λ whole. subst (λ o. AllWhole (line serving o heard (entered world.state))) (sym seats) (hears whole)) sound
+
+pub misplaced_keeps : (serving : Serving) (world : World) (seat : Seat) (c : Connection) (heard : Heard) (outcome : Outcome) → IsSound world → seated seat world.state ≡ Some c → is_misplaced c.side heard ≡ true → IsWhole (step_serving serving world.state (Line seat heard) outcome).state
+misplaced_keeps serving world seat c heard outcome sound seats is =
+    let w = entered world.state in
+    let there = seated_there seat world.state c seats in
+    heard_keeps serving world seat c heard outcome sound seats (λ whole. let stands = entered_whole world.state whole in taken_whole c w stands there serving heard (misplaced_whole c w stands there serving c.side heard is))
+
+pub invalid_keeps : (serving : Serving) (world : World) (seat : Seat) (c : Connection) (command : Command) (outcome : Outcome) → IsSound world → seated seat world.state ≡ Some c → c.side ≡ Secondary → is_valid (name_of command) c.state ≡ false → IsWhole (step_serving serving world.state (Line seat (ACommand command)) outcome).state
+invalid_keeps serving world seat c command outcome sound seats side is =
+    let w = entered world.state in
+    let there = seated_there seat world.state c seats in
+    heard_keeps serving world seat c (ACommand command) outcome sound seats (λ whole. let stands = entered_whole world.state whole in taken_whole c w stands there serving (ACommand command) (subst (λ s. AllWhole (hear serving s (ACommand command) c w)) (sym side) (invalid_whole c w stands there serving command side is)))

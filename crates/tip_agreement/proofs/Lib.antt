@@ -15,5 +15,6 @@ pub mod Proceeding
 pub mod Reacting
 pub mod Responding
 pub mod Restarts
+pub mod Resuming
 pub mod Sound
 pub mod Starts

@@ -315,7 +315,7 @@ module _ (t : Transaction) (w : Work) (asking : t.phase ≡ Asking) (around : Ar
 -- COMMITTED: the connections that can be told are told, and where all is done, it is over
 
 module _ (t : Transaction) (w : Work) (committed : t.phase ≡ Committed) (agreed : decision_of t ≡ decisions.Commit) where
-  finished : Around t.key w.state → Owned (is_superior Committed t.origin) (is_part_in Committed) (is_party Committed) t.key t w.state → AllWhole (finish t w)
+  pub finished : Around t.key w.state → Owned (is_superior Committed t.origin) (is_part_in Committed) (is_party Committed) t.key t w.state → AllWhole (finish t w)
   unfolding finish
   finished around owned = step (is_done t) refl where
     still : Whole w.state

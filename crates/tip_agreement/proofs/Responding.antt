@@ -110,7 +110,7 @@ same_answers m f [] same = refl
 same_answers zero f (p ∷ parts) same = ap (λ a. a ∷ map (λ (part : Participant). part.answer) parts) (same p)
 same_answers (suc m) f (p ∷ parts) same = ap (λ rest. p.answer ∷ rest) (same_answers m f parts same)
 
-commit_agreed : (d : Decision) → has_come_to Committed d ≡ true → d ≡ decisions.Commit
+pub commit_agreed : (d : Decision) → has_come_to Committed d ≡ true → d ≡ decisions.Commit
 commit_agreed decisions.Commit is = refl
 commit_agreed decisions.Wait is = absurd (cc)
 commit_agreed decisions.Abort is = absurd (cc)

@@ -3,10 +3,11 @@ use Rattle.std.proofs.Common.{◌≡◌, ◌≤◌, ◌<◌, Bool, true, false, 
 use Rattle.std.specs.Prelude.{◌&&◌, ◌||◌, not, find, filter_map, is_some, length, nat_le, nat_lt}
 use Rattle.std.specs.List.{list_all, list_any}
 use Rattle.std.specs.Option.{option_map_or}
-use Rattle.std.proofs.lemmas.Bool.{and_from, and_parts, both_ways, cases_eq, not-true}
+use Rattle.std.proofs.lemmas.Bool.{and_from, and_parts, both_ways, cases_eq, not-true, or_parts}
 use Rattle.std.proofs.lemmas.Bool.Decides.{nat_tests}
 use Rattle.std.proofs.lemmas.Option.{none-some, same_Some}
 use Rattle.tip_rows.specs.Keys.{Key, is_same}
+use Rattle.tip_rows.proofs.OrderLemmas.{same_key}
 use Rattle.tip_conn.specs.declared.state.Side.{Side}
 use Rattle.tip_conn.specs.declared.state.Side.TheVariants.{Primary, Secondary}
 use Rattle.tip_conn.specs.declared.state.State.{State as ConnectionState}
@@ -157,3 +158,21 @@ whole_to s whole = record {
   connections = all_more (stands s) is_connected s.connections (λ c is. (and_parts (is_connected c) (asks_as c.role c.side) (and_parts (is_connected c && asks_as c.role c.side) (is_placed s c.role) is).0).0) whole.standing;
   transactions = whole.transactions;
 }
+
+-- a transaction that is found by whatever test is the one of its key
+pub found_by : (test : Transaction → Bool) (s : State) (t : Transaction) → Whole s → find test s.transactions ≡ Some t → transaction_of t.key s ≡ Some t
+found_by test s t whole is = step s.transactions whole.keys is where
+  step : (ts : List Transaction) → are_distinct is_same (keys_of ts) ≡ true → find test ts ≡ Some t → find (has_key t.key) ts ≡ Some t
+  step [] apart is = absurd (none-some t is)
+  step (u ∷ ts) apart is = first (test u) is (has_key t.key u) refl (step ts (and_parts (not (list_any (is_same u.key) (keys_of ts))) (are_distinct is_same (keys_of ts)) apart).1) (not-true _ (and_parts (not (list_any (is_same u.key) (keys_of ts))) (are_distinct is_same (keys_of ts)) apart).0) where
+    absent : (us : List Transaction) → list_any (is_same u.key) (keys_of us) ≡ false → find test us ≡ Some t → is_same u.key t.key ≡ false
+    absent [] none is = absurd (none-some t is)
+    absent (v ∷ us) none is = let parts = or_parts (is_same u.key v.key) (list_any (is_same u.key) (keys_of us)) none in second (test v) is parts.0 (absent us parts.1) where
+      second : (b : Bool) → cond b (Some v) (find test us) ≡ Some t → is_same u.key v.key ≡ false → (find test us ≡ Some t → is_same u.key t.key ≡ false) → is_same u.key t.key ≡ false
+      second true is differs later = subst (λ x. is_same u.key x.key ≡ false) (same_Some v t is) differs
+      second false is differs later = later is
+
+    first : (b : Bool) → cond b (Some u) (find test ts) ≡ Some t → (e : Bool) → has_key t.key u ≡ e → (find test ts ≡ Some t → find (has_key t.key) ts ≡ Some t) → list_any (is_same u.key) (keys_of ts) ≡ false → cond (has_key t.key u) (Some u) (find (has_key t.key) ts) ≡ Some t
+    first true is e here later none = let same = same_Some u t is in subst (λ x. cond (has_key x.key u) (Some u) (find (has_key x.key) ts) ≡ Some x) same (rw (key_self u.key) refl)
+    first false is false here later none = rw here (later is)
+    first false is true here later none = absurd (both_ways (is_same u.key t.key) (absent ts none is) (subst (λ k. is_same k t.key ≡ true) (same_key t.key u.key here) (key_self t.key)))

@@ -3,6 +3,10 @@ use Rattle.std.specs.Prelude.{◌≡◌, Bool, true, false}
 use Rattle.std.specs.List.{list_all}
 use Rattle.tip_line.specs.declared.response.Response.{Response}
 use Rattle.tip_line.specs.declared.response.Response.TheVariants.{Pushed, AlreadyPushed, NotPushed, Prepared, ReadOnly, Committed, Aborted, Reconnected, NotReconnected}
+use Rattle.tip_conn.specs.declared.state.Side.{Side}
+use Rattle.tip_conn.specs.declared.state.Side.TheVariants.{Primary, Secondary}
+use Rattle.tip_machine.specs.declared.event.Heard.{Heard}
+use Rattle.tip_machine.specs.declared.event.Heard.TheVariants.{Command as ACommand, Response as AResponse, Malformed}
 use Rattle.tip_machine.specs.Invariants.Links.{have_roles, is_connected}
 use Rattle.tip_machine.specs.Invariants.Phases.{is_transaction}
 use Rattle.tip_machine.specs.States.{State}
@@ -28,3 +32,10 @@ is_answer_of Abort Aborted = true
 is_answer_of Reconnect Reconnected = true
 is_answer_of Reconnect NotReconnected = true
 is_answer_of awaited response = false
+
+-- a line that is taken on neither side: no line of ours, a response to its secondary, or a command to its primary (section 12)
+abbrev pub is_misplaced : Side → Heard → Bool
+is_misplaced side Malformed = true
+is_misplaced Secondary (AResponse response) = true
+is_misplaced Primary (ACommand command) = true
+is_misplaced side heard = false

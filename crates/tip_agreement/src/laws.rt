@@ -1,5 +1,5 @@
 //! Laws of a realm's runs, each carried by a function that does nothing. They hold whatever is served.
-ghost use Rattle.std.specs.Prelude.{◌≡◌, ℕ, List, Some, true};
+ghost use Rattle.std.specs.Prelude.{◌≡◌, ℕ, List, Some, true, false};
 ghost use Rattle.tip_branch.specs.declared.branch.Badge.{Badge};
 ghost use Rattle.tip_rows.specs.Keys.{Key};
 ghost use Rattle.tip_machine.specs.Given.{are_numbered};
@@ -13,12 +13,16 @@ ghost use Rattle.tip_machine.specs.Steps.{step_serving};
 ghost use Rattle.tip_machine.specs.Types.{Connection, Event};
 ghost use Rattle.tip_machine.specs.declared.connection.Awaited.{Awaited};
 ghost use Rattle.tip_machine.specs.declared.connection.Purpose.{Purpose};
-ghost use Rattle.tip_machine.specs.declared.event.Event.TheVariants.{Open, Dial, Line, Lost};
-ghost use Rattle.tip_machine.specs.declared.event.Heard.TheVariants.{Response as AResponse};
+ghost use Rattle.tip_machine.specs.declared.event.Event.TheVariants.{Open, Dial, Line, Lost, Resume};
+ghost use Rattle.tip_machine.specs.declared.event.Heard.{Heard};
+ghost use Rattle.tip_machine.specs.declared.event.Heard.TheVariants.{Command as ACommand, Response as AResponse};
 ghost use Rattle.tip_machine.specs.declared.event.Seat.{Seat};
 ghost use Rattle.tip_line.specs.declared.response.Response.{Response};
-ghost use Rattle.tip_conn.specs.declared.state.Side.TheVariants.{Primary};
-ghost use Rattle.tip_agreement.specs.Whole.{IsWhole, is_answer_of};
+ghost use Rattle.tip_conn.specs.declared.state.Side.TheVariants.{Primary, Secondary};
+ghost use Rattle.tip_conn.specs.Table.{is_valid};
+ghost use Rattle.tip_line.specs.Command.{name_of};
+ghost use Rattle.tip_line.specs.declared.command.Command.{Command};
+ghost use Rattle.tip_agreement.specs.Whole.{IsWhole, is_answer_of, is_misplaced};
 ghost use Rattle.tip_machine.specs.declared.event.Outcome.{Outcome};
 
 /// The invariants hold where a run begins, if no two rows in doubt are of one superior's transaction.
@@ -51,4 +55,18 @@ pub fn the_answers_of_a_subordinate_keep_it_whole()
     ensures { (serving : Serving) (world : World) (seat : Seat) (connection : Connection) (awaited : Awaited) (response : Response) (outcome : Outcome) → IsSound world →
         seated seat world.state ≡ Some connection → connection.side ≡ Primary → connection.awaited ≡ Some awaited → is_answer_of awaited response ≡ true →
         IsWhole (step_serving serving world.state (Line seat (AResponse response)) outcome).state }
+{}
+
+/// So does a line that is out of place: no line of ours, one for the other side, or a command that the state doesn't admit.
+pub fn lines_out_of_place_keep_it_whole()
+    ensures misplaced { (serving : Serving) (world : World) (seat : Seat) (connection : Connection) (heard : Heard) (outcome : Outcome) → IsSound world →
+        seated seat world.state ≡ Some connection → is_misplaced connection.side heard ≡ true → IsWhole (step_serving serving world.state (Line seat heard) outcome).state }
+    ensures invalid { (serving : Serving) (world : World) (seat : Seat) (connection : Connection) (command : Command) (outcome : Outcome) → IsSound world →
+        seated seat world.state ≡ Some connection → connection.side ≡ Secondary → is_valid (name_of command) connection.state ≡ false →
+        IsWhole (step_serving serving world.state (Line seat (ACommand command)) outcome).state }
+{}
+
+/// So does a committed transaction that is resumed: its party is told again, or it ends with its row.
+pub fn a_transaction_that_is_resumed_keeps_it_whole()
+    ensures { (serving : Serving) (world : World) (id : List ℕ) (outcome : Outcome) → IsSound world → IsWhole (step_serving serving world.state (Resume id) outcome).state }
 {}
