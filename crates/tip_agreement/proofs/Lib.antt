@@ -10,6 +10,7 @@ pub mod Found
 pub mod Heard
 pub mod Keys
 pub mod Leaving
+pub mod Obeying
 pub mod Owned
 pub mod Proceeding
 pub mod Reacting
