@@ -1,8 +1,9 @@
 -- A superior's command leaves a realm whole.
 use Rattle.std.proofs.Common.{◌≡◌, Bool, true, false, ℕ, List, [], ◌∷◌, Option, Some, None, cond, refl, ap, subst, sym, ◌∙◌, ◌⊎◌, inl, inr}
-use Rattle.std.specs.Prelude.{◌&&◌, ◌||◌, find, is_none, is_some}
+use Rattle.std.specs.Prelude.{◌&&◌, ◌||◌, find, is_none, is_some, length}
 use Rattle.std.proofs.lemmas.Bool.{and_from, and_parts, both_ways, or_left}
 use Rattle.tip_rows.specs.Keys.{Key}
+use Rattle.tip_branch.specs.Notes.{PartyNotes}
 use Rattle.tip_branch.specs.declared.member.Errand.TheVariants as errand
 use Rattle.tip_conn.specs.declared.state.Side.TheVariants.{Primary, Secondary}
 use Rattle.tip_conn.specs.declared.state.State.{State as ConnectionState}
@@ -18,21 +19,25 @@ use Rattle.tip_machine.specs.Changes.{change}
 use Rattle.tip_machine.specs.Connections.{asks_for, has_number, is_part_of, is_superior_of, owing, reaches}
 use Rattle.tip_machine.specs.Invariants.Links.{Link, acts_as, link, link_on}
 use Rattle.tip_machine.specs.Invariants.Links.Link.{Gone, Owes, Awaits}
-use Rattle.tip_machine.specs.Invariants.Phases.{is_part_in, is_party, is_superior}
-use Rattle.tip_machine.specs.Proceeding.{abort, ask}
+use Rattle.tip_machine.specs.Invariants.Phases.{is_part, is_part_in, is_party, is_superior}
+use Rattle.tip_machine.specs.Proceeding.{abort, ask, asked_for_votes, enter, give_out, proceed}
 use Rattle.tip_machine.specs.States.{State, Work, connection_of, transaction_of}
+use Rattle.tip_machine.specs.Transactions.{entering, standing_at}
 use Rattle.tip_machine.specs.Types.{Connection, PartyPlace, Transaction}
+use Rattle.tip_machine.specs.declared.connection.Awaited.TheVariants as awaited
 use Rattle.tip_machine.specs.declared.connection.Role.{Role}
 use Rattle.tip_machine.specs.declared.connection.Role.TheVariants.{Superior, Subordinate}
 use Rattle.tip_machine.specs.declared.transaction.Origin.{Origin}
 use Rattle.tip_machine.specs.declared.transaction.Origin.TheVariants as origin
 use Rattle.tip_machine.specs.declared.transaction.PartyPlace.TheVariants.{Here, Out, Spent}
-use Rattle.tip_agreement.proofs.Aborting.{aborted_whole, may_abort_above, may_abort_part, may_abort_party}
+use Rattle.tip_agreement.proofs.Aborting.{aborted_whole, le_self, own_as, party_now, may_abort_above, may_abort_part, may_abort_party}
 use Rattle.tip_agreement.proofs.Apart.{all_found}
-use Rattle.tip_agreement.proofs.Around.{Around, Whole, around_of, beside, set, stands}
-use Rattle.tip_agreement.proofs.Closing.{above_there, have_same, is_stoppable, known, stoppable_parts, stoppable_party}
+use Rattle.tip_agreement.proofs.Around.{Around, Whole, alter_around, altered, around_of, beside, set, stands}
+use Rattle.tip_agreement.proofs.Closing.{above_there, have_same, in_table, untold_in, is_stoppable, known, stoppable_parts, stoppable_party}
 use Rattle.tip_agreement.proofs.Found.{find_apart, find_at}
-use Rattle.tip_agreement.proofs.Owned.{InPhase, Owned, have_parts, key_self, once_superior, own_still}
+use Rattle.tip_agreement.proofs.Owned.{InPhase, Owned, alter_owned, have_parts, parts_from, key_self, once_superior, own_still}
+use Rattle.tip_agreement.proofs.Proceeding.{AllWhole, Follows, may_ask, may_ask_part, may_ask_party, proceed_whole}
+use Rattle.tip_agreement.proofs.Proceeding.Follows.{OfAsking}
 use Rattle.tip_agreement.proofs.Reacting.{Standing, standing}
 
 -- The command is owed a response
@@ -80,3 +85,78 @@ module _ (key : Key) (t : Transaction) (c : Connection) (w : Work) (whole : Whol
   -- ABORT before the promise, or once it is aborted
   pub abort_owed : is_stoppable t.phase ≡ true → may_abort_above t.origin (Owes c.state (Some name)) ≡ true → Whole (abort key owed).state
   abort_owed can fits = aborted_whole key t owed around_owed (owned_owed (may_abort_above t.origin) may_abort_part may_abort_party fits (stoppable_parts t.phase can) (stoppable_party t.phase can t.place))
+
+-- PREPARE and COMMIT before the promise: all are asked
+
+active_ask : (link : Link) (answer : Option Ballot) → is_part Active link answer ≡ true → may_ask link answer ≡ true
+active_ask (Awaits state.Idle (Some awaited.Push)) None is = refl
+active_ask (Awaits state.Enlisted None) None is = refl
+active_ask Gone (Some ReadOnly) is = refl
+active_ask link answer is = absurd (cc)
+
+active_ask_part : (link : Link) (part : Participant) → is_part_in Active link part ≡ true → may_ask_part link part ≡ true
+active_ask_part link part is = let a = in_table Active link part is in and_from _ _ (and_from _ _ (active_ask link part.answer a.fits) (untold_in Active refl part link a.told)) a.named
+
+out_to_vote : (party : PartyNotes) (answer : Option Ballot) → is_party Active (Here party) answer ≡ true → may_ask_party (Out errand.Vote) answer ≡ true
+out_to_vote party None is = refl
+out_to_vote party (Some answer) is = absurd (cc)
+
+never_active : (table : Link → Participant → Bool) (place : PartyPlace) (parts : List Participant) (key : Key) (cs : List Connection) → ((answer : Option Ballot) → is_party Active place answer ≡ false) → have_parts table (is_party Active) place parts key cs ≡ true → ⊥
+never_active table place [] key cs fails all = cc
+never_active table place (local ∷ parts) key cs fails all = both_ways _ (fails local.answer) (and_parts (is_party Active place local.answer) (parts_from table 1 parts key cs) all).0
+
+module _ (t : Transaction) (v : Work) (above : Link → Bool) (around : Around t.key v.state) (fits : (l : Link) → above l ≡ true → is_superior Asking t.origin l ≡ true) (owned : Owned above may_ask_part (is_party Active) t.key t v.state) where
+  around_asking : Around t.key (altered t.key v.state (entering Asking))
+  around_asking = alter_around t.key v.state (entering Asking) (λ t. refl) (λ t. le_self (length t.parts)) around
+
+  owned_asking : Owned (is_superior Asking t.origin) may_ask_part (is_party Active) t.key (entering Asking t) (altered t.key v.state (entering Asking))
+  owned_asking = alter_owned above (is_superior Asking t.origin) may_ask_part may_ask_part (is_party Active) (is_party Active) t.key (entering Asking) t v.state (λ t. refl) fits owned.parts (own_as v.state t (entering Asking t) t.place refl ∙ owned.own) owned
+
+  voting : (party : PartyNotes) → t.place ≡ Here party → AllWhole (proceed t.key (give_out errand.Vote party t.key (enter Asking t.key v)))
+  voting party at =
+      let s = altered t.key v.state (entering Asking) in
+      let u = standing_at (Out errand.Vote) (entering Asking t) in
+      let known = alter_owned (is_superior Asking t.origin) (is_superior Asking t.origin) may_ask_part may_ask_part (is_party Active) may_ask_party t.key (standing_at (Out errand.Vote)) (entering Asking t) s (λ t. refl) (λ l is. is) (party_now may_ask_part (is_party Active) may_ask_party t.place (Out errand.Vote) t.parts t.key v.state.connections (λ answer is. out_to_vote party answer (subst (λ p. is_party Active p answer ≡ true) at is)) owned.parts) refl owned_asking in
+      proceed_whole t.key u (give_out errand.Vote party t.key (enter Asking t.key v)) known.found (alter_around t.key s (standing_at (Out errand.Vote)) (λ t. refl) (λ t. le_self (length t.parts)) around_asking) (OfAsking refl known)
+
+  asks_at : (place : PartyPlace) → t.place ≡ place → AllWhole (proceed t.key (asked_for_votes place t.key (enter Asking t.key v)))
+  asks_at (Here party) at = voting party at
+  asks_at (Out errand) at = absurd (never_active may_ask_part (Out errand) t.parts t.key v.state.connections (λ answer. refl) (subst (λ p. have_parts may_ask_part (is_party Active) p t.parts t.key v.state.connections ≡ true) at owned.parts))
+  asks_at Spent at = absurd (never_active may_ask_part Spent t.parts t.key v.state.connections (λ answer. refl) (subst (λ p. have_parts may_ask_part (is_party Active) p t.parts t.key v.state.connections ≡ true) at owned.parts))
+
+  pub ask_whole : AllWhole (ask t v)
+  unfolding ask
+  ask_whole = asks_at t.place refl
+
+-- Where the superior stands when it asks
+
+-- nothing is owed to a superior that may ask, but where all are asked already
+abbrev asks_from : ConnectionState → Origin → Bool
+asks_from state.Begun origin.Root = true
+asks_from state.Enlisted (origin.Subordinate address superior) = true
+asks_from at from = false
+
+abbrev is_enlisted_state : ConnectionState → Bool
+is_enlisted_state state.Enlisted = true
+is_enlisted_state at = false
+
+active_from : (from : Origin) (at : ConnectionState) (owed : Option CommandName) → is_superior Active from (Owes at owed) ≡ true → asks_from at from ≡ true
+active_from origin.Root state.Begun None is = refl
+active_from (origin.Subordinate address superior) state.Enlisted None is = refl
+active_from from at owed is = absurd (cc)
+
+aborted_from : (from : Origin) (at : ConnectionState) (owed : Option CommandName) → is_superior Aborted from (Owes at owed) ≡ true → asks_from at from ≡ true
+aborted_from origin.Root state.Begun None is = refl
+aborted_from (origin.Subordinate address superior) state.Enlisted None is = refl
+aborted_from from at owed is = absurd (cc)
+
+abort_from : (at : ConnectionState) (from : Origin) → asks_from at from ≡ true → (may_abort_above from (Owes at (Some command.Abort)) ≡ true) × (may_abort_above from (Owes at (Some command.Commit)) ≡ true) × (is_superior Asking from (Owes at (Some command.Commit)) ≡ true)
+abort_from state.Begun origin.Root is = (refl, refl, refl)
+abort_from state.Enlisted (origin.Subordinate None superior) is = (refl, refl, refl)
+abort_from state.Enlisted (origin.Subordinate (Some address) superior) is = (refl, refl, refl)
+abort_from at from is = absurd (cc)
+
+prepare_from : (at : ConnectionState) (from : Origin) → asks_from at from ≡ true → is_enlisted_state at ≡ true → may_abort_above from (Owes at (Some command.Prepare)) ≡ true
+prepare_from state.Enlisted (origin.Subordinate address superior) is here = refl
+prepare_from state.Begun from is here = absurd (cc)
+prepare_from at from is here = absurd (cc)
