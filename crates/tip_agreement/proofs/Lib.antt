@@ -3,6 +3,7 @@ pub mod Answering
 pub mod Apart
 pub mod Around
 pub mod Closing
+pub mod Commanding
 pub mod Deciding
 pub mod Errands
 pub mod Events

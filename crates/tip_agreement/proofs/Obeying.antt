@@ -46,7 +46,7 @@ module _ (key : Key) (t : Transaction) (c : Connection) (w : Work) (whole : Whol
   abbrev pub owed : Work
   owed = change c.number (owing name) w
 
-  was : InPhase key t w.state
+  pub was : InPhase key t w.state
   was = known key t c w whole there found
 
   stood : Standing w.state c
@@ -94,7 +94,7 @@ active_ask (Awaits state.Enlisted None) None is = refl
 active_ask Gone (Some ReadOnly) is = refl
 active_ask link answer is = absurd (cc)
 
-active_ask_part : (link : Link) (part : Participant) → is_part_in Active link part ≡ true → may_ask_part link part ≡ true
+pub active_ask_part : (link : Link) (part : Participant) → is_part_in Active link part ≡ true → may_ask_part link part ≡ true
 active_ask_part link part is = let a = in_table Active link part is in and_from _ _ (and_from _ _ (active_ask link part.answer a.fits) (untold_in Active refl part link a.told)) a.named
 
 out_to_vote : (party : PartyNotes) (answer : Option Ballot) → is_party Active (Here party) answer ≡ true → may_ask_party (Out errand.Vote) answer ≡ true
@@ -131,7 +131,7 @@ module _ (t : Transaction) (v : Work) (above : Link → Bool) (around : Around t
 -- Where the superior stands when it asks
 
 -- nothing is owed to a superior that may ask, but where all are asked already
-abbrev asks_from : ConnectionState → Origin → Bool
+abbrev pub asks_from : ConnectionState → Origin → Bool
 asks_from state.Begun origin.Root = true
 asks_from state.Enlisted (origin.Subordinate address superior) = true
 asks_from at from = false
@@ -140,17 +140,17 @@ abbrev is_enlisted_state : ConnectionState → Bool
 is_enlisted_state state.Enlisted = true
 is_enlisted_state at = false
 
-active_from : (from : Origin) (at : ConnectionState) (owed : Option CommandName) → is_superior Active from (Owes at owed) ≡ true → asks_from at from ≡ true
+pub active_from : (from : Origin) (at : ConnectionState) (owed : Option CommandName) → is_superior Active from (Owes at owed) ≡ true → asks_from at from ≡ true
 active_from origin.Root state.Begun None is = refl
 active_from (origin.Subordinate address superior) state.Enlisted None is = refl
 active_from from at owed is = absurd (cc)
 
-aborted_from : (from : Origin) (at : ConnectionState) (owed : Option CommandName) → is_superior Aborted from (Owes at owed) ≡ true → asks_from at from ≡ true
+pub aborted_from : (from : Origin) (at : ConnectionState) (owed : Option CommandName) → is_superior Aborted from (Owes at owed) ≡ true → asks_from at from ≡ true
 aborted_from origin.Root state.Begun None is = refl
 aborted_from (origin.Subordinate address superior) state.Enlisted None is = refl
 aborted_from from at owed is = absurd (cc)
 
-abort_from : (at : ConnectionState) (from : Origin) → asks_from at from ≡ true → (may_abort_above from (Owes at (Some command.Abort)) ≡ true) × (may_abort_above from (Owes at (Some command.Commit)) ≡ true) × (is_superior Asking from (Owes at (Some command.Commit)) ≡ true)
+pub abort_from : (at : ConnectionState) (from : Origin) → asks_from at from ≡ true → (may_abort_above from (Owes at (Some command.Abort)) ≡ true) × (may_abort_above from (Owes at (Some command.Commit)) ≡ true) × (is_superior Asking from (Owes at (Some command.Commit)) ≡ true)
 abort_from state.Begun origin.Root is = (refl, refl, refl)
 abort_from state.Enlisted (origin.Subordinate None superior) is = (refl, refl, refl)
 abort_from state.Enlisted (origin.Subordinate (Some address) superior) is = (refl, refl, refl)
