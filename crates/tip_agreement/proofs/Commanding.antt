@@ -1,44 +1,40 @@
 -- PREPARE, COMMIT and ABORT of a superior leave a realm whole.
 use Rattle.std.proofs.Common.{◌≡◌, Bool, true, false, ℕ, List, [], ◌∷◌, Option, Some, None, cond, refl, ap, subst, sym, ◌∙◌}
-use Rattle.std.specs.Prelude.{◌&&◌, ◌||◌, ◌==◌, find, is_none, is_some}
-use Rattle.std.specs.Option.{option_and_then}
-use Rattle.std.proofs.lemmas.Bool.{and_from, and_parts, both_ways, or_left}
-use Rattle.std.proofs.lemmas.Option.{none-some}
-use Rattle.tip_rows.specs.Keys.{Key}
-use Rattle.tip_conn.specs.declared.state.Side.TheVariants.{Primary, Secondary}
+use Rattle.std.specs.Prelude.{◌||◌, ◌==◌}
+use Rattle.std.proofs.lemmas.Bool.{and_from, both_ways, or_left}
+use Rattle.tip_conn.specs.declared.state.Side.TheVariants.{Secondary}
 use Rattle.tip_conn.specs.declared.state.State.{State as ConnectionState}
 use Rattle.tip_conn.specs.declared.state.State.TheVariants as state
 use Rattle.tip_line.specs.declared.command.CommandName.{CommandName}
 use Rattle.tip_line.specs.declared.command.CommandName.TheVariants as command
 use Rattle.tip_table.specs.Lists.{changed, without}
 use Rattle.tip_txn.specs.declared.answer.Ballot.{Ballot}
-use Rattle.tip_txn.specs.declared.answer.Ballot.TheVariants.{Yes, No, ReadOnly, Lost}
+use Rattle.tip_txn.specs.declared.answer.Ballot.TheVariants.{Yes, ReadOnly}
 use Rattle.tip_txn.specs.declared.answer.Decision.{Decision}
 use Rattle.tip_txn.specs.declared.answer.Decision.TheVariants as decisions
 use Rattle.tip_txn.specs.declared.answer.Phase.{Phase}
 use Rattle.tip_txn.specs.declared.answer.Phase.TheVariants.{Active, Asking, Prepared, Committed, Aborted}
 use Rattle.tip_txn.specs.declared.part.Participant.{Participant}
 use Rattle.tip_machine.specs.Changes.{change, tell}
-use Rattle.tip_machine.specs.Commands.{decide_abort, decide_commit}
+use Rattle.tip_machine.specs.Commands.{decide_abort, decide_commit, prepare}
 use Rattle.tip_machine.specs.Connections.{has_number, owing}
 use Rattle.tip_machine.specs.Failing.{closed, fail, gone, missed}
 use Rattle.tip_machine.specs.Invariants.Links.{Link}
 use Rattle.tip_machine.specs.Invariants.Links.Link.{Gone, Owes, Awaits}
-use Rattle.tip_machine.specs.Invariants.Phases.{has_come_to, is_part, is_part_in, is_party, is_superior}
-use Rattle.tip_machine.specs.States.{State, Work, connection_of, transaction_of}
+use Rattle.tip_machine.specs.Invariants.Phases.{has_come_to, has_its_address, is_same_address, is_part, is_part_in, is_party, is_superior}
+use Rattle.tip_machine.specs.States.{Work, connection_of, transaction_of}
 use Rattle.tip_machine.specs.Transactions.{decision_of}
 use Rattle.tip_machine.specs.Types.{Connection, PartyPlace, Transaction}
 use Rattle.tip_machine.specs.declared.answer.Item.TheVariants.{Close}
-use Rattle.tip_machine.specs.declared.connection.Role.{Role}
-use Rattle.tip_machine.specs.declared.connection.Role.TheVariants.{Superior, Subordinate}
+use Rattle.tip_machine.specs.declared.connection.Role.TheVariants.{Superior}
 use Rattle.tip_machine.specs.declared.transaction.Origin.{Origin}
 use Rattle.tip_machine.specs.declared.transaction.Origin.TheVariants as origin
 use Rattle.tip_machine.specs.declared.transaction.PartyPlace.TheVariants.{Here, Out, Spent}
 use Rattle.tip_agreement.proofs.Aborting.{aborted_whole, may_abort, may_abort_above, may_abort_part, may_abort_party}
 use Rattle.tip_agreement.proofs.Around.{Whole}
-use Rattle.tip_agreement.proofs.Closing.{closed_whole, in_table, is_stoppable}
+use Rattle.tip_agreement.proofs.Closing.{above_there, closed_whole, in_table, is_stoppable}
 use Rattle.tip_agreement.proofs.Deciding.{commit_whole, may_commit, may_commit_above, may_commit_part}
-use Rattle.tip_agreement.proofs.Obeying.{abort_from, abort_owed, aborted_from, active_ask_part, active_from, around_owed, ask_whole, link_was, owed, owned_owed, was}
+use Rattle.tip_agreement.proofs.Obeying.{abort_from, abort_owed, aborted_from, active_ask_part, active_from, around_owed, ask_whole, is_enlisted_state, link_was, prepare_from, owed, owned_owed, was}
 use Rattle.tip_agreement.proofs.Proceeding.{AllWhole, may_ask_part}
 
 -- Where it hangs up after all, nothing is owed any more
@@ -81,6 +77,10 @@ doubt_from : (from : Origin) (at : ConnectionState) (owed : Option CommandName) 
 doubt_from (origin.Subordinate (Some address) superior) state.Prepared None is = (refl, refl)
 doubt_from from at owed is = absurd (cc)
 
+doubt_apart : (from : Origin) (at : ConnectionState) (owed : Option CommandName) → is_superior Prepared from (Owes at owed) ≡ true → is_enlisted_state at ≡ false
+doubt_apart (origin.Subordinate (Some address) superior) state.Prepared None is = refl
+doubt_apart from at owed is = absurd (cc)
+
 doubt_agreed : (d : Decision) → has_come_to Prepared d ≡ true → d ≡ decisions.Commit
 doubt_agreed decisions.Commit is = refl
 doubt_agreed decisions.Wait is = absurd (cc)
@@ -111,7 +111,7 @@ module _ (t : Transaction) (c : Connection) (w : Work) (whole : Whole w.state) (
   commit_obeyed Asking is = absurd (never_asking t.origin c.state (subst (λ o. is_superior Asking t.origin (Owes c.state o) ≡ true) silent (above_as command.Commit Asking is)))
   commit_obeyed Prepared is = (
     commit_whole t.key t (owed t.key t c w whole there found on side command.Commit) (doubt_agreed (decision_of t) (subst (λ f. has_come_to f (decision_of t) ≡ true) is (was t.key t c w whole there found on side command.Commit).come)) (around_owed t.key t c w whole there found on side command.Commit)
-    (owned_owed t.key t c w whole there found on side command.Commit (may_commit_above t.origin) may_commit_part (is_party Prepared) (doubt_from t.origin c.state c.owed (above_as command.Commit Prepared is)).0 (λ l p fits. doubt_commits l p (subst (λ f. is_part_in f l p ≡ true) is fits)) (λ answer fits. subst (λ f. is_party f t.place answer ≡ true) is fits)),
+        (owned_owed t.key t c w whole there found on side command.Commit (may_commit_above t.origin) may_commit_part (is_party Prepared) (doubt_from t.origin c.state c.owed (above_as command.Commit Prepared is)).0 (λ l p fits. doubt_commits l p (subst (λ f. is_part_in f l p ≡ true) is fits)) (λ answer fits. subst (λ f. is_party f t.place answer ≡ true) is fits)),
     hangs_up command.Commit,
   )
   commit_obeyed Committed is = absurd (never_committed t.origin c.state c.owed (above_as command.Commit Committed is))
@@ -122,8 +122,27 @@ module _ (t : Transaction) (c : Connection) (w : Work) (whole : Whole w.state) (
   abort_obeyed Asking is = absurd (never_asking t.origin c.state (subst (λ o. is_superior Asking t.origin (Owes c.state o) ≡ true) silent (above_as command.Abort Asking is)))
   abort_obeyed Prepared is = (
     aborted_whole t.key t (owed t.key t c w whole there found on side command.Abort) (around_owed t.key t c w whole there found on side command.Abort)
-    (owned_owed t.key t c w whole there found on side command.Abort (may_abort_above t.origin) may_abort_part may_abort_party (doubt_from t.origin c.state c.owed (above_as command.Abort Prepared is)).1 (λ l p fits. doubt_aborts l p (subst (λ f. is_part_in f l p ≡ true) is fits)) (λ answer fits. doubt_party t.place answer (subst (λ f. is_party f t.place answer ≡ true) is fits))),
+        (owned_owed t.key t c w whole there found on side command.Abort (may_abort_above t.origin) may_abort_part may_abort_party (doubt_from t.origin c.state c.owed (above_as command.Abort Prepared is)).1 (λ l p fits. doubt_aborts l p (subst (λ f. is_part_in f l p ≡ true) is fits)) (λ answer fits. doubt_party t.place answer (subst (λ f. is_party f t.place answer ≡ true) is fits))),
     hangs_up command.Abort,
   )
   abort_obeyed Committed is = absurd (never_committed t.origin c.state c.owed (above_as command.Abort Committed is))
   abort_obeyed Aborted is = abort_owed t.key t c w whole there found on side command.Abort (ap is_stoppable is) (abort_from c.state t.origin (aborted_from t.origin c.state c.owed (above_as command.Abort Aborted is))).0
+
+  -- PREPARE: one that nobody could reach again is not promised to
+  prepare_asks : (from : Origin) (at : ConnectionState) (owed : Option CommandName) (peer : Option (List ℕ)) (address : List ℕ) → peer ≡ Some address → is_superior Active from (Owes at owed) ≡ true → is_enlisted_state at ≡ true → (d : Connection) → d.peer ≡ peer → has_its_address Active from (Some d) ≡ true → is_superior Asking from (Owes at (Some command.Prepare)) ≡ true
+  prepare_asks (origin.Subordinate (Some x) superior) state.Enlisted owed peer address is fits here d same at = refl
+  prepare_asks (origin.Subordinate None superior) state.Enlisted owed peer address is fits here d same at = absurd (let e : is_same_address None (Some address) ≡ true = subst (λ p. is_same_address None p ≡ true) (same ∙ is) at in cc)
+  prepare_asks origin.Root state.Enlisted owed peer address is fits here d same at = absurd (cc)
+  prepare_asks from at owed peer address is fits here d same so = absurd (cc)
+
+  pub prepare_obeyed : is_enlisted_state c.state ≡ true → (phase : Phase) → t.phase ≡ phase → (peer : Option (List ℕ)) → c.peer ≡ peer → AllWhole (prepare phase peer c t (owed t.key t c w whole there found on side command.Prepare))
+  prepare_obeyed here Active is (Some address) peer =
+      let address_was : has_its_address Active t.origin (Some c) ≡ true = subst (λ f. has_its_address f t.origin (Some c) ≡ true) is (subst (λ o. has_its_address t.phase t.origin o ≡ true) (above_there t.key t c w whole there found on) (was t.key t c w whole there found on side command.Prepare).address) in
+      let fits = prepare_asks t.origin c.state c.owed (Some address) address refl (above_as command.Prepare Active is) here c peer address_was in
+      ask_whole t (owed t.key t c w whole there found on side command.Prepare) (is_superior Asking t.origin) (around_owed t.key t c w whole there found on side command.Prepare) (λ l fits. fits)
+      (owned_owed t.key t c w whole there found on side command.Prepare (is_superior Asking t.origin) may_ask_part (is_party Active) fits (λ l p fits. active_ask_part l p (subst (λ f. is_part_in f l p ≡ true) is fits)) (λ answer fits. subst (λ f. is_party f t.place answer ≡ true) is fits))
+  prepare_obeyed here Active is None peer = abort_owed t.key t c w whole there found on side command.Prepare (ap is_stoppable is) (prepare_from c.state t.origin (active_from t.origin c.state c.owed (above_as command.Prepare Active is)) here)
+  prepare_obeyed here Asking is peer same = absurd (never_asking t.origin c.state (subst (λ o. is_superior Asking t.origin (Owes c.state o) ≡ true) silent (above_as command.Prepare Asking is)))
+  prepare_obeyed here Prepared is peer same = absurd (both_ways (is_enlisted_state c.state) (doubt_apart t.origin c.state c.owed (above_as command.Prepare Prepared is)) here)
+  prepare_obeyed here Committed is peer same = absurd (never_committed t.origin c.state c.owed (above_as command.Prepare Committed is))
+  prepare_obeyed here Aborted is peer same = abort_owed t.key t c w whole there found on side command.Prepare (ap is_stoppable is) (prepare_from c.state t.origin (aborted_from t.origin c.state c.owed (above_as command.Prepare Aborted is)) here)

@@ -20,3 +20,4 @@ pub mod Restarts
 pub mod Resuming
 pub mod Sound
 pub mod Starts
+pub mod Superiors

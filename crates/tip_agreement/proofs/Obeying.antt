@@ -1,19 +1,18 @@
 -- A superior's command leaves a realm whole.
-use Rattle.std.proofs.Common.{◌≡◌, Bool, true, false, ℕ, List, [], ◌∷◌, Option, Some, None, cond, refl, ap, subst, sym, ◌∙◌, ◌⊎◌, inl, inr}
-use Rattle.std.specs.Prelude.{◌&&◌, ◌||◌, find, is_none, is_some, length}
+use Rattle.std.proofs.Common.{◌≡◌, Bool, true, false, ℕ, List, [], ◌∷◌, Option, Some, None, cond, refl, ap, subst, sym, ◌∙◌, inl}
+use Rattle.std.specs.Prelude.{find, is_some, length}
 use Rattle.std.proofs.lemmas.Bool.{and_from, and_parts, both_ways, or_left}
 use Rattle.tip_rows.specs.Keys.{Key}
 use Rattle.tip_branch.specs.Notes.{PartyNotes}
 use Rattle.tip_branch.specs.declared.member.Errand.TheVariants as errand
-use Rattle.tip_conn.specs.declared.state.Side.TheVariants.{Primary, Secondary}
+use Rattle.tip_conn.specs.declared.state.Side.TheVariants.{Secondary}
 use Rattle.tip_conn.specs.declared.state.State.{State as ConnectionState}
 use Rattle.tip_conn.specs.declared.state.State.TheVariants as state
 use Rattle.tip_line.specs.declared.command.CommandName.{CommandName}
 use Rattle.tip_line.specs.declared.command.CommandName.TheVariants as command
 use Rattle.tip_txn.specs.declared.answer.Ballot.{Ballot}
-use Rattle.tip_txn.specs.declared.answer.Ballot.TheVariants.{Yes, No, ReadOnly, Lost}
-use Rattle.tip_txn.specs.declared.answer.Phase.{Phase}
-use Rattle.tip_txn.specs.declared.answer.Phase.TheVariants.{Active, Asking, Prepared, Committed, Aborted}
+use Rattle.tip_txn.specs.declared.answer.Ballot.TheVariants.{ReadOnly}
+use Rattle.tip_txn.specs.declared.answer.Phase.TheVariants.{Active, Asking, Aborted}
 use Rattle.tip_txn.specs.declared.part.Participant.{Participant}
 use Rattle.tip_machine.specs.Changes.{change}
 use Rattle.tip_machine.specs.Connections.{asks_for, has_number, is_part_of, is_superior_of, owing, reaches}
@@ -21,12 +20,11 @@ use Rattle.tip_machine.specs.Invariants.Links.{Link, acts_as, link, link_on}
 use Rattle.tip_machine.specs.Invariants.Links.Link.{Gone, Owes, Awaits}
 use Rattle.tip_machine.specs.Invariants.Phases.{is_part, is_part_in, is_party, is_superior}
 use Rattle.tip_machine.specs.Proceeding.{abort, ask, asked_for_votes, enter, give_out, proceed}
-use Rattle.tip_machine.specs.States.{State, Work, connection_of, transaction_of}
+use Rattle.tip_machine.specs.States.{Work, connection_of, transaction_of}
 use Rattle.tip_machine.specs.Transactions.{entering, standing_at}
 use Rattle.tip_machine.specs.Types.{Connection, PartyPlace, Transaction}
 use Rattle.tip_machine.specs.declared.connection.Awaited.TheVariants as awaited
-use Rattle.tip_machine.specs.declared.connection.Role.{Role}
-use Rattle.tip_machine.specs.declared.connection.Role.TheVariants.{Superior, Subordinate}
+use Rattle.tip_machine.specs.declared.connection.Role.TheVariants.{Superior}
 use Rattle.tip_machine.specs.declared.transaction.Origin.{Origin}
 use Rattle.tip_machine.specs.declared.transaction.Origin.TheVariants as origin
 use Rattle.tip_machine.specs.declared.transaction.PartyPlace.TheVariants.{Here, Out, Spent}
@@ -36,7 +34,7 @@ use Rattle.tip_agreement.proofs.Around.{Around, Whole, alter_around, altered, ar
 use Rattle.tip_agreement.proofs.Closing.{above_there, have_same, in_table, untold_in, is_stoppable, known, stoppable_parts, stoppable_party}
 use Rattle.tip_agreement.proofs.Found.{find_apart, find_at}
 use Rattle.tip_agreement.proofs.Owned.{InPhase, Owned, alter_owned, have_parts, parts_from, key_self, once_superior, own_still}
-use Rattle.tip_agreement.proofs.Proceeding.{AllWhole, Follows, may_ask, may_ask_part, may_ask_party, proceed_whole}
+use Rattle.tip_agreement.proofs.Proceeding.{AllWhole, may_ask, may_ask_part, may_ask_party, proceed_whole}
 use Rattle.tip_agreement.proofs.Proceeding.Follows.{OfAsking}
 use Rattle.tip_agreement.proofs.Reacting.{Standing, standing}
 
@@ -136,7 +134,7 @@ asks_from state.Begun origin.Root = true
 asks_from state.Enlisted (origin.Subordinate address superior) = true
 asks_from at from = false
 
-abbrev is_enlisted_state : ConnectionState → Bool
+abbrev pub is_enlisted_state : ConnectionState → Bool
 is_enlisted_state state.Enlisted = true
 is_enlisted_state at = false
 
@@ -156,7 +154,7 @@ abort_from state.Enlisted (origin.Subordinate None superior) is = (refl, refl, r
 abort_from state.Enlisted (origin.Subordinate (Some address) superior) is = (refl, refl, refl)
 abort_from at from is = absurd (cc)
 
-prepare_from : (at : ConnectionState) (from : Origin) → asks_from at from ≡ true → is_enlisted_state at ≡ true → may_abort_above from (Owes at (Some command.Prepare)) ≡ true
+pub prepare_from : (at : ConnectionState) (from : Origin) → asks_from at from ≡ true → is_enlisted_state at ≡ true → may_abort_above from (Owes at (Some command.Prepare)) ≡ true
 prepare_from state.Enlisted (origin.Subordinate address superior) is here = refl
 prepare_from state.Begun from is here = absurd (cc)
 prepare_from at from is here = absurd (cc)

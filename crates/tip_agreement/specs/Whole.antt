@@ -1,6 +1,8 @@
 -- The invariants that say how a realm's connections and its transactions fit one another (ours).
 use Rattle.std.specs.Prelude.{◌≡◌, Bool, true, false}
 use Rattle.std.specs.List.{list_all}
+use Rattle.tip_line.specs.declared.command.CommandName.{CommandName}
+use Rattle.tip_line.specs.declared.command.CommandName.TheVariants as command
 use Rattle.tip_line.specs.declared.response.Response.{Response}
 use Rattle.tip_line.specs.declared.response.Response.TheVariants.{Pushed, AlreadyPushed, NotPushed, Prepared, ReadOnly, Committed, Aborted, Reconnected, NotReconnected}
 use Rattle.tip_conn.specs.declared.state.Side.{Side}
@@ -39,3 +41,10 @@ is_misplaced side Malformed = true
 is_misplaced Secondary (AResponse response) = true
 is_misplaced Primary (ACommand command) = true
 is_misplaced side heard = false
+
+-- what a superior says of its transaction (section 13)
+abbrev pub is_of_superior : CommandName → Bool
+is_of_superior command.Prepare = true
+is_of_superior command.Commit = true
+is_of_superior command.Abort = true
+is_of_superior other = false

@@ -22,7 +22,7 @@ ghost use Rattle.tip_conn.specs.declared.state.Side.TheVariants.{Primary, Second
 ghost use Rattle.tip_conn.specs.Table.{is_valid};
 ghost use Rattle.tip_line.specs.Command.{name_of};
 ghost use Rattle.tip_line.specs.declared.command.Command.{Command};
-ghost use Rattle.tip_agreement.specs.Whole.{IsWhole, is_answer_of, is_misplaced};
+ghost use Rattle.tip_agreement.specs.Whole.{IsWhole, is_answer_of, is_misplaced, is_of_superior};
 ghost use Rattle.tip_machine.specs.declared.event.Outcome.{Outcome};
 
 /// The invariants hold where a run begins, if no two rows in doubt are of one superior's transaction.
@@ -55,6 +55,13 @@ pub fn the_answers_of_a_subordinate_keep_it_whole()
     ensures { (serving : Serving) (world : World) (seat : Seat) (connection : Connection) (awaited : Awaited) (response : Response) (outcome : Outcome) → IsSound world →
         seated seat world.state ≡ Some connection → connection.side ≡ Primary → connection.awaited ≡ Some awaited → is_answer_of awaited response ≡ true →
         IsWhole (step_serving serving world.state (Line seat (AResponse response)) outcome).state }
+{}
+
+/// So does each command of a superior, PREPARE, COMMIT and ABORT, in each phase of its transaction.
+pub fn the_commands_of_a_superior_keep_it_whole()
+    ensures { (serving : Serving) (world : World) (seat : Seat) (connection : Connection) (command : Command) (outcome : Outcome) → IsSound world →
+        seated seat world.state ≡ Some connection → connection.side ≡ Secondary → is_of_superior (name_of command) ≡ true →
+        IsWhole (step_serving serving world.state (Line seat (ACommand command)) outcome).state }
 {}
 
 /// So does a line that is out of place: no line of ours, one for the other side, or a command that the state doesn't admit.
