@@ -1,4 +1,5 @@
 pub mod Aborting
+pub mod Alone
 pub mod Answering
 pub mod Apart
 pub mod Around
