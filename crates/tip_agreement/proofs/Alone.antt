@@ -1,12 +1,11 @@
 -- Commands that are answered at once, on a connection that is on no transaction, leave a realm whole.
-use Rattle.std.proofs.Common.{◌≡◌, Bool, true, false, ℕ, List, Option, Some, None, cond, refl, ap, subst, sym, ◌∙◌, inr}
-use Rattle.std.specs.Prelude.{◌&&◌, ◌||◌, find, is_some, nat_le}
+use Rattle.std.proofs.Common.{◌≡◌, Bool, true, false, ℕ, List, Option, Some, None, cond, refl, ap, subst, ◌∙◌, inr}
+use Rattle.std.specs.Prelude.{◌&&◌, is_some, nat_le}
 use Rattle.std.specs.Option.{option_map_or}
-use Rattle.std.proofs.lemmas.Bool.{and_from, and_parts, both_ways, or_right}
+use Rattle.std.proofs.lemmas.Bool.{and_from, both_ways, or_right}
 use Rattle.tip_rows.specs.Keys.{Key}
 use Rattle.tip_conn.specs.Table.{is_valid, next_of}
-use Rattle.tip_conn.specs.declared.state.Side.{Side}
-use Rattle.tip_conn.specs.declared.state.Side.TheVariants.{Primary, Secondary}
+use Rattle.tip_conn.specs.declared.state.Side.TheVariants.{Secondary}
 use Rattle.tip_conn.specs.declared.state.State.{State as ConnectionState}
 use Rattle.tip_conn.specs.declared.state.State.TheVariants as state
 use Rattle.tip_conn.specs.declared.state.Turn.TheVariants.{Keep, Original}
@@ -15,17 +14,22 @@ use Rattle.tip_line.specs.declared.command.Command.{Command}
 use Rattle.tip_line.specs.declared.command.Command.TheVariants as commands
 use Rattle.tip_line.specs.declared.command.CommandName.{CommandName}
 use Rattle.tip_line.specs.declared.command.CommandName.TheVariants as command
+use Rattle.tip_line.specs.declared.response.ResponseName.TheVariants as response
+use Rattle.tip_machine.specs.Failing.{wrong}
+use Rattle.tip_machine.specs.declared.answer.Item.TheVariants.{Say}
+use Rattle.tip_machine.proofs.Walks.{either}
+use Rattle.tip_agreement.specs.Whole.{is_at_once}
 use Rattle.tip_txn.specs.declared.answer.Phase.{Phase}
 use Rattle.tip_txn.specs.declared.answer.Phase.TheVariants.{Active, Asking, Prepared, Committed, Aborted}
 use Rattle.tip_machine.specs.Alone.{is_early}
 use Rattle.tip_machine.specs.Answers.{response_name}
-use Rattle.tip_machine.specs.Changes.{change, reply}
-use Rattle.tip_machine.specs.Commands.{exists, query, serve}
-use Rattle.tip_machine.specs.Connections.{advanced, advanced_to, asks_for, has_number, is_on, is_part_of, is_superior_of, names, reaches}
-use Rattle.tip_machine.specs.Invariants.Links.{Link}
-use Rattle.tip_machine.specs.Invariants.Links.Link.{Gone, Owes, Awaits}
+use Rattle.tip_machine.specs.Changes.{change, reply, tell}
+use Rattle.tip_machine.specs.Commands.{exists, identify, query, serve}
+use Rattle.tip_machine.specs.Connections.{advanced, advanced_to, asks_for, has_number, identified, is_on, is_part_of, is_superior_of, names, reaches}
+use Rattle.tip_machine.specs.Invariants.Links.{has_its_side, is_on_none, link_on}
+use Rattle.tip_machine.specs.Invariants.Links.Link.{Owes}
 use Rattle.tip_machine.specs.Invariants.Phases.{is_superior}
-use Rattle.tip_machine.specs.States.{State, Work, connection_of, identified_by, transaction_of}
+use Rattle.tip_machine.specs.States.{Work, connection_of, identified_by, transaction_of}
 use Rattle.tip_machine.specs.Types.{Connection, Transaction}
 use Rattle.tip_machine.specs.declared.answer.Said.{Said}
 use Rattle.tip_machine.specs.declared.answer.Said.TheVariants as said
@@ -34,12 +38,12 @@ use Rattle.tip_machine.specs.declared.connection.Role.TheVariants.{Superior, Sub
 use Rattle.tip_machine.specs.declared.transaction.Origin.{Origin}
 use Rattle.tip_machine.specs.declared.transaction.Origin.TheVariants as origin
 use Rattle.tip_agreement.proofs.Apart.{all_found}
-use Rattle.tip_agreement.proofs.Around.{Alike, Whole, around_of, asks_as, beside, is_placed, set, stands}
-use Rattle.tip_agreement.proofs.Closing.{whole_alike}
+use Rattle.tip_agreement.proofs.Around.{Whole, around_of, asks_as, beside, is_placed, set, stands}
+use Rattle.tip_agreement.proofs.Closing.{closed_whole, whole_alike, wrong_whole}
 use Rattle.tip_agreement.proofs.Found.{any_apart, find_apart}
 use Rattle.tip_agreement.proofs.Obeying.{link_was}
 use Rattle.tip_agreement.proofs.Proceeding.{AllWhole}
-use Rattle.tip_agreement.proofs.Reacting.{Standing, idle, standing}
+use Rattle.tip_agreement.proofs.Reacting.{Standing, acts_free, idle, standing}
 
 -- A connection on no transaction changes, and stays on none
 
@@ -144,3 +148,59 @@ pub multiplex_whole : (protocol : List ℕ) (c : Connection) (w : Work) → Whol
 multiplex_whole protocol c w whole there side valid =
     let at = multiplex_at c.state valid in
     replied_idle c w whole there side (ap is_early at) command.Multiplex said.CantMultiplex (ap (λ s. next_of command.Multiplex s (response_name said.CantMultiplex)) at ∙ multiplex_next)
+
+-- TLS and IDENTIFY
+
+tls_at : (at : ConnectionState) → is_valid command.Tls at ≡ true → at ≡ state.Initial
+unfolding is_valid
+tls_at state.Initial valid = refl
+tls_at at valid = absurd (cc)
+
+identify_at : (at : ConnectionState) → is_valid command.Identify at ≡ true → at ≡ state.Initial
+unfolding is_valid
+identify_at state.Initial valid = refl
+identify_at at valid = absurd (cc)
+
+tls_next : next_of command.Tls state.Initial (response_name said.CantTls) ≡ Some (state.Initial, Keep)
+unfolding next_of
+tls_next = refl
+
+identify_next : next_of command.Identify state.Initial response.Identified ≡ Some (state.Idle, Original)
+unfolding next_of
+identify_next = refl
+
+module _ (c : Connection) (w : Work) (whole : Whole w.state) (there : connection_of c.number w.state ≡ Some c) (side : c.side ≡ Secondary) where
+  abbrev initial : Connection
+  initial = record c { state = state.Initial; owed = None; awaited = None }
+
+  initial_stands : c.state ≡ state.Initial → c.role ≡ None → stands w.state initial ≡ true
+  initial_stands at none =
+      let known = known_there c w whole there side (ap is_early at) in
+      let its_side : has_its_side initial ≡ true = subst (λ s. has_its_side (record c { state = s }) ≡ true) at known.side in
+      and_from _ _ (and_from _ _ (and_from _ _ (and_from _ _ (acts_free w.state c c.side state.Initial c.role) its_side) (or_right _ _ (ap (λ s. is_on_none (link_on s initial)) side))) known.asks) known.placed
+
+  pub tls_whole : is_valid command.Tls c.state ≡ true → AllWhole (serve commands.Tls c w)
+  unfolding reply
+  tls_whole valid =
+      let at = tls_at c.state valid in
+      let none = role_none c w whole there side (ap is_early at) in
+      let is : advanced command.Tls (response_name said.CantTls) c ≡ initial = ap (λ place. advanced_to place c) (ap (λ s. next_of command.Tls s (response_name said.CantTls)) at ∙ tls_next) in
+      alone_set (advanced command.Tls (response_name said.CantTls)) c w there none (ap (λ (d : Connection). d.role) is ∙ none) (ap (stands w.state) is ∙ initial_stands at none) whole
+
+  pub identify_whole : (lowest highest : ℕ) (peer secondary : Option (List ℕ)) → is_valid command.Identify c.state ≡ true → Whole (identify lowest highest peer c w).state
+  unfolding identify
+  identify_whole lowest highest peer secondary valid =
+      let at = identify_at c.state valid in
+      let none = role_none c w whole there side (ap is_early at) in
+      let is : advanced command.Identify response.Identified c ≡ advanced_to (Some (state.Idle, Original)) c = ap (λ place. advanced_to place c) (ap (λ s. next_of command.Identify s response.Identified) at ∙ identify_next) in
+      either (λ v. Whole v.state) (nat_le lowest 3 && nat_le 3 highest) (change c.number (identified peer) (tell c.number (Say said.Identified) w)) (wrong c w)
+      (alone_set (identified peer) c (tell c.number (Say said.Identified) w) there none (ap (λ (d : Connection). d.role) is) (ap (λ (d : Connection). stands w.state (record d { peer = peer })) is ∙ idle w.state (record c { peer = peer })) whole) (wrong_whole c w whole there)
+
+  -- each command that is answered at once
+  pub at_once_whole : (line : Command) → is_at_once line ≡ true → is_valid (name_of line) c.state ≡ true → AllWhole (serve line c w)
+  at_once_whole (commands.Identify lowest highest peer secondary) is valid = identify_whole lowest highest peer peer valid
+  at_once_whole (commands.Query superior) is valid = query_whole superior c w whole there side valid
+  at_once_whole (commands.Multiplex protocol) is valid = multiplex_whole protocol c w whole there side valid
+  at_once_whole commands.Tls is valid = tls_whole valid
+  at_once_whole commands.Error is valid = closed_whole c w whole there
+  at_once_whole line is valid = absurd (cc)

@@ -34,7 +34,8 @@ use Rattle.tip_machine.specs.declared.event.Heard.TheVariants.{Command as AComma
 use Rattle.tip_machine.specs.declared.event.Outcome.{Outcome}
 use Rattle.tip_machine.specs.declared.event.Seat.{Seat}
 use Rattle.tip_machine.proofs.Walks.{either_attempt, seated_there}
-use Rattle.tip_agreement.specs.Whole.{IsWhole, is_of_superior}
+use Rattle.tip_agreement.specs.Whole.{IsWhole, is_at_once, is_of_superior}
+use Rattle.tip_agreement.proofs.Alone.{at_once_whole}
 use Rattle.tip_agreement.proofs.Apart.{all_found}
 use Rattle.tip_agreement.proofs.Around.{Whole, asks_as, is_placed, stands}
 use Rattle.tip_agreement.proofs.Closing.{wrong_whole}
@@ -132,3 +133,14 @@ superior_line c w whole there side serving command is = step (may_take c) refl w
 
 pub obeying_keeps : (serving : Serving) (world : World) (seat : Seat) (c : Connection) (command : Command) (outcome : Outcome) → IsSound world → seated seat world.state ≡ Some c → c.side ≡ Secondary → is_of_superior (name_of command) ≡ true → IsWhole (step_serving serving world.state (Line seat (ACommand command)) outcome).state
 obeying_keeps serving world seat c command outcome sound seats side is = keeps_with serving world (Line seat (ACommand command)) outcome (λ whole. subst (λ o. AllWhole (line serving o (ACommand command) (entered world.state))) (sym seats) (superior_line c (entered world.state) (entered_whole world.state whole) (seated_there seat world.state c seats) side serving command is)) sound
+
+-- commands that are answered at once
+at_once_line : (c : Connection) (w : Work) → Whole w.state → connection_of c.number w.state ≡ Some c → c.side ≡ Secondary → (serving : Serving) (command : Command) → is_at_once command ≡ true → AllWhole (line serving (Some c) (ACommand command) w)
+unfolding line
+at_once_line c w whole there side serving command is = step (may_take c) refl where
+  step : (b : Bool) → may_take c ≡ b → AllWhole (cond b (hear serving c.side (ACommand command) c w) (Attempt.Done (refuse Busy w)))
+  step true turn = let silent = nothing_owed c turn in taken_in_turn c w whole there side silent serving command (served_or_not c w whole there side silent serving command (at_once_whole c w whole there side command is))
+  step false turn = whole
+
+pub at_once_keeps : (serving : Serving) (world : World) (seat : Seat) (c : Connection) (command : Command) (outcome : Outcome) → IsSound world → seated seat world.state ≡ Some c → c.side ≡ Secondary → is_at_once command ≡ true → IsWhole (step_serving serving world.state (Line seat (ACommand command)) outcome).state
+at_once_keeps serving world seat c command outcome sound seats side is = keeps_with serving world (Line seat (ACommand command)) outcome (λ whole. subst (λ o. AllWhole (line serving o (ACommand command) (entered world.state))) (sym seats) (at_once_line c (entered world.state) (entered_whole world.state whole) (seated_there seat world.state c seats) side serving command is)) sound

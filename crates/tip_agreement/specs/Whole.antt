@@ -1,6 +1,8 @@
 -- The invariants that say how a realm's connections and its transactions fit one another (ours).
 use Rattle.std.specs.Prelude.{◌≡◌, Bool, true, false}
 use Rattle.std.specs.List.{list_all}
+use Rattle.tip_line.specs.declared.command.Command.{Command}
+use Rattle.tip_line.specs.declared.command.Command.TheVariants as commands
 use Rattle.tip_line.specs.declared.command.CommandName.{CommandName}
 use Rattle.tip_line.specs.declared.command.CommandName.TheVariants as command
 use Rattle.tip_line.specs.declared.response.Response.{Response}
@@ -48,3 +50,12 @@ is_of_superior command.Prepare = true
 is_of_superior command.Commit = true
 is_of_superior command.Abort = true
 is_of_superior other = false
+
+-- what is answered at once, whatever the transactions are (section 13)
+abbrev pub is_at_once : Command → Bool
+is_at_once (commands.Identify lowest highest primary secondary) = true
+is_at_once (commands.Query superior) = true
+is_at_once (commands.Multiplex protocol) = true
+is_at_once commands.Tls = true
+is_at_once commands.Error = true
+is_at_once other = false

@@ -22,7 +22,7 @@ ghost use Rattle.tip_conn.specs.declared.state.Side.TheVariants.{Primary, Second
 ghost use Rattle.tip_conn.specs.Table.{is_valid};
 ghost use Rattle.tip_line.specs.Command.{name_of};
 ghost use Rattle.tip_line.specs.declared.command.Command.{Command};
-ghost use Rattle.tip_agreement.specs.Whole.{IsWhole, is_answer_of, is_misplaced, is_of_superior};
+ghost use Rattle.tip_agreement.specs.Whole.{IsWhole, is_answer_of, is_at_once, is_misplaced, is_of_superior};
 ghost use Rattle.tip_machine.specs.declared.event.Outcome.{Outcome};
 
 /// The invariants hold where a run begins, if no two rows in doubt are of one superior's transaction.
@@ -61,6 +61,13 @@ pub fn the_answers_of_a_subordinate_keep_it_whole()
 pub fn the_commands_of_a_superior_keep_it_whole()
     ensures { (serving : Serving) (world : World) (seat : Seat) (connection : Connection) (command : Command) (outcome : Outcome) → IsSound world →
         seated seat world.state ≡ Some connection → connection.side ≡ Secondary → is_of_superior (name_of command) ≡ true →
+        IsWhole (step_serving serving world.state (Line seat (ACommand command)) outcome).state }
+{}
+
+/// So does each command that is answered at once: IDENTIFY, QUERY, MULTIPLEX, TLS and ERROR.
+pub fn commands_answered_at_once_keep_it_whole()
+    ensures { (serving : Serving) (world : World) (seat : Seat) (connection : Connection) (command : Command) (outcome : Outcome) → IsSound world →
+        seated seat world.state ≡ Some connection → connection.side ≡ Secondary → is_at_once command ≡ true →
         IsWhole (step_serving serving world.state (Line seat (ACommand command)) outcome).state }
 {}
 
