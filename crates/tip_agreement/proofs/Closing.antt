@@ -146,7 +146,7 @@ untold_in Aborted can part link is = step (not part.acknowledged) is where
 untold_in Prepared can part link is = absurd (cc)
 untold_in Committed can part link is = absurd (cc)
 
-gone_may_abort : (from : Origin) → may_abort_above from Gone ≡ true
+pub gone_may_abort : (from : Origin) → may_abort_above from Gone ≡ true
 gone_may_abort origin.Root = refl
 gone_may_abort (origin.Subordinate address superior) = refl
 

@@ -15,6 +15,7 @@ pub mod Leaving
 pub mod Obeying
 pub mod Owned
 pub mod Proceeding
+pub mod Pulling
 pub mod Reacting
 pub mod Responding
 pub mod Restarts
