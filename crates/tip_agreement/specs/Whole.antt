@@ -6,7 +6,7 @@ use Rattle.tip_line.specs.declared.command.Command.TheVariants as commands
 use Rattle.tip_line.specs.declared.command.CommandName.{CommandName}
 use Rattle.tip_line.specs.declared.command.CommandName.TheVariants as command
 use Rattle.tip_line.specs.declared.response.Response.{Response}
-use Rattle.tip_line.specs.declared.response.Response.TheVariants.{Pushed, AlreadyPushed, NotPushed, Prepared, ReadOnly, Committed, Aborted, Reconnected, NotReconnected}
+use Rattle.tip_line.specs.declared.response.Response.TheVariants.{Identified, QueriedExists, QueriedNotFound}
 use Rattle.tip_conn.specs.declared.state.Side.{Side}
 use Rattle.tip_conn.specs.declared.state.Side.TheVariants.{Primary, Secondary}
 use Rattle.tip_machine.specs.declared.event.Heard.{Heard}
@@ -15,7 +15,7 @@ use Rattle.tip_machine.specs.Invariants.Links.{have_roles, is_connected}
 use Rattle.tip_machine.specs.Invariants.Phases.{is_transaction}
 use Rattle.tip_machine.specs.States.{State}
 use Rattle.tip_machine.specs.declared.connection.Awaited.{Awaited}
-use Rattle.tip_machine.specs.declared.connection.Awaited.TheVariants.{Push, Prepare, Commit, Abort, Reconnect}
+use Rattle.tip_machine.specs.declared.connection.Awaited.TheVariants.{Identify, Query}
 
 -- three of the invariants, which hold only together
 pub record IsWhole (state : State) : Type 0 where
@@ -23,19 +23,12 @@ pub record IsWhole (state : State) : Type 0 where
   pub connections : list_all is_connected state.connections ≡ true
   pub transactions : list_all (is_transaction state) state.transactions ≡ true
 
--- what a subordinate answers to each command that we say to it (section 13)
-abbrev pub is_answer_of : Awaited → Response → Bool
-is_answer_of Push (Pushed id) = true
-is_answer_of Push (AlreadyPushed id) = true
-is_answer_of Push NotPushed = true
-is_answer_of Prepare Prepared = true
-is_answer_of Prepare Aborted = true
-is_answer_of Prepare ReadOnly = true
-is_answer_of Commit Committed = true
-is_answer_of Abort Aborted = true
-is_answer_of Reconnect Reconnected = true
-is_answer_of Reconnect NotReconnected = true
-is_answer_of awaited response = false
+-- what is answered once we have said who we are, or have asked whether a transaction still exists (section 13)
+abbrev pub is_news : Awaited → Response → Bool
+is_news (Identify purpose) (Identified version) = true
+is_news (Query key) QueriedExists = true
+is_news (Query key) QueriedNotFound = true
+is_news awaited response = false
 
 -- a line that is taken on neither side: no line of ours, a response to its secondary, or a command to its primary (section 12)
 abbrev pub is_misplaced : Side → Heard → Bool
