@@ -39,7 +39,7 @@ use Rattle.tip_agreement.proofs.Proceeding.{AllWhole, may_ask_part}
 
 -- Where it hangs up after all, nothing is owed any more
 
-same_without : (n : ℕ) (f : Connection → Connection) (cs : List Connection) → ((c : Connection) → (f c).number ≡ c.number) → without (has_number n) (changed (has_number n) f cs) ≡ without (has_number n) cs
+pub same_without : (n : ℕ) (f : Connection → Connection) (cs : List Connection) → ((c : Connection) → (f c).number ≡ c.number) → without (has_number n) (changed (has_number n) f cs) ≡ without (has_number n) cs
 same_without n f [] same = refl
 same_without n f (c ∷ cs) same = step (has_number n c) refl (same_without n f cs same) where
   step : (b : Bool) → has_number n c ≡ b → without (has_number n) (changed (has_number n) f cs) ≡ without (has_number n) cs → without (has_number n) (cond b (f c ∷ cs) (c ∷ changed (has_number n) f cs)) ≡ cond b cs (c ∷ without (has_number n) cs)
@@ -65,10 +65,10 @@ told_none false is = is
 doubt_commits : (link : Link) (part : Participant) → is_part_in Prepared link part ≡ true → may_commit_part link part ≡ true
 doubt_commits link part is = let a = in_table Prepared link part is in and_from _ _ (and_from _ _ (prepared_commit link part.answer a.fits).0 (or_left _ _ (told_none _ a.told))) a.named
 
-doubt_aborts : (link : Link) (part : Participant) → is_part_in Prepared link part ≡ true → may_abort_part link part ≡ true
+pub doubt_aborts : (link : Link) (part : Participant) → is_part_in Prepared link part ≡ true → may_abort_part link part ≡ true
 doubt_aborts link part is = let a = in_table Prepared link part is in and_from _ _ (and_from _ _ (prepared_commit link part.answer a.fits).1 (told_none _ a.told)) a.named
 
-doubt_party : (place : PartyPlace) (answer : Option Ballot) → is_party Prepared place answer ≡ true → may_abort_party place answer ≡ true
+pub doubt_party : (place : PartyPlace) (answer : Option Ballot) → is_party Prepared place answer ≡ true → may_abort_party place answer ≡ true
 doubt_party (Here party) answer is = refl
 doubt_party Spent answer is = refl
 doubt_party (Out errand) answer is = absurd (cc)

@@ -29,16 +29,17 @@ use Rattle.tip_machine.specs.declared.event.Heard.TheVariants.{Command as AComma
 use Rattle.tip_machine.specs.declared.event.Outcome.{Outcome}
 use Rattle.tip_machine.specs.declared.event.Seat.{Seat}
 use Rattle.tip_machine.proofs.Walks.{either_attempt, seated_there}
-use Rattle.tip_agreement.specs.Whole.{IsWhole, is_misplaced, is_news}
+use Rattle.tip_agreement.specs.Whole.{IsWhole, is_misplaced, is_greeting}
 use Rattle.tip_agreement.proofs.Answering.{aborted_so, already_pushed_whole, committed_so, not_pushed_whole, not_reconnected_whole, prepared_whole, pushed_whole, read_only_whole, reconnected_whole, refused_whole}
 use Rattle.tip_agreement.proofs.Around.{Whole}
+use Rattle.tip_agreement.proofs.Asking.{exists_whole, not_found_whole}
 use Rattle.tip_agreement.proofs.Pulling.{not_pulled_whole, pulled_whole}
 use Rattle.tip_agreement.proofs.Closing.{closed_whole, wrong_whole}
 use Rattle.tip_agreement.proofs.Events.{entered_whole, keeps_with}
 use Rattle.tip_agreement.proofs.Proceeding.{AllWhole}
 
 module _ (c : Connection) (w : Work) (whole : Whole w.state) (there : connection_of c.number w.state ≡ Some c) (side : c.side ≡ Primary) where
-  answered_whole : (a : Awaited) (response : Response) → c.awaited ≡ Some a → is_news a response ≡ false → AllWhole (responded a response c w)
+  answered_whole : (a : Awaited) (response : Response) → c.awaited ≡ Some a → is_greeting a response ≡ false → AllWhole (responded a response c w)
   answered_whole (Identify purpose) (Identified version) waits is = absurd (cc)
   answered_whole Push (Pushed id) waits is = pushed_whole id c w whole there side waits
   answered_whole Push (AlreadyPushed id) waits is = already_pushed_whole c w whole there side waits
@@ -50,22 +51,22 @@ module _ (c : Connection) (w : Work) (whole : Whole w.state) (there : connection
   answered_whole Prepare ReadOnly waits is = read_only_whole c w whole there side waits
   answered_whole Commit Committed waits is = committed_so c w whole there side waits
   answered_whole Abort Aborted waits is = aborted_so c w whole there side waits
-  answered_whole (Query key) QueriedExists waits is = absurd (cc)
-  answered_whole (Query key) QueriedNotFound waits is = absurd (cc)
+  answered_whole (Query key) QueriedExists waits is = exists_whole key c w whole there side waits
+  answered_whole (Query key) QueriedNotFound waits is = not_found_whole key c w whole there side waits
   answered_whole Reconnect Reconnected waits is = reconnected_whole c w whole there side waits
   answered_whole Reconnect NotReconnected waits is = not_reconnected_whole c w whole there side waits
   answered_whole a NeedTls waits is = closed_whole c w whole there
   answered_whole a Error waits is = closed_whole c w whole there
   answered_whole a response waits is = wrong_whole c w whole there
 
-  heard_whole : (serving : Serving) (a : Awaited) (response : Response) → c.awaited ≡ Some a → is_news a response ≡ false → AllWhole (hear serving c.side (AResponse response) c w)
+  heard_whole : (serving : Serving) (a : Awaited) (response : Response) → c.awaited ≡ Some a → is_greeting a response ≡ false → AllWhole (hear serving c.side (AResponse response) c w)
   heard_whole serving a response waits is = subst (λ s. AllWhole (hear serving s (AResponse response) c w)) (sym side) (subst (λ o. AllWhole (answered_by o response c w)) (sym waits) (answered_whole a response waits is))
 
-  line_whole : (serving : Serving) (a : Awaited) (response : Response) → c.awaited ≡ Some a → is_news a response ≡ false → AllWhole (line serving (Some c) (AResponse response) w)
+  line_whole : (serving : Serving) (a : Awaited) (response : Response) → c.awaited ≡ Some a → is_greeting a response ≡ false → AllWhole (line serving (Some c) (AResponse response) w)
   unfolding line
   line_whole serving a response waits is = either_attempt AllWhole (may_take c) (hear serving c.side (AResponse response) c w) (Attempt.Done (refuse Busy w)) (heard_whole serving a response waits is) whole
 
-pub answering_keeps : (serving : Serving) (world : World) (seat : Seat) (c : Connection) (a : Awaited) (response : Response) (outcome : Outcome) → IsSound world → seated seat world.state ≡ Some c → c.side ≡ Primary → c.awaited ≡ Some a → is_news a response ≡ false → IsWhole (step_serving serving world.state (Line seat (AResponse response)) outcome).state
+pub answering_keeps : (serving : Serving) (world : World) (seat : Seat) (c : Connection) (a : Awaited) (response : Response) (outcome : Outcome) → IsSound world → seated seat world.state ≡ Some c → c.side ≡ Primary → c.awaited ≡ Some a → is_greeting a response ≡ false → IsWhole (step_serving serving world.state (Line seat (AResponse response)) outcome).state
 answering_keeps serving world seat c a response outcome sound seats side waits is =
     let w = entered world.state in
     keeps_with serving world (Line seat (AResponse response)) outcome (λ whole. subst (λ o. AllWhole (line serving o (AResponse response) w)) (sym seats) (line_whole c w (entered_whole world.state whole) (seated_there seat world.state c seats) side serving a response waits is)) sound

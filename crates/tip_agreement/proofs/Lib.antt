@@ -3,6 +3,7 @@ pub mod Alone
 pub mod Answering
 pub mod Apart
 pub mod Around
+pub mod Asking
 pub mod Closing
 pub mod Commanding
 pub mod Deciding

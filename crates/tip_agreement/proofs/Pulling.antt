@@ -1,10 +1,10 @@
 -- The answers to our PULL leave a realm whole.
-use Rattle.std.proofs.Common.{◌≡◌, Bool, true, false, ℕ, suc, zero, List, [], ◌∷◌, Option, Some, None, cond, refl, ap, subst, sym, ◌∙◌, ◌⊎◌, inl, inr}
+use Rattle.std.proofs.Common.{◌≡◌, Bool, true, false, ℕ, suc, zero, List, [], ◌∷◌, Option, Some, None, cond, refl, ap, subst, sym, ◌∙◌, inl, inr}
 use Rattle.std.specs.Prelude.{◌&&◌, ◌||◌, not, find, is_some, length, nat_le, nat_lt}
 use Rattle.std.specs.List.{list_any}
 use Rattle.std.specs.Option.{option_map_or}
 use Rattle.std.proofs.lemmas.Bool.{and_from, and_parts, both_ways, or_left}
-use Rattle.std.proofs.lemmas.Option.{none-some, same_Some}
+use Rattle.std.proofs.lemmas.Option.{same_Some}
 use Rattle.tip_rows.specs.Keys.{Key}
 use Rattle.tip_table.specs.Lists.{changed}
 use Rattle.tip_conn.specs.Table.{next_of}
@@ -22,7 +22,7 @@ use Rattle.tip_txn.specs.declared.part.Participant.{Participant}
 use Rattle.tip_machine.specs.Changes.{change}
 use Rattle.tip_machine.specs.Connections.{advanced, advanced_to, asks_for, has_number, is_on, is_part_of, is_superior_of, names, opposite, reaches}
 use Rattle.tip_machine.specs.Invariants.Links.{Link, is_on_none, link, link_on}
-use Rattle.tip_machine.specs.Invariants.Links.Link.{Gone, Owes, Awaits}
+use Rattle.tip_machine.specs.Invariants.Links.Link.{Owes, Awaits}
 use Rattle.tip_machine.specs.Invariants.Phases.{has_its_address, is_over, is_part, is_part_in, is_party, is_superior}
 use Rattle.tip_machine.specs.Proceeding.{abort}
 use Rattle.tip_machine.specs.Responses.{abort_as, go_on}
@@ -52,7 +52,7 @@ any_kept p test f (d ∷ cs) c is same = step (test d) is (λ later. any_kept p 
   step true is later = ap (λ b. b || list_any p cs) (subst (λ x. p (f x) ≡ p x) (sym (same_Some d c is)) same)
   step false is later = ap (λ b. p d || b) (later is)
 
-link_before : (t : Transaction) (c : Connection) (w : Work) (whole : Whole w.state) (there : connection_of c.number w.state ≡ Some c) (found : transaction_of t.key w.state ≡ Some t) → c.role ≡ Some (Superior t.key) → is_superior t.phase t.origin (link_on c.side c) ≡ true
+pub link_before : (t : Transaction) (c : Connection) (w : Work) (whole : Whole w.state) (there : connection_of c.number w.state ≡ Some c) (found : transaction_of t.key w.state ≡ Some t) → c.role ≡ Some (Superior t.key) → is_superior t.phase t.origin (link_on c.side c) ≡ true
 link_before t c w whole there found on = subst (λ o. is_superior t.phase t.origin (link o) ≡ true) (above_there t.key t c w whole there found on) (known t.key t c w whole there found).owned.above
 
 module _ (t : Transaction) (c : Connection) (w : Work) (whole : Whole w.state) (there : connection_of c.number w.state ≡ Some c) (found : transaction_of t.key w.state ≡ Some t) (on : c.role ≡ Some (Superior t.key)) (f : Connection → Connection) (becomes : Becomes w.state c (f c)) where

@@ -6,7 +6,7 @@ use Rattle.tip_line.specs.declared.command.Command.TheVariants as commands
 use Rattle.tip_line.specs.declared.command.CommandName.{CommandName}
 use Rattle.tip_line.specs.declared.command.CommandName.TheVariants as command
 use Rattle.tip_line.specs.declared.response.Response.{Response}
-use Rattle.tip_line.specs.declared.response.Response.TheVariants.{Identified, QueriedExists, QueriedNotFound}
+use Rattle.tip_line.specs.declared.response.Response.TheVariants.{Identified}
 use Rattle.tip_conn.specs.declared.state.Side.{Side}
 use Rattle.tip_conn.specs.declared.state.Side.TheVariants.{Primary, Secondary}
 use Rattle.tip_machine.specs.declared.event.Heard.{Heard}
@@ -15,7 +15,7 @@ use Rattle.tip_machine.specs.Invariants.Links.{have_roles, is_connected}
 use Rattle.tip_machine.specs.Invariants.Phases.{is_transaction}
 use Rattle.tip_machine.specs.States.{State}
 use Rattle.tip_machine.specs.declared.connection.Awaited.{Awaited}
-use Rattle.tip_machine.specs.declared.connection.Awaited.TheVariants.{Identify, Query}
+use Rattle.tip_machine.specs.declared.connection.Awaited.TheVariants.{Identify}
 
 -- three of the invariants, which hold only together
 pub record IsWhole (state : State) : Type 0 where
@@ -23,12 +23,10 @@ pub record IsWhole (state : State) : Type 0 where
   pub connections : list_all is_connected state.connections ≡ true
   pub transactions : list_all (is_transaction state) state.transactions ≡ true
 
--- what is answered once we have said who we are, or have asked whether a transaction still exists (section 13)
-abbrev pub is_news : Awaited → Response → Bool
-is_news (Identify purpose) (Identified version) = true
-is_news (Query key) QueriedExists = true
-is_news (Query key) QueriedNotFound = true
-is_news awaited response = false
+-- what is answered to our IDENTIFY, of a version that we may speak or of one that we don't (section 13)
+abbrev pub is_greeting : Awaited → Response → Bool
+is_greeting (Identify purpose) (Identified version) = true
+is_greeting awaited response = false
 
 -- a line that is taken on neither side: no line of ours, a response to its secondary, or a command to its primary (section 12)
 abbrev pub is_misplaced : Side → Heard → Bool

@@ -22,7 +22,7 @@ ghost use Rattle.tip_conn.specs.declared.state.Side.TheVariants.{Primary, Second
 ghost use Rattle.tip_conn.specs.Table.{is_valid};
 ghost use Rattle.tip_line.specs.Command.{name_of};
 ghost use Rattle.tip_line.specs.declared.command.Command.{Command};
-ghost use Rattle.tip_agreement.specs.Whole.{IsWhole, is_at_once, is_misplaced, is_news, is_of_superior};
+ghost use Rattle.tip_agreement.specs.Whole.{IsWhole, is_at_once, is_greeting, is_misplaced, is_of_superior};
 ghost use Rattle.tip_machine.specs.declared.event.Outcome.{Outcome};
 
 /// The invariants hold where a run begins, if no two rows in doubt are of one superior's transaction.
@@ -49,12 +49,11 @@ pub fn connections_that_come_and_go_keep_it_whole()
     ensures lost { (serving : Serving) (world : World) (seat : Seat) (outcome : Outcome) → IsSound world → IsWhole (step_serving serving world.state (Lost seat) outcome).state }
 {}
 
-/// So does each response that we await, of a subordinate or of a superior from whom we pull, and one that is none, with all that
-/// follows from it: the next question, the promise, the commit, the abort or the end of its transaction, whatever becomes of the
-/// rows. The news that a connection is identified, or that a superior still knows a transaction or has forgotten it, is not among them.
+/// So does each response to a command of ours but IDENTIFY, and one that is none, with all that follows from it: the next
+/// question, the promise, the commit, the abort or the end of its transaction, whatever becomes of the rows.
 pub fn the_answers_to_our_commands_keep_it_whole()
     ensures { (serving : Serving) (world : World) (seat : Seat) (connection : Connection) (awaited : Awaited) (response : Response) (outcome : Outcome) → IsSound world →
-        seated seat world.state ≡ Some connection → connection.side ≡ Primary → connection.awaited ≡ Some awaited → is_news awaited response ≡ false →
+        seated seat world.state ≡ Some connection → connection.side ≡ Primary → connection.awaited ≡ Some awaited → is_greeting awaited response ≡ false →
         IsWhole (step_serving serving world.state (Line seat (AResponse response)) outcome).state }
 {}
 
