@@ -1,9 +1,8 @@
 -- A transaction that is aborted leaves a realm whole.
-use Rattle.std.proofs.Common.{◌≡◌, Bool, true, false, ℕ, List, [], ◌∷◌, Option, Some, None, cond, refl, subst, sym, arith, ◌∙◌}
-use Rattle.std.specs.Prelude.{◌&&◌, not, length, nat_le}
+use Rattle.std.proofs.Common.{◌≡◌, Bool, true, false, List, [], ◌∷◌, Option, Some, None, cond, refl, subst, sym, ◌∙◌}
+use Rattle.std.specs.Prelude.{◌&&◌, not, length}
 use Rattle.std.specs.List.{list_any}
 use Rattle.std.proofs.lemmas.Bool.{and_from, and_parts, both_ways, not-true, not_from_false, or_left}
-use Rattle.std.proofs.lemmas.Bool.Decides.{nat_tests}
 use Rattle.tip_rows.specs.Keys.{Key}
 use Rattle.tip_branch.specs.declared.member.Errand.{Errand}
 use Rattle.tip_branch.specs.declared.member.Errand.TheVariants as errand
@@ -29,7 +28,7 @@ use Rattle.tip_machine.specs.declared.connection.Awaited.TheVariants as awaited
 use Rattle.tip_machine.specs.declared.transaction.Origin.{Origin}
 use Rattle.tip_machine.specs.declared.transaction.Origin.TheVariants as origin
 use Rattle.tip_machine.specs.declared.transaction.PartyPlace.TheVariants.{Here, Out, Spent}
-use Rattle.tip_agreement.proofs.Around.{Around, Whole, alter_around, altered, end_whole, whole_of}
+use Rattle.tip_agreement.proofs.Around.{Around, Whole, alter_around, altered, end_whole, whole_of, le_self}
 use Rattle.tip_agreement.proofs.Owned.{Owned, above_after, alter_owned, from_phase, have_parts, key_found, part_after, parts_from, react_owned}
 use Rattle.tip_agreement.proofs.Reacting.{aborts_so, react_around}
 
@@ -105,9 +104,6 @@ parts_aborted link part is =
 
 pub on_some : (P : Work → Type 0) (found : Option Transaction) (t : Transaction) (rule : Transaction → Work → Work) (w : Work) → found ≡ Some t → P (rule t w) → P (on found rule w)
 on_some P found t rule w is p = subst (λ o. P (on o rule w)) (sym is) p
-
-pub le_self : (n : ℕ) → nat_le n n ≡ true
-le_self n = grind (arith, nat_tests)
 
 pub own_as : (s : State) (t u : Transaction) (place : PartyPlace) → u.key ≡ t.key → is_its_own s u place ≡ is_its_own s t place
 own_as s t u (Here party) same = rw same refl

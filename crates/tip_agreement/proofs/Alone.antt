@@ -37,13 +37,12 @@ use Rattle.tip_machine.specs.declared.connection.Role.{Role}
 use Rattle.tip_machine.specs.declared.connection.Role.TheVariants.{Superior, Subordinate}
 use Rattle.tip_machine.specs.declared.transaction.Origin.{Origin}
 use Rattle.tip_machine.specs.declared.transaction.Origin.TheVariants as origin
-use Rattle.tip_agreement.proofs.Apart.{all_found}
 use Rattle.tip_agreement.proofs.Around.{Whole, around_of, asks_as, beside, is_placed, set, stands}
-use Rattle.tip_agreement.proofs.Closing.{closed_whole, whole_alike, wrong_whole}
+use Rattle.tip_agreement.proofs.Closing.{closed_whole, whole_alike, wrong_whole, stands_there}
 use Rattle.tip_agreement.proofs.Found.{any_apart, find_apart}
 use Rattle.tip_agreement.proofs.Obeying.{link_was}
 use Rattle.tip_agreement.proofs.Proceeding.{AllWhole}
-use Rattle.tip_agreement.proofs.Reacting.{Standing, acts_free, idle, standing}
+use Rattle.tip_agreement.proofs.Reacting.{Standing, acts_free, idle}
 
 -- A connection on no transaction changes, and stays on none
 
@@ -96,7 +95,7 @@ superior_late Aborted from at owed is = aborted_late from at owed is
 
 module _ (c : Connection) (w : Work) (whole : Whole w.state) (there : connection_of c.number w.state ≡ Some c) (side : c.side ≡ Secondary) (early : is_early c.state ≡ true) where
   known_there : Standing w.state c
-  known_there = standing w.state c (all_found (stands w.state) (has_number c.number) w.state.connections c whole.standing there)
+  known_there = stands_there c w whole there
 
   of_none : (role : Option Role) → c.role ≡ role → is_placed w.state role ≡ true → c.role ≡ None
   of_none None role placed = role

@@ -21,7 +21,7 @@ use Rattle.tip_txn.specs.declared.answer.Phase.{Phase}
 use Rattle.tip_txn.specs.declared.answer.Phase.TheVariants.{Active, Asking, Prepared, Committed, Aborted}
 use Rattle.tip_txn.specs.declared.part.Participant.{Participant}
 use Rattle.tip_machine.specs.Alone.{is_early}
-use Rattle.tip_machine.specs.Connections.{advanced, advanced_to, has_number, is_part_of, reaches, role_in}
+use Rattle.tip_machine.specs.Connections.{advanced, advanced_to, is_part_of, reaches, role_in}
 use Rattle.tip_machine.specs.Invariants.Links.{Link, is_on_none, link, link_on}
 use Rattle.tip_machine.specs.Invariants.Links.Link.{Gone, Owes, Awaits}
 use Rattle.tip_machine.specs.Invariants.Phases.{has_pair, is_named, is_part, is_part_in, is_party, is_superior, may_have_acknowledged}
@@ -38,13 +38,13 @@ use Rattle.tip_machine.specs.declared.connection.Role.TheVariants.{Superior, Sub
 use Rattle.tip_machine.specs.declared.transaction.Origin.{Origin}
 use Rattle.tip_machine.specs.declared.transaction.Origin.TheVariants as origin
 use Rattle.tip_agreement.proofs.Aborting.{may_abort}
-use Rattle.tip_agreement.proofs.Apart.{all_found}
-use Rattle.tip_agreement.proofs.Around.{Whole, is_placed, stands}
-use Rattle.tip_agreement.proofs.Closing.{InTable, above_there, changed_none, in_table, known, part_of, part_there}
+use Rattle.tip_agreement.proofs.Around.{Whole, is_placed}
+use Rattle.tip_agreement.proofs.Closing.{InTable, above_there, changed_none, in_table, known, part_of, part_there, stands_there}
 use Rattle.tip_agreement.proofs.Deciding.{may_commit}
-use Rattle.tip_agreement.proofs.Owned.{key_found, key_self, place_self}
+use Rattle.tip_agreement.proofs.Keys.{key_self}
+use Rattle.tip_agreement.proofs.Owned.{key_found, place_self}
 use Rattle.tip_agreement.proofs.Proceeding.{AllWhole, may_ask}
-use Rattle.tip_agreement.proofs.Reacting.{Standing, acts_free, idle, standing}
+use Rattle.tip_agreement.proofs.Reacting.{Standing, acts_free, idle}
 use Rattle.tip_agreement.proofs.Responding.{Becomes, is_going, noted_whole, part_before}
 use Rattle.tip_agreement.proofs.Sound.{PartAt, part_held}
 
@@ -113,7 +113,7 @@ pub record PartOf (c : Connection) (s : State) : Type 0 where
 
 module _ (c : Connection) (w : Work) (whole : Whole w.state) (there : connection_of c.number w.state ≡ Some c) (a : Awaited) (side : c.side ≡ Primary) (waits : c.awaited ≡ Some a) (partly : is_partly a ≡ true) where
   stood : Standing w.state c
-  stood = standing w.state c (all_found (stands w.state) (has_number c.number) w.state.connections c whole.standing there)
+  stood = stands_there c w whole there
 
   link_now : link (Some c) ≡ Awaits c.state (Some a)
   link_now = ap (λ side. link_on side c) side ∙ ap (Awaits c.state) waits

@@ -29,6 +29,9 @@ use Rattle.tip_agreement.proofs.Apart.{all_changed, all_of_none, all_more, all_w
 use Rattle.tip_agreement.proofs.Found.{any_apart, any_left, apart_less, apart_set, find_apart, find_left}
 use Rattle.tip_agreement.proofs.Keys.{keys_changed, keys_of, apart_without}
 
+pub le_self : (n : ℕ) → nat_le n n ≡ true
+le_self n = grind (arith, nat_tests)
+
 -- Roles
 
 -- on one role
@@ -286,9 +289,6 @@ module _ (key : Key) (s : State) where
     now : Transaction
     found : transaction_of other (altered f) ≡ Some now
     longer : nat_le (length t.parts) (length now.parts) ≡ true
-
-  le_self : (n : ℕ) → nat_le n n ≡ true
-  le_self n = grind (arith, nat_tests)
 
   still_found : (f : Transaction → Transaction) → ((t : Transaction) → (f t).key ≡ t.key) → ((t : Transaction) → nat_le (length t.parts) (length (f t).parts) ≡ true) → (other : Key) (t : Transaction) → transaction_of other s ≡ Some t → Still f other t
   still_found f same more other t found = elim (cases_Bool (is_same key other)) [

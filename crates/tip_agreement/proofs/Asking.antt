@@ -17,7 +17,7 @@ use Rattle.tip_txn.specs.declared.answer.Ballot.{Ballot}
 use Rattle.tip_txn.specs.declared.answer.Phase.{Phase}
 use Rattle.tip_txn.specs.declared.answer.Phase.TheVariants.{Active, Asking, Prepared, Committed, Aborted}
 use Rattle.tip_machine.specs.Changes.{attempt_on, change, tell}
-use Rattle.tip_machine.specs.Connections.{advanced, advanced_to, has_number, is_superior_of}
+use Rattle.tip_machine.specs.Connections.{advanced, advanced_to, is_superior_of}
 use Rattle.tip_machine.specs.Failing.{closed, fail, gone, missed}
 use Rattle.tip_machine.specs.Invariants.Links.{is_on_none, link, link_on}
 use Rattle.tip_machine.specs.Invariants.Links.Link.{Awaits}
@@ -39,13 +39,13 @@ use Rattle.tip_agreement.proofs.Aborting.{aborted_whole, may_abort_above, may_ab
 use Rattle.tip_agreement.proofs.Alone.{alone_set}
 use Rattle.tip_agreement.proofs.Apart.{all_found}
 use Rattle.tip_agreement.proofs.Around.{Whole, around_of, is_placed, stands}
-use Rattle.tip_agreement.proofs.Closing.{closed_whole, gone_may_abort, have_same, in_table, part_of, part_there}
+use Rattle.tip_agreement.proofs.Closing.{closed_whole, gone_may_abort, have_same, in_table, part_of, part_there, stands_there}
 use Rattle.tip_agreement.proofs.Commanding.{doubt_aborts, doubt_party, same_without}
 use Rattle.tip_agreement.proofs.Found.{none_there}
 use Rattle.tip_agreement.proofs.Owned.{in_phase, key_found}
 use Rattle.tip_agreement.proofs.Proceeding.{AllWhole}
 use Rattle.tip_agreement.proofs.Pulling.{link_before}
-use Rattle.tip_agreement.proofs.Reacting.{Standing, idle, standing}
+use Rattle.tip_agreement.proofs.Reacting.{Standing, idle}
 use Rattle.tip_agreement.proofs.Sound.{part_held}
 
 -- A connection that awaits the answer to QUERY is on no transaction
@@ -84,7 +84,7 @@ not_found_next = refl
 
 module _ (asked : Key) (c : Connection) (w : Work) (whole : Whole w.state) (there : connection_of c.number w.state ≡ Some c) (side : c.side ≡ Primary) (waits : c.awaited ≡ Some (awaited.Query asked)) where
   known_there : Standing w.state c
-  known_there = standing w.state c (all_found (stands w.state) (has_number c.number) w.state.connections c whole.standing there)
+  known_there = stands_there c w whole there
 
   awaits_now : link_on c.side c ≡ Awaits c.state (Some (awaited.Query asked))
   awaits_now = ap (λ s. link_on s c) side ∙ ap (Awaits c.state) waits

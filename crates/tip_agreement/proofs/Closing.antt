@@ -34,13 +34,14 @@ use Rattle.tip_machine.specs.declared.connection.Role.TheVariants.{Superior, Sub
 use Rattle.tip_machine.specs.declared.transaction.Origin.{Origin}
 use Rattle.tip_machine.specs.declared.transaction.Origin.TheVariants as origin
 use Rattle.tip_machine.specs.declared.transaction.PartyPlace.TheVariants.{Here, Out, Spent}
-use Rattle.tip_agreement.proofs.Aborting.{aborted_whole, le_self, own_as, may_abort, may_abort_above, may_abort_part, may_abort_party}
+use Rattle.tip_agreement.proofs.Aborting.{aborted_whole, own_as, may_abort, may_abort_above, may_abort_part, may_abort_party}
 use Rattle.tip_agreement.proofs.Apart.{all_found, all_more}
 use Rattle.tip_agreement.proofs.Found.{any_left, find_gone, find_left}
 use Rattle.tip_agreement.proofs.Sound.{found_once}
-use Rattle.tip_agreement.proofs.Reacting.{standing}
-use Rattle.tip_agreement.proofs.Around.{Alike, Around, Whole, alter_around, altered, around_of, found_altered, is_placed, same_transaction, stands, beside, taken, whole_of, with_connections}
-use Rattle.tip_agreement.proofs.Owned.{InPhase, Owned, from_phase, have_parts, in_phase, key_found, key_self, once_part, once_superior, own_still, parts_from, place_self}
+use Rattle.tip_agreement.proofs.Reacting.{Standing, standing}
+use Rattle.tip_agreement.proofs.Around.{Alike, Around, Whole, alter_around, altered, around_of, found_altered, is_placed, same_transaction, stands, beside, taken, whole_of, with_connections, le_self}
+use Rattle.tip_agreement.proofs.Keys.{key_self}
+use Rattle.tip_agreement.proofs.Owned.{InPhase, Owned, from_phase, have_parts, in_phase, key_found, once_part, once_superior, own_still, parts_from, place_self}
 
 -- Parts, where the connection of one of them changes
 
@@ -442,11 +443,15 @@ alone_whole c w there none whole =
       transactions = whole_alike w.state (gone c w).state refl (alone_left c w.state there none) whole;
     }
 
+-- a connection that is there stands
+pub stands_there : (c : Connection) (w : Work) → Whole w.state → connection_of c.number w.state ≡ Some c → Standing w.state c
+stands_there c w whole there = standing w.state c (all_found (stands w.state) (has_number c.number) w.state.connections c whole.standing there)
+
 -- What follows where it is gone
 
 module _ (c : Connection) (w : Work) (whole : Whole w.state) (there : connection_of c.number w.state ≡ Some c) where
   placed_at : is_placed w.state c.role ≡ true
-  placed_at = (standing w.state c (all_found (stands w.state) (has_number c.number) w.state.connections c whole.standing there)).placed
+  placed_at = (stands_there c w whole there).placed
 
   superior_gone : (key : Key) (found : Option Transaction) → transaction_of key w.state ≡ found → is_some found ≡ true → c.role ≡ Some (Superior key) → Whole (on found (λ t. superior_lost t.phase key) (gone c w)).state
   superior_gone key None is some role = absurd (cc)

@@ -29,8 +29,8 @@ use Rattle.tip_machine.specs.declared.connection.Awaited.TheVariants as awaited
 use Rattle.tip_machine.specs.declared.transaction.Origin.{Origin}
 use Rattle.tip_machine.specs.declared.transaction.Origin.TheVariants as origin
 use Rattle.tip_machine.specs.declared.transaction.PartyPlace.TheVariants.{Here, Out, Spent}
-use Rattle.tip_agreement.proofs.Aborting.{le_self, on_some, own_as, party_now}
-use Rattle.tip_agreement.proofs.Around.{Around, Whole, alter_around, altered, whole_of}
+use Rattle.tip_agreement.proofs.Aborting.{on_some, own_as, party_now}
+use Rattle.tip_agreement.proofs.Around.{Around, Whole, alter_around, altered, whole_of, le_self}
 use Rattle.tip_agreement.proofs.Owned.{Owned, above_after, alter_owned, from_phase, part_after, react_owned}
 use Rattle.tip_agreement.proofs.Reacting.{IsOutcome, commits_so, promises_so, react_around}
 
@@ -78,10 +78,6 @@ above_committed origin.Root (Owes state.Begun (Some command.Commit)) is = refl
 above_committed (origin.Subordinate address superior) (Owes state.Enlisted (Some command.Commit)) is = refl
 above_committed (origin.Subordinate address superior) (Owes state.Prepared (Some command.Commit)) is = refl
 above_committed from link is = absurd (cc)
-
-either_way : (a b : Bool) → a || false ≡ true → a || b ≡ true
-either_way true b is = refl
-either_way false b is = absurd (cc)
 
 part_committed : (link : Link) (answer : Option Ballot) (part : Participant) → may_commit link answer ≡ true → not part.acknowledged || may_have_acknowledged Committed link answer ≡ true → is_named link part ≡ true → (is_part Committed (part_after commits link) answer ≡ true) × (not part.acknowledged || may_have_acknowledged Committed (part_after commits link) answer ≡ true) × (is_named (part_after commits link) part ≡ true)
 part_committed (Awaits state.Prepared None) (Some Yes) part is told named = (refl, told, named)

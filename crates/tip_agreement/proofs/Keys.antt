@@ -1,8 +1,9 @@
 -- Numbers rise, and keys stay apart and given, at each step.
-use Rattle.std.proofs.Common.{◌≡◌, Bool, true, false, ℕ, List, [], ◌∷◌, ◌++◌, Some, cond, refl, ap, sym, subst}
+use Rattle.std.proofs.Common.{◌≡◌, Bool, true, false, ℕ, List, [], ◌∷◌, ◌++◌, Some, cond, refl, ap, sym, subst, arith}
 use Rattle.std.specs.Prelude.{◌&&◌, not, map, length, take}
 use Rattle.std.specs.List.{list_all, list_any}
 use Rattle.std.proofs.lemmas.Bool.{and_from, and_parts, not-true, not_from_false, or_from, or_parts}
+use Rattle.std.proofs.lemmas.Bool.Decides.{nat_tests}
 use Rattle.tip_branch.specs.declared.branch.Badge.{Badge}
 use Rattle.tip_rows.specs.Keys.{Key, is_same}
 use Rattle.tip_rows.proofs.OrderLemmas.{same_key}
@@ -43,6 +44,9 @@ record Keyed (s : State) : Type 0 where
   numbered : are_numbered s ≡ true
   apart : are_distinct is_same (keys_of s.transactions) ≡ true
   given : are_given s s.transactions ≡ true
+
+pub key_self : (key : Key) → is_same key key ≡ true
+key_self key = grind (arith, nat_tests)
 
 -- Lists of keys
 

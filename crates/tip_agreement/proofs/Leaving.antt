@@ -35,9 +35,8 @@ use Rattle.tip_machine.specs.declared.transaction.Origin.TheVariants as origin
 use Rattle.tip_machine.specs.declared.transaction.PartyPlace.TheVariants.{Here, Out, Spent}
 use Rattle.tip_machine.proofs.Lists.{find_any, none-found}
 use Rattle.tip_machine.proofs.Walks.{found_passes, on_each}
-use Rattle.tip_agreement.proofs.Aborting.{le_self}
 use Rattle.tip_agreement.proofs.Apart.{all_found}
-use Rattle.tip_agreement.proofs.Around.{Around, Whole, alter_around, altered, end_whole, is_placed, stands}
+use Rattle.tip_agreement.proofs.Around.{Around, Whole, alter_around, altered, end_whole, is_placed, stands, le_self}
 use Rattle.tip_agreement.proofs.Owned.{Owned, above_after, have_parts, parts_from, part_after, place_self, react_owned}
 use Rattle.tip_agreement.proofs.Reacting.{needs_nothing_so, react_around, standing}
 

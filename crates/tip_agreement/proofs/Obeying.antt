@@ -28,15 +28,15 @@ use Rattle.tip_machine.specs.declared.connection.Role.TheVariants.{Superior}
 use Rattle.tip_machine.specs.declared.transaction.Origin.{Origin}
 use Rattle.tip_machine.specs.declared.transaction.Origin.TheVariants as origin
 use Rattle.tip_machine.specs.declared.transaction.PartyPlace.TheVariants.{Here, Out, Spent}
-use Rattle.tip_agreement.proofs.Aborting.{aborted_whole, le_self, own_as, party_now, may_abort_above, may_abort_part, may_abort_party}
-use Rattle.tip_agreement.proofs.Apart.{all_found}
-use Rattle.tip_agreement.proofs.Around.{Around, Whole, alter_around, altered, around_of, beside, set, stands}
-use Rattle.tip_agreement.proofs.Closing.{above_there, have_same, in_table, untold_in, is_stoppable, known, stoppable_parts, stoppable_party}
+use Rattle.tip_agreement.proofs.Aborting.{aborted_whole, own_as, party_now, may_abort_above, may_abort_part, may_abort_party}
+use Rattle.tip_agreement.proofs.Around.{Around, Whole, alter_around, altered, around_of, beside, set, stands, le_self}
+use Rattle.tip_agreement.proofs.Closing.{above_there, have_same, in_table, untold_in, is_stoppable, known, stoppable_parts, stoppable_party, stands_there}
 use Rattle.tip_agreement.proofs.Found.{find_apart, find_at}
-use Rattle.tip_agreement.proofs.Owned.{InPhase, Owned, alter_owned, have_parts, parts_from, key_self, once_superior, own_still}
+use Rattle.tip_agreement.proofs.Keys.{key_self}
+use Rattle.tip_agreement.proofs.Owned.{InPhase, Owned, alter_owned, have_parts, parts_from, once_superior, own_still}
 use Rattle.tip_agreement.proofs.Proceeding.{AllWhole, may_ask, may_ask_part, may_ask_party, proceed_whole}
 use Rattle.tip_agreement.proofs.Proceeding.Follows.{OfAsking}
-use Rattle.tip_agreement.proofs.Reacting.{Standing, standing}
+use Rattle.tip_agreement.proofs.Reacting.{Standing}
 
 -- The command is owed a response
 
@@ -48,7 +48,7 @@ module _ (key : Key) (t : Transaction) (c : Connection) (w : Work) (whole : Whol
   was = known key t c w whole there found
 
   stood : Standing w.state c
-  stood = standing w.state c (all_found (stands w.state) (has_number c.number) w.state.connections c whole.standing there)
+  stood = stands_there c w whole there
 
   still_stands : stands w.state (owing name c) ≡ true
   still_stands = and_from _ _ (and_from _ _ (and_from _ _ (and_from _ _ (subst (λ s. acts_as s (owing name c) ≡ true) (sym side) (subst (λ s. acts_as s c ≡ true) side stood.acts)) stood.side) (or_left _ _ (ap is_some on))) stood.asks) stood.placed

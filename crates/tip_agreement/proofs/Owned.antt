@@ -36,6 +36,7 @@ use Rattle.tip_machine.proofs.Walks.{found_passes}
 use Rattle.tip_agreement.proofs.Apart.{all_found}
 use Rattle.tip_agreement.proofs.Around.{Around, altered, asks_as, clashes, found_altered, stands, with_connections}
 use Rattle.tip_agreement.proofs.Found.{Once, find_mapped, once_of, turned}
+use Rattle.tip_agreement.proofs.Keys.{key_self}
 use Rattle.tip_agreement.proofs.Reacting.{IsOutcome, Standing, become, is_end, is_outcome, outcome_ends, role_reacted, standing}
 
 -- Tables
@@ -71,9 +72,6 @@ reached_as key place (Some (Subordinate other part)) is =
     let same : (place == part) ≡ true = parts.1 in
     let at : place ≡ part = grind (arith, nat_tests, same) in
     λ i. Some (Subordinate ((sym (same_key key other parts.0)) i) ((sym at) i))
-
-pub key_self : (key : Key) → is_same key key ≡ true
-key_self key = grind (arith, nat_tests)
 
 pub place_self : (place : ℕ) → (place == place) ≡ true
 place_self place = grind (arith, nat_tests)

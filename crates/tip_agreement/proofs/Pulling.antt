@@ -35,12 +35,12 @@ use Rattle.tip_machine.specs.declared.connection.Role.TheVariants.{Superior, Sub
 use Rattle.tip_machine.specs.declared.transaction.Origin.{Origin}
 use Rattle.tip_machine.specs.declared.transaction.Origin.TheVariants as origin
 use Rattle.tip_agreement.proofs.Aborting.{aborted_whole, may_abort_above, may_abort_part, may_abort_party}
-use Rattle.tip_agreement.proofs.Apart.{all_found}
 use Rattle.tip_agreement.proofs.Around.{Around, Whole, around_of, asks_as, beside, is_placed, set, stands, whole_of}
-use Rattle.tip_agreement.proofs.Closing.{above_there, gone_may_abort, have_same, in_table, is_stoppable, known, part_of, part_there, stoppable_parts, stoppable_party}
+use Rattle.tip_agreement.proofs.Closing.{above_there, gone_may_abort, have_same, in_table, is_stoppable, known, part_of, part_there, stoppable_parts, stoppable_party, stands_there}
 use Rattle.tip_agreement.proofs.Found.{find_apart, find_at}
-use Rattle.tip_agreement.proofs.Owned.{InPhase, Owned, from_phase, key_found, key_self, once_superior, own_still}
-use Rattle.tip_agreement.proofs.Reacting.{Standing, idle, standing}
+use Rattle.tip_agreement.proofs.Keys.{key_self}
+use Rattle.tip_agreement.proofs.Owned.{InPhase, Owned, from_phase, key_found, once_superior, own_still}
+use Rattle.tip_agreement.proofs.Reacting.{Standing, idle}
 use Rattle.tip_agreement.proofs.Responding.{Becomes}
 use Rattle.tip_agreement.proofs.Sound.{part_held}
 
@@ -149,7 +149,7 @@ record Pulls (c : Connection) (s : State) : Type 0 where
 
 module _ (c : Connection) (w : Work) (whole : Whole w.state) (there : connection_of c.number w.state ≡ Some c) (side : c.side ≡ Primary) (waits : c.awaited ≡ Some awaited.Pull) where
   known_there : Standing w.state c
-  known_there = standing w.state c (all_found (stands w.state) (has_number c.number) w.state.connections c whole.standing there)
+  known_there = stands_there c w whole there
 
   link_now : (s : Side) → c.side ≡ s → s ≡ Primary → link_on s c ≡ Awaits c.state (Some awaited.Pull)
   link_now Primary at is = ap (Awaits c.state) waits

@@ -32,7 +32,8 @@ use Rattle.tip_agreement.proofs.Around.{Around, Whole, alter_around, around_of, 
 use Rattle.tip_agreement.proofs.Closing.{have_noted, in_table, known, noted_length, other_place, stoppable_above, stoppable_parts, stoppable_party, untold_in}
 use Rattle.tip_agreement.proofs.Deciding.{may_commit, may_commit_part}
 use Rattle.tip_agreement.proofs.Found.{find_apart, find_at}
-use Rattle.tip_agreement.proofs.Owned.{InPhase, Owned, from_as, have_parts, key_self, once_part, own_still, parts_from, place_self}
+use Rattle.tip_agreement.proofs.Keys.{key_self}
+use Rattle.tip_agreement.proofs.Owned.{InPhase, Owned, from_as, have_parts, once_part, own_still, parts_from, place_self}
 use Rattle.tip_agreement.proofs.Proceeding.{AllWhole, Follows, may_ask, may_ask_part, may_ask_party, proceed_whole}
 use Rattle.tip_agreement.proofs.Sound.{found_once}
 use Rattle.tip_agreement.proofs.Proceeding.Follows.{OfActive, OfAsking, OfCommitted, OfAborted}

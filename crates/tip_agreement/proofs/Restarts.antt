@@ -34,7 +34,8 @@ use Rattle.tip_machine.specs.declared.transaction.Origin.TheVariants as origin
 use Rattle.tip_machine.proofs.Walks.{found_passes}
 use Rattle.tip_rows.proofs.OrderLemmas.{same_key}
 use Rattle.tip_agreement.proofs.Apart.{all_found, all_more, kept_apart}
-use Rattle.tip_agreement.proofs.Starts.{back, backs, before_apart, same_self, skipped, starts_sound}
+use Rattle.tip_agreement.proofs.Keys.{key_self}
+use Rattle.tip_agreement.proofs.Starts.{back, backs, before_apart, skipped, starts_sound}
 
 -- The epoch of a key that was given
 
@@ -89,7 +90,7 @@ at_behind e rows (f ∷ some) before all = let parts = and_parts (comes_before e
 rows_at : (rows : List (Key × Row)) → is_rising rows ≡ true → AreAt rows rows
 unfolding AreAt
 rows_at [] rising = tt
-rows_at (e ∷ rows) rising = let parts = and_parts _ (is_rising rows) rising in (rw (same_self e.0) refl, at_behind e rows rows parts.0 (rows_at rows parts.1))
+rows_at (e ∷ rows) rising = let parts = and_parts _ (is_rising rows) rising in (rw (key_self e.0) refl, at_behind e rows rows parts.0 (rows_at rows parts.1))
 
 -- Rows that are open
 
@@ -169,21 +170,21 @@ module _ (state : State) where
 
 -- Errands are of an earlier start then
 
-none_of_start : (state : State) (boxes : Key → List Badge) (world : World) (errands : List PartyNotes) → list_all (is_due world.state) errands ≡ true → (filter (is_of_this_start (restarted_from boxes world)) errands ≡ []) × (list_all (is_due (restarted_from boxes world)) errands ≡ true)
-none_of_start state boxes world [] due = (refl, refl)
-none_of_start state boxes world (p ∷ errands) due =
+none_of_start : (boxes : Key → List Badge) (world : World) (errands : List PartyNotes) → list_all (is_due world.state) errands ≡ true → (filter (is_of_this_start (restarted_from boxes world)) errands ≡ []) × (list_all (is_due (restarted_from boxes world)) errands ≡ true)
+none_of_start boxes world [] due = (refl, refl)
+none_of_start boxes world (p ∷ errands) due =
     let parts = and_parts (is_due world.state p) (list_all (is_due world.state) errands) due in
     let is = and_parts (nat_le p.epoch world.state.head.epoch && is_sent p.errand p) _ parts.0 in
     let sent = and_parts (nat_le p.epoch world.state.head.epoch) (is_sent p.errand p) is.0 in
     let le : nat_le p.epoch world.state.head.epoch ≡ true = sent.0 in
-    let rest = none_of_start state boxes world errands parts.1 in
+    let rest = none_of_start boxes world errands parts.1 in
     let other : is_of_this_start (restarted_from boxes world) p ≡ false = grind (arith, nat_tests, le) in
     let less : nat_le p.epoch (world.state.head.epoch + 1) ≡ true = grind (arith, nat_tests, le) in
     (rw other rest.0, and_from _ _ (and_from _ _ (and_from _ _ less sent.1) (rw other refl)) rest.1)
 
 out_again : (boxes : Key → List Badge) (world : World) (errands : List PartyNotes) → are_out world.state errands ≡ true → are_out (restarted_from boxes world) errands ≡ true
 out_again boxes world errands out =
-    let none = none_of_start world.state boxes world errands (and_parts _ (list_all (is_due world.state) errands) out).1 in
+    let none = none_of_start boxes world errands (and_parts _ (list_all (is_due world.state) errands) out).1 in
     and_from _ _ (rw none.0 refl) none.1
 
 pub restarts_sound : (boxes : Key → List Badge) (world : World) (errands : List PartyNotes) → IsSound world → are_out world.state errands ≡ true → can_start boxes world ≡ true → IsSound (record { state = restarted_from boxes world; rows = world.rows; errands = errands })

@@ -32,7 +32,8 @@ use Rattle.tip_agreement.proofs.Apart.{all_both, all_found, all_more, all_of_non
 use Rattle.tip_agreement.proofs.Around.{Whole, asks_as, clash, clashes, is_placed, stands}
 use Rattle.tip_agreement.proofs.Found.{Once}
 use Rattle.tip_agreement.proofs.Keys.{keys_of}
-use Rattle.tip_agreement.proofs.Owned.{have_parts, in_phase, key_self, once_part, parts_from, place_self}
+use Rattle.tip_agreement.proofs.Keys.{key_self}
+use Rattle.tip_agreement.proofs.Owned.{have_parts, in_phase, once_part, parts_from, place_self}
 
 -- Roles, as they are listed
 

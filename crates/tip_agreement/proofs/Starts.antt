@@ -16,6 +16,7 @@ use Rattle.tip_rows.proofs.MemoryLemmas.{bytes_eq-self}
 use Rattle.tip_txn.specs.Transactions.{willing}
 use Rattle.tip_txn.specs.declared.answer.Ballot.TheVariants.{Yes}
 use Rattle.tip_txn.specs.declared.part.Participant.{Participant}
+use Rattle.tip_agreement.proofs.Keys.{key_self}
 use Rattle.tip_agreement.proofs.Apart.{all_more}
 use Rattle.tip_machine.specs.Answers.{identifier}
 use Rattle.tip_machine.specs.Given.{was_given}
@@ -36,9 +37,6 @@ use Rattle.tip_txn.specs.declared.answer.Decision.TheVariants as decisions
 use Rattle.tip_txn.specs.declared.answer.Phase.TheVariants.{Prepared, Committed}
 
 -- Keys
-
-pub same_self : (key : Key) → is_same key key ≡ true
-same_self key = grind (arith, nat_tests)
 
 pub before_apart : (this that : Key) → comes_before this that ≡ true → is_same this that ≡ false
 before_apart this that before = grind (arith, nat_tests)
@@ -156,7 +154,7 @@ module _ (head : Head) (boxes : Key → List Badge) where
   stored_backs [] rising = refl
   stored_backs (e ∷ rows) rising =
       let parts = and_parts _ (is_rising rows) rising in
-      and_from _ _ (rw (back_key e.0 e.1, same_self e.0) (stored_back e.0 e.1)) (stored_behind e rows rows parts.0 (stored_backs rows parts.1))
+      and_from _ _ (rw (back_key e.0 e.1, key_self e.0) (stored_back e.0 e.1)) (stored_behind e rows rows parts.0 (stored_backs rows parts.1))
 
   opened_behind : (e : Key × Row) (rows some : List (Key × Row)) → list_all (λ (stored : Key × Row). is_some (transaction_of stored.0 (again rows))) some ≡ true → list_all (λ (stored : Key × Row). is_some (transaction_of stored.0 (again (e ∷ rows)))) some ≡ true
   opened_behind e rows some all = all_more _ _ some (λ f is. step (has_key f.0 (back e)) (transaction_of f.0 (again rows)) is) all where
@@ -166,7 +164,7 @@ module _ (head : Head) (boxes : Key → List Badge) where
 
   opened_backs : (rows : List (Key × Row)) → list_all (λ (stored : Key × Row). is_some (transaction_of stored.0 (again rows))) rows ≡ true
   opened_backs [] = refl
-  opened_backs (e ∷ rows) = and_from _ _ (rw (back_key e.0 e.1, same_self e.0) refl) (opened_behind e rows rows (opened_backs rows))
+  opened_backs (e ∷ rows) = and_from _ _ (rw (back_key e.0 e.1, key_self e.0) refl) (opened_behind e rows rows (opened_backs rows))
 
   -- what is sound where a realm starts from rows of earlier epochs
   pub starts_sound : (rows : List (Key × Row)) (errands : List PartyNotes) → is_rising rows ≡ true → list_all (λ (stored : Key × Row). nat_lt stored.0.epoch head.epoch) rows ≡ true → are_adopted boxes rows ≡ true → are_known_once (again rows) ≡ true → are_out (again rows) errands ≡ true → IsSound (record { state = again rows; rows = rows; errands = errands })

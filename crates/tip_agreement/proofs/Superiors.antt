@@ -17,7 +17,7 @@ use Rattle.tip_line.specs.declared.command.CommandName.TheVariants as command
 use Rattle.tip_line.specs.declared.refusal.Refusal.TheVariants.{Busy}
 use Rattle.tip_machine.specs.Changes.{attempt_on, change, refuse}
 use Rattle.tip_machine.specs.Commands.{commanded, decide_abort, decide_commit, obey, prepare, serve, serve_if, superior_role}
-use Rattle.tip_machine.specs.Connections.{has_number, may_take, owing}
+use Rattle.tip_machine.specs.Connections.{may_take, owing}
 use Rattle.tip_machine.specs.Invariants.{IsSound}
 use Rattle.tip_machine.specs.Invariants.Links.{is_on_none, link_on}
 use Rattle.tip_machine.specs.Invariants.Links.Link.{Owes}
@@ -36,15 +36,14 @@ use Rattle.tip_machine.specs.declared.event.Seat.{Seat}
 use Rattle.tip_machine.proofs.Walks.{either_attempt, seated_there}
 use Rattle.tip_agreement.specs.Whole.{IsWhole, is_at_once, is_of_superior}
 use Rattle.tip_agreement.proofs.Alone.{at_once_whole}
-use Rattle.tip_agreement.proofs.Apart.{all_found}
-use Rattle.tip_agreement.proofs.Around.{Whole, asks_as, is_placed, stands}
-use Rattle.tip_agreement.proofs.Closing.{wrong_whole}
+use Rattle.tip_agreement.proofs.Around.{Whole, asks_as, is_placed}
+use Rattle.tip_agreement.proofs.Closing.{wrong_whole, stands_there}
 use Rattle.tip_agreement.proofs.Commanding.{abort_obeyed, commit_obeyed, prepare_obeyed}
 use Rattle.tip_agreement.proofs.Obeying.{is_enlisted_state}
 use Rattle.tip_agreement.proofs.Events.{entered_whole, keeps_with}
 use Rattle.tip_agreement.proofs.Owned.{key_found}
 use Rattle.tip_agreement.proofs.Proceeding.{AllWhole}
-use Rattle.tip_agreement.proofs.Reacting.{Standing, standing}
+use Rattle.tip_agreement.proofs.Reacting.{Standing}
 
 -- a command of a superior's is valid on no idle connection
 never_early : (name : CommandName) (at : ConnectionState) (owed : Option CommandName) → is_of_superior name ≡ true → is_valid name at ≡ true → is_on_none (Owes at owed) ≡ false
@@ -63,7 +62,7 @@ never_early name at owed is valid = absurd (cc)
 
 module _ (c : Connection) (w : Work) (whole : Whole w.state) (there : connection_of c.number w.state ≡ Some c) (side : c.side ≡ Secondary) (name : CommandName) (superiors : is_of_superior name ≡ true) (valid : is_valid name c.state ≡ true) (rule : Transaction → Work → Attempt) (keeps : (t : Transaction) → transaction_of t.key w.state ≡ Some t → c.role ≡ Some (Superior t.key) → AllWhole (rule t (change c.number (owing name) w))) where
   known_there : Standing w.state c
-  known_there = standing w.state c (all_found (stands w.state) (has_number c.number) w.state.connections c whole.standing there)
+  known_there = stands_there c w whole there
 
   never_alone : c.role ≡ None → ⊥
   never_alone none = both_ways (is_on_none (link_on c.side c)) (ap (λ s. is_on_none (link_on s c)) side ∙ never_early name c.state c.owed superiors valid) (subst (λ r. is_some r || is_on_none (link_on c.side c) ≡ true) none known_there.free)
