@@ -65,14 +65,14 @@ abbrev IsAbsent : Key → State → Type 0
 IsAbsent key state = list_any (has_key key) state.transactions ≡ false
 
 -- the key was given in an earlier start, or in this one
-abbrev IsGiven : Key → State → Type 0
+abbrev pub IsGiven : Key → State → Type 0
 IsGiven key state = (key.epoch < state.head.epoch) ⊎ ((key.epoch ≡ state.head.epoch) × (key.connection ≤ state.head.given) × (list_any (is_to_make key) state.connections ≡ false))
 
 is_not : (b : Bool) → not b ≡ true → b ≡ false
 is_not true is = absurd (cc)
 is_not false is = refl
 
-is_given : (key : Key) (state : State) → was_given state key ≡ true → IsGiven key state
+pub is_given : (key : Key) (state : State) → was_given state key ≡ true → IsGiven key state
 is_given key state was = given (nat_lt key.epoch state.head.epoch) refl was where
   given : (b : Bool) → nat_lt key.epoch state.head.epoch ≡ b → b || ((key.epoch == state.head.epoch) && (nat_le key.connection state.head.given && not (list_any (is_to_make key) state.connections))) ≡ true → IsGiven key state
   given true less was = inl (grind (arith, nat_tests, less))
@@ -83,7 +83,7 @@ is_given key state was = given (nat_lt key.epoch state.head.epoch) refl was wher
       let le : nat_le key.connection state.head.given ≡ true = there.0 in
       inr (grind (arith, nat_tests, same), grind (arith, nat_tests, le), is_not (list_any (is_to_make key) state.connections) there.1)
 
-is_given_so : (key : Key) (state : State) → IsGiven key state → was_given state key ≡ true
+pub is_given_so : (key : Key) (state : State) → IsGiven key state → was_given state key ≡ true
 is_given_so key state (inl less) = grind (arith, nat_tests, less)
 is_given_so key state (inr here) = let same = here.0 in let le = here.1 in let none = here.2 in grind (arith, nat_tests, same, le, none)
 
@@ -92,13 +92,13 @@ abbrev IsMade : Key → State → State → Type 0
 IsMade key old new = (¬ IsGiven key old) × (are_numbered old ≡ true → IsGiven key new)
 
 -- a key that was given stays so, and a transaction is made of one that was not
-record Counts (key : Key) (old new : State) : Type 0 where
-  stays : IsGiven key old → IsGiven key new
-  numbered : are_numbered old ≡ true → are_numbered new ≡ true
-  made : IsAbsent key old → IsAbsent key new ⊎ IsMade key old new
+pub record Counts (key : Key) (old new : State) : Type 0 where
+  pub stays : IsGiven key old → IsGiven key new
+  pub numbered : are_numbered old ≡ true → are_numbered new ≡ true
+  pub made : IsAbsent key old → IsAbsent key new ⊎ IsMade key old new
 
 module _ (key : Key) where
-  still : (s : State) → Counts key s s
+  pub still : (s : State) → Counts key s s
   still s = record { stays = λ given. given; numbered = λ numbered. numbered; made = λ absent. inl absent }
 
   goes_on : (a b c : State) → Counts key a b → Counts key b c → Counts key a c
@@ -153,12 +153,12 @@ module _ (key : Key) where
       (still_numbered s _ (numbers-map become s.connections same))
 
 -- the next key of a connection was not given before it is made
-not_given : (c : Connection) (s : State) → connection_of c.number s ≡ Some c → ¬ IsGiven (next_key s.head c) s
+pub not_given : (c : Connection) (s : State) → connection_of c.number s ≡ Some c → ¬ IsGiven (next_key s.head c) s
 not_given c s is (inl earlier) = omega (arith, earlier)
 not_given c s is (inr here) = let none = none-found (is_to_make (next_key s.head c)) (has_number c.number) s.connections c is here.2 in grind (arith, nat_tests, none)
 
 -- and is given then
-given_then : (boxes : ℕ) (c : Connection) (s : State) → connection_of c.number s ≡ Some c → are_numbered s ≡ true → IsGiven (next_key s.head c) (record s { connections = changed (has_number c.number) (making boxes (next_key s.head c)) s.connections })
+pub given_then : (boxes : ℕ) (c : Connection) (s : State) → connection_of c.number s ≡ Some c → are_numbered s ≡ true → IsGiven (next_key s.head c) (record s { connections = changed (has_number c.number) (making boxes (next_key s.head c)) s.connections })
 given_then boxes c s is numbered =
     let next = next_key s.head c in
     let below = found-below (s.head.given + 1) (has_number c.number) s.connections c is numbered in
@@ -182,7 +182,7 @@ module _ (key : Key) where
   stands : (at : Key) (place : PartyPlace) (s : State) → Counts key s (record s { transactions = changed (has_key at) (standing_at place) s.transactions })
   stands at place s = transacts key s (changed (has_key at) (standing_at place) s.transactions) (none-changed (has_key key) (has_key at) (standing_at place) s.transactions (λ t is none. none))
 
-  closed_by_counts : (on : Key) → Closed (λ w v. Counts key w.state v.state) any (Is on)
+  pub closed_by_counts : (on : Key) → Closed (λ w v. Counts key w.state v.state) any (Is on)
   unfolding react
   closed_by_counts on = record {
     same = λ w. still key w.state;
@@ -205,7 +205,7 @@ module _ (key : Key) where
 -- Events
 
 -- a connection more, with the next number
-added-counts : (key : Key) (new : ℕ → Connection) (state : State) → ((n : ℕ) → (new n).number ≡ n) → Counts key state (added new (entered state)).state
+pub added-counts : (key : Key) (new : ℕ → Connection) (state : State) → ((n : ℕ) → (new n).number ≡ n) → Counts key state (added new (entered state)).state
 unfolding added
 added-counts key new state is = record { stays = stays; numbered = rising-added (state.head.given + 1) (state.head.given + 1 + 1) state.connections (new (state.head.given + 1)) last (omega arith); made = λ absent. inl absent } where
   last : (new (state.head.given + 1)).number ≡ state.head.given + 1

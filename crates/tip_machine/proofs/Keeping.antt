@@ -23,7 +23,7 @@ pub record Keeps (before after : Work) : Type 0 where
 pub any : ℕ → Type 0
 any n = Unit {0}
 
-may : (n : ℕ) → any n
+pub may : (n : ℕ) → any n
 unfolding any
 may n = tt
 

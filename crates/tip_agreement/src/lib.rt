@@ -1,0 +1,4 @@
+//! What holds of the runs of one realm, over the definitions of its machine (RFC 2371, sections 10, 13 and 15).
+#![tactic(auto)]
+
+pub mod laws;
