@@ -14,7 +14,7 @@ use Rattle.tip_conn.specs.declared.state.State.{State as ConnectionState}
 use Rattle.tip_conn.specs.declared.state.State.TheVariants as state
 use Rattle.tip_conn.specs.declared.state.Turn.TheVariants.{Keep, Original}
 use Rattle.tip_table.specs.Lists.{changed}
-use Rattle.tip_txn.specs.Parts.{acknowledged, answered, named}
+use Rattle.tip_txn.specs.Parts.{acknowledged, answered, is_yes, named}
 use Rattle.tip_txn.specs.declared.answer.Ballot.{Ballot}
 use Rattle.tip_txn.specs.declared.answer.Ballot.TheVariants.{Yes, No, ReadOnly}
 use Rattle.tip_txn.specs.declared.answer.Phase.{Phase}
@@ -29,7 +29,7 @@ use Rattle.tip_machine.specs.Changes.{alter}
 use Rattle.tip_machine.specs.Proceeding.{proceed}
 use Rattle.tip_machine.specs.Responses.{go_on, note_as, proceed_as}
 use Rattle.tip_machine.specs.States.{State, Work, connection_of, transaction_of}
-use Rattle.tip_machine.specs.Transactions.{has_key, is_yes, noting}
+use Rattle.tip_machine.specs.Transactions.{has_key, noting}
 use Rattle.tip_machine.specs.Types.{Connection, Transaction}
 use Rattle.tip_machine.specs.declared.connection.Awaited.{Awaited}
 use Rattle.tip_machine.specs.declared.connection.Awaited.TheVariants as awaited

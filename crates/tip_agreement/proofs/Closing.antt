@@ -10,7 +10,7 @@ use Rattle.tip_branch.specs.declared.member.Errand.TheVariants as errand
 use Rattle.tip_conn.specs.declared.state.State.TheVariants as state
 use Rattle.tip_line.specs.declared.command.CommandName.TheVariants as command
 use Rattle.tip_table.specs.Lists.{without}
-use Rattle.tip_txn.specs.Parts.{answer_at, answered, changed_at}
+use Rattle.tip_txn.specs.Parts.{answer_at, answered, changed_at, is_yes}
 use Rattle.tip_txn.specs.declared.answer.Ballot.{Ballot}
 use Rattle.tip_txn.specs.declared.answer.Ballot.TheVariants.{Yes, ReadOnly, Lost}
 use Rattle.tip_txn.specs.declared.answer.Phase.{Phase}
@@ -24,7 +24,7 @@ use Rattle.tip_machine.specs.Invariants.Links.Link.{Gone, Owes, Awaits}
 use Rattle.tip_machine.specs.Invariants.Phases.{has_its_address, is_over, is_transaction, is_named, is_part, is_part_in, is_party, is_superior, may_have_acknowledged}
 use Rattle.tip_machine.specs.States.{State, Work, connection_of, transaction_of}
 use Rattle.tip_machine.specs.Proceeding.{abort}
-use Rattle.tip_machine.specs.Transactions.{has_key, is_yes, noting}
+use Rattle.tip_machine.specs.Transactions.{has_key, noting}
 use Rattle.tip_machine.specs.Types.{Connection, PartyPlace, Transaction}
 use Rattle.tip_machine.specs.declared.answer.Item.TheVariants.{Say, Close}
 use Rattle.tip_machine.specs.declared.answer.Said.TheVariants as said

@@ -17,6 +17,7 @@ use Rattle.tip_txn.specs.declared.answer.Ballot.TheVariants.{Yes}
 use Rattle.tip_txn.specs.declared.answer.Phase.{Phase}
 use Rattle.tip_txn.specs.declared.answer.Phase.TheVariants.{Committed}
 use Rattle.tip_txn.specs.declared.part.Participant.{Participant}
+use Rattle.tip_txn.specs.Parts.{is_yes}
 use Rattle.tip_machine.specs.Connections.{asks_for, is_on, is_part_of, is_superior_of, names, reaches}
 use Rattle.tip_machine.specs.Invariants.Links.{Link, link, link_on}
 use Rattle.tip_machine.specs.Invariants.Links.Link.{Gone, Owes, Awaits}
@@ -25,7 +26,7 @@ use Rattle.tip_machine.specs.Changes.{end, on}
 use Rattle.tip_machine.specs.Proceeding.{dispatch, dispatched, errand_in, give_out, leave, let_go}
 use Rattle.tip_machine.specs.Reactions.{needs_nothing, react}
 use Rattle.tip_machine.specs.States.{State, Work, transaction_of}
-use Rattle.tip_machine.specs.Transactions.{has_ready, is_done, is_spent, is_yes, standing_at, subordinates, willing_from}
+use Rattle.tip_machine.specs.Transactions.{has_ready, is_done, is_spent, standing_at, subordinates, willing_from}
 use Rattle.tip_machine.specs.Types.{Connection, PartyPlace, Transaction}
 use Rattle.tip_machine.specs.declared.connection.Awaited.TheVariants as awaited
 use Rattle.tip_machine.specs.declared.connection.Role.{Role}

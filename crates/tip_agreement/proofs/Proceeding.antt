@@ -18,6 +18,7 @@ use Rattle.tip_txn.specs.declared.answer.Decision.{Decision}
 use Rattle.tip_txn.specs.declared.answer.Decision.TheVariants as decisions
 use Rattle.tip_txn.specs.declared.answer.Phase.TheVariants.{Active, Asking, Prepared, Committed, Aborted}
 use Rattle.tip_txn.specs.declared.part.Participant.{Participant}
+use Rattle.tip_txn.specs.Parts.{is_yes}
 use Rattle.tip_machine.specs.Connections.{is_superior_of}
 use Rattle.tip_machine.specs.Invariants.Links.{Link, link, link_on}
 use Rattle.tip_machine.specs.Invariants.Links.Link.{Gone, Owes, Awaits}
@@ -27,7 +28,7 @@ use Rattle.tip_machine.specs.Changes.{attempt_on, end}
 use Rattle.tip_machine.specs.Proceeding.{abort, agree, commit, conclude, finish, leave, proceed, proceed_in, promise, wait}
 use Rattle.tip_machine.specs.Reactions.{asks, commits, react}
 use Rattle.tip_machine.specs.States.{Attempt, State, Work, transaction_of}
-use Rattle.tip_machine.specs.Transactions.{decision, decision_of, is_done, is_yes, refuses}
+use Rattle.tip_machine.specs.Transactions.{decision, decision_of, is_done, refuses}
 use Rattle.tip_machine.specs.Types.{Connection, PartyPlace, Transaction}
 use Rattle.tip_machine.specs.declared.event.Change.TheVariants.{Remove}
 use Rattle.tip_machine.specs.declared.connection.Awaited.TheVariants as awaited
