@@ -1,10 +1,9 @@
 -- What a party that comes back comes to, case by case.
-use Rattle.std.proofs.Common.{◌≡◌, ◌≢◌, ◌≤◌, Bool, true, false, cond, ℕ, List, [], ◌∷◌, Option, Some, None, length, map, refl, ap, arith, sym, subst, ◌∙◌}
-use Rattle.std.specs.Prelude.{◌&&◌, ◌||◌, filter, is_none, is_some}
+use Rattle.std.proofs.Common.{◌≡◌, ◌≤◌, Bool, true, false, cond, ℕ, List, [], ◌∷◌, Option, Some, None, length, map, refl, ap, arith, sym, subst, ◌∙◌}
+use Rattle.std.specs.Prelude.{◌||◌, filter, is_none, is_some}
 use Rattle.std.specs.List.{list_any}
-use Rattle.std.specs.Option.{option_and_then, option_map_or}
+use Rattle.std.specs.Option.{option_and_then}
 use Rattle.std.proofs.lemmas.Option.{none-some, same_Some}
-use Rattle.std.proofs.lemmas.Bool.Decides.{nat_tests}
 use Rattle.tip_branch.specs.Notes.{PartyNotes}
 use Rattle.tip_branch.specs.Votes.{ballot}
 use Rattle.tip_branch.specs.declared.member.Errand.{Errand}
@@ -24,11 +23,10 @@ use Rattle.tip_machine.specs.Changes.{alter, refuse}
 use Rattle.tip_machine.specs.Connections.{is_on}
 use Rattle.tip_machine.specs.Proceeding.{dispatch, dispatched, errand_in, finish, give_out, let_go, proceed}
 use Rattle.tip_machine.specs.Requests.{owner, resume, resume_in, settled, settled_for, strange, voted, voted_for}
-use Rattle.tip_machine.specs.States.{Attempt, Work, identified_by, transaction_of}
+use Rattle.tip_machine.specs.States.{Attempt, identified_by, transaction_of}
 use Rattle.tip_machine.specs.Steps.{chosen}
 use Rattle.tip_machine.specs.Transactions.{as_answer, has_ready, is_committed, is_done, noting, party_answer, refuses, standing_at}
-use Rattle.tip_machine.specs.Types.{PartyPlace, Transaction, seen}
-use Rattle.tip_machine.specs.declared.event.Outcome.{Outcome}
+use Rattle.tip_machine.specs.Types.{PartyPlace, Transaction}
 use Rattle.tip_machine.specs.declared.transaction.PartyPlace.TheVariants.{Here, Out, Spent}
 use Rattle.tip_core.specs.Works.{Does, Held, HeldTransaction, is_aborting, is_committing, is_keyed, IsIdle, is_voting, lines_for, lines_of, MayDispatch, party_at, party_here, work_of}
 use Rattle.tip_core.proofs.Losing.{same_room}

@@ -1,5 +1,5 @@
 -- What commands come to, case by case.
-use Rattle.std.proofs.Common.{◌≡◌, ◌≤◌, ◌+◌, Bool, true, false, cond, ℕ, List, [], ◌∷◌, Option, Some, None, length, refl, ap, arith, sym, subst, ◌∙◌, ◌⊎◌, inl, inr}
+use Rattle.std.proofs.Common.{◌≡◌, ◌<◌, ◌≤◌, ◌+◌, Bool, true, false, cond, ℕ, List, [], ◌∷◌, Option, Some, None, length, refl, ap, arith, sym, subst, ◌∙◌, ◌⊎◌, inl, inr}
 use Rattle.std.specs.Prelude.{◌&&◌, filter, find, nat_le}
 use Rattle.std.specs.Option.{option_and_then, option_map_or}
 use Rattle.std.proofs.lemmas.Option.{same_Some}
@@ -21,6 +21,7 @@ use Rattle.tip_machine.specs.Steps.{chosen}
 use Rattle.tip_machine.specs.Transactions.{row_committed}
 use Rattle.tip_machine.specs.Types.{Connection, Transaction}
 use Rattle.tip_machine.specs.declared.answer.Item.TheVariants.{Say}
+use Rattle.tip_machine.specs.declared.answer.Said.{Said}
 use Rattle.tip_machine.specs.declared.answer.Said.TheVariants as said
 use Rattle.tip_machine.specs.declared.connection.Role.{Role}
 use Rattle.tip_machine.specs.declared.connection.Role.TheVariants.{Subordinate, Superior}
@@ -179,3 +180,18 @@ module _ (a b : Held) (number : ℕ) (connection : Connection) (found : connecti
   queried_none there same is does = queries_so false (sym same ∙ is) does
 
 pub ruleset querying = (queried_there, queried_none)
+
+-- Any of them
+
+-- the reply goes to the connection that was found
+pub replied_there : (a b : Held) (number : ℕ) (connection : Connection) (command : CommandName) (said : Said) → connection_of number (work_of a).state ≡ Some connection → Does a b (reply number command said (work_of a)) → Does a b (reply connection.number command said (work_of a))
+replied_there a b number connection command said found does = subst (λ n. Does a b (reply n command said (work_of a))) (sym (found-number number (work_of a).state.connections connection found)) does
+
+-- one line is fewer than two
+pub one_line : (held : Held) (number : ℕ) → lines_at number (work_of held).state + 2 ≤ held.making.free → 0 < held.making.free
+one_line held number enough = omega (arith, enough)
+
+pub one_more : (held : Held) (number : ℕ) → lines_at number (work_of held).state + 2 ≤ held.making.free → lines_at number (work_of held).state + 1 ≤ held.making.free
+one_more held number enough = omega (arith, enough)
+
+pub ruleset serving = (replied_there, one_line, one_more)

@@ -1,18 +1,18 @@
 -- How the transaction of an identifier is found.
 use Rattle.std.proofs.Common.{◌≡◌, ◌≢◌, ◌<◌, ◌^◌, length, get_or, Bool, true, false, cond, ℕ, zero, suc, List, [], ◌∷◌, Option, Some, None, refl, ap, arith, sym, subst, ◌∙◌, ◌↔◌}
-use Rattle.std.specs.Prelude.{◌==◌, ◌&&◌, find, map, option_map}
+use Rattle.std.specs.Prelude.{◌==◌, ◌&&◌, find, option_map}
 use Rattle.std.specs.Option.{option_map_or}
 use Rattle.std.specs.Str.{bytes_eq}
-use Rattle.std.proofs.lemmas.Bool.{and_parts, cases_Bool, false_from_ne_true}
+use Rattle.std.proofs.lemmas.Bool.{and_parts, false_from_ne_true}
 use Rattle.std.proofs.lemmas.Bool.Decides.{nat_tests}
-use Rattle.std.proofs.lemmas.Option.{none-some, same_Some}
+use Rattle.std.proofs.lemmas.Option.{same_Some}
 use Rattle.tip_branch.specs.Notes.{PartyNotes}
 use Rattle.tip_line.specs.Ids.{IsGiven, id_of}
 use Rattle.tip_line.specs.Words.{is_realm}
 use Rattle.tip_rows.specs.Keys.{Key, is_same}
 use Rattle.tip_rows.proofs.MemoryLemmas.{bytes_eq-self, same_text}
 use Rattle.tip_rows.proofs.OrderLemmas.{same_key}
-use Rattle.tip_table.specs.Kept.{Kept, StandsAt, item_at, of}
+use Rattle.tip_table.specs.Kept.{StandsAt, item_at, of}
 use Rattle.tip_table.specs.Lists.{IsFirst}
 use Rattle.tip_table.proofs.Standing.{found as found_first}
 use Rattle.tip_machine.proofs.Naming.{told_apart}

@@ -1,16 +1,26 @@
 -- What becomes of a realm that gets a connection or a transaction more.
-use Rattle.std.proofs.Common.{◌≡◌, ◌≢◌, ◌+◌, Bool, true, false, cond, ℕ, List, [], ◌∷◌, ◌++◌, length, map, refl, ap, sym, subst, ◌∙◌}
+use Rattle.std.proofs.Common.{◌≡◌, ◌≢◌, ◌+◌, Bool, true, false, cond, ℕ, List, [], ◌∷◌, ◌++◌, length, map, refl, ap, sym, subst, ◌∙◌, Option, Some, None, zero, suc}
+use Rattle.std.specs.Prelude.{find}
+use Rattle.std.proofs.lemmas.Option.{none-some}
 use Rattle.tip_branch.specs.declared.branch.Badge.{Badge}
-use Rattle.tip_line.specs.declared.refusal.Refusal.TheVariants.{Full}
-use Rattle.tip_table.specs.Kept.{Kept, capacity, of}
+use Rattle.tip_line.specs.declared.refusal.Refusal.TheVariants.{Full, Stale}
+use Rattle.tip_table.specs.Kept.{Kept, StandsAt, capacity, of}
+use Rattle.tip_table.specs.Lists.{IsFirst}
 use Rattle.tip_machine.specs.Changes.{refuse}
-use Rattle.tip_machine.specs.Connections.{accepted}
-use Rattle.tip_machine.specs.Requests.{added, hand_back, opened}
-use Rattle.tip_machine.specs.States.{Work, has_place}
+use Rattle.tip_machine.specs.Connections.{accepted, has_number}
+use Rattle.tip_machine.specs.Failing.{fail}
+use Rattle.tip_machine.specs.Requests.{added, hand_back, lost, opened}
+use Rattle.tip_machine.specs.States.{Work, connection_of, has_place, seated}
 use Rattle.tip_machine.specs.Types.{Connection, seen}
 use Rattle.tip_machine.specs.declared.event.Seat.{Seat}
 use Rattle.tip_core.specs.Works.{beginning, counting, Does, Held, HeldTransaction, joining, realm_of, showing, work_of}
 use Rattle.tip_core.proofs.Works.{then}
+
+-- the first that passes is found
+pub first_found : {T : Type 0} (test : T → Bool) (items : List T) (at : ℕ) → IsFirst test items at → find test items ≡ None → ⊥
+first_found test [] at first none = first
+first_found test (x ∷ xs) zero first none = none-some x (sym none ∙ ap (λ b. cond b (Some x) (find test xs)) first)
+first_found test (x ∷ xs) (suc at) first none = first_found test xs at first.1 (sym (ap (λ b. cond b (Some x) (find test xs)) first.0) ∙ none)
 
 -- a connection more
 pub joined : (old : Held) (connection : Connection) (connections : Kept Connection) → of connections old.realm ≡ of old.connections old.realm ++ connection ∷ [] → ((other : ℕ) → other ≢ old.realm → of connections other ≡ of old.connections other) → capacity connections ≡ capacity old.connections →
@@ -64,3 +74,18 @@ pub ruleset joining_one = (joined)
 pub ruleset opening = (opened_not, opened_all)
 
 pub ruleset beginning_one = (begun_more)
+
+-- A connection that is lost
+
+pub lost_none : (a b : Held) (seat : Seat) → seated seat (work_of a).state ≡ None → Does a b (refuse Stale (work_of a)) → Does a b (lost (seated seat (work_of a).state) (work_of a))
+unfolding lost
+lost_none a b seat none does = subst (λ o. Does a b (lost o (work_of a))) (sym none) does
+
+pub lost_there : (a b : Held) (seat : Seat) (place : ℕ) → StandsAt a.connections a.realm (has_number seat.number) place → seated seat (work_of a).state ≡ connection_of seat.number (work_of a).state → ((connection : Connection) → connection_of seat.number (work_of a).state ≡ Some connection → Does a b (fail connection (work_of a))) → Does a b (lost (seated seat (work_of a).state) (work_of a))
+unfolding lost
+lost_there a b seat place here same does = step (connection_of seat.number (work_of a).state) refl where
+  step : (found : Option Connection) → connection_of seat.number (work_of a).state ≡ found → Does a b (lost (seated seat (work_of a).state) (work_of a))
+  step None is = absurd (first_found (has_number seat.number) (of a.connections a.realm) here.at here.first is)
+  step (Some connection) is = subst (λ o. Does a b (lost o (work_of a))) (sym (same ∙ is)) (does connection is)
+
+pub ruleset losing = (lost_none)

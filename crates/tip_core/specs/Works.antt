@@ -3,9 +3,12 @@ use Rattle.std.specs.Prelude.{ℕ, ◌≡◌, ◌≢◌, ◌+◌, ◌<◌, ◌�
 use Rattle.std.specs.Option.{option_and_then, option_map_or}
 use Rattle.tip_branch.specs.Notes.{PartyNotes}
 use Rattle.tip_branch.specs.declared.member.Errand.TheVariants as errand
+use Rattle.tip_line.specs.declared.command.CommandName.{CommandName}
+use Rattle.tip_line.specs.declared.command.CommandName.TheVariants as command
 use Rattle.tip_rows.specs.Keys.{Key}
 use Rattle.tip_table.specs.Kept.{capacity, item_at, of}
 use Rattle.tip_machine.specs.Connections.{is_on}
+use Rattle.tip_machine.specs.Served.{Serving}
 use Rattle.tip_machine.specs.States.{State, Work, connection_of, has_room, transaction_of}
 use Rattle.tip_machine.specs.Transactions.{has_id, has_key, next_key}
 use Rattle.tip_machine.specs.Types.{Answer, Connection, PartyPlace, Transaction, seen}
@@ -132,6 +135,25 @@ abbrev pub has_superior : Origin → Bool
 has_superior origin.Root = false
 has_superior (origin.Subordinate None superior) = false
 has_superior (origin.Subordinate (Some address) superior) = true
+
+-- the commands that a realm without superiors and subordinates elsewhere needs
+abbrev pub is_local : CommandName → Bool
+is_local command.Identify = true
+is_local command.Begin = true
+is_local command.Push = false
+is_local command.Pull = false
+is_local command.Prepare = false
+is_local command.Commit = true
+is_local command.Abort = true
+is_local command.Query = true
+is_local command.Reconnect = false
+is_local command.Multiplex = true
+is_local command.Tls = true
+is_local command.Error = true
+
+-- what is served where no connection is dialled, and none is for a superior or a subordinate elsewhere
+abbrev pub local : Serving
+local = record { commands = is_local; dials = false }
 
 -- Steps that make something new
 

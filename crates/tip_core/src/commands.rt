@@ -1,8 +1,11 @@
 //! Commands that we receive as the secondary of a connection (RFC 2371, section 13).
-ghost use Rattle.std.specs.Prelude.{◌≡◌, ◌≤◌, ◌<◌, ◌+◌, ◌&&◌, Some, length, nat_le};
+ghost use Rattle.std.specs.Prelude.{◌≡◌, ◌≤◌, ◌<◌, ◌+◌, ◌&&◌, Some, length, nat_le, true};
+ghost use Rattle.tip_line.specs.Command.{name_of};
 ghost use Rattle.tip_line.specs.declared.command.Command.TheVariants as asked;
+ghost use Rattle.tip_line.specs.declared.command.CommandName.TheVariants.{Begin};
+ghost use Rattle.tip_conn.specs.declared.state.Admit.TheVariants.{Serve};
 ghost use Rattle.tip_table.specs.Kept.{StandsAt};
-ghost use Rattle.tip_machine.specs.Commands.{identify, query, serve, superior_role};
+ghost use Rattle.tip_machine.specs.Commands.{commanded, identify, query, serve, serve_if, superior_role};
 ghost use Rattle.tip_machine.specs.Connections.{has_number};
 ghost use Rattle.tip_machine.specs.Failing.{closed};
 ghost use Rattle.tip_machine.specs.Proceeding.{commit};
@@ -11,16 +14,84 @@ ghost use Rattle.tip_machine.specs.States.{Attempt, connection_of};
 ghost use Rattle.tip_machine.specs.Steps.{chosen};
 ghost use Rattle.tip_machine.specs.Types.{Connection as AConnection};
 ghost use Rattle.tip_machine.specs.declared.event.Change.{Change};
-ghost use Rattle.tip_core.specs.Works.{Does, IsIdle, lines_at, lines_for, work_of};
+ghost use Rattle.tip_core.specs.Works.{Does, is_local, IsIdle, lines_at, lines_for, local, MayMake, work_of};
 
 use crate::making::Making;
 use crate::work::Work;
-use tip_line::{Address, CommandName, Id};
+use tip_conn::{Admit, admit};
+use tip_line::{Address, Command, CommandName, Id};
 use tip_machine::{Connection, Item, Outcome, Role, Said, Transaction};
 use tip_rows::Key;
 use tip_txn::Phase;
 
 impl Work<Connection, Transaction, Making> {
+    /// A command from the primary: served where it is valid, and is one of those that are; else ERROR.
+    #[tactic(auto, unfolding(tip_machine::specs::Commands::commanded))]
+    pub fn command(&mut self, number: u32, place: usize, command: Command)
+        requires here { self.old.realm < length self.old.heads.items }
+        requires stands { StandsAt self.old.connections self.old.realm (has_number number) place }
+        requires able { name_of command ≡ Begin → MayMake number self.old }
+        requires lines { lines_at number (work_of self.old).state + 2 ≤ self.old.making.free }
+        requires none { IsIdle self.old.making.answer }
+        ensures { (connection : AConnection) → connection_of number (work_of self.old).state ≡ Some connection → Does self.old self.new (chosen (commanded local command connection (work_of self.old)) self.old.outcome) }
+    {
+        let connection = self.connection(number, place);
+        match admit(connection.state, connection.side, &command) {
+            Admit::Serve => self.serve_if_local(number, place, command),
+            Admit::Wrong => self.reject(number, place),
+        }
+    }
+
+    /// A command that is valid: served, or answered ERROR.
+    fn serve_if_local(&mut self, number: u32, place: usize, command: Command)
+        requires here { self.old.realm < length self.old.heads.items }
+        requires stands { StandsAt self.old.connections self.old.realm (has_number number) place }
+        requires able { name_of command ≡ Begin → MayMake number self.old }
+        requires lines { lines_at number (work_of self.old).state + 2 ≤ self.old.making.free }
+        requires none { IsIdle self.old.making.answer }
+        ensures { (connection : AConnection) → connection_of number (work_of self.old).state ≡ Some connection → Does self.old self.new (chosen (serve_if local Serve command connection (work_of self.old)) self.old.outcome) }
+    {
+        if is_local(command.name()) {
+            self.serve(number, place, command);
+        } else {
+            self.reject(number, place);
+        }
+    }
+
+    /// A command that is valid, of those that need no superior or subordinate elsewhere.
+    #[tactic(auto, using(crate::proofs::Commanding::serving))]
+    pub fn serve(&mut self, number: u32, place: usize, command: Command)
+        requires here { self.old.realm < length self.old.heads.items }
+        requires stands { StandsAt self.old.connections self.old.realm (has_number number) place }
+        requires local { is_local (name_of command) ≡ true }
+        requires able { name_of command ≡ Begin → MayMake number self.old }
+        requires lines { lines_at number (work_of self.old).state + 2 ≤ self.old.making.free }
+        requires none { IsIdle self.old.making.answer }
+        ensures { (connection : AConnection) → connection_of number (work_of self.old).state ≡ Some connection → Does self.old self.new (chosen (serve command connection (work_of self.old)) self.old.outcome) }
+    {
+        match command {
+            Command::Identify {
+                low,
+                high,
+                primary,
+                secondary: _,
+            } => self.greet(number, place, (low, high), primary),
+            Command::Begin => self.begin(number, place),
+            Command::Commit => self.obey_commit(number, place),
+            Command::Abort => self.obey_abort(number, place),
+            Command::Query { superior } => self.query(number, place, &superior),
+            Command::Multiplex { protocol: _ } => {
+                self.reply(number, place, CommandName::Multiplex, Said::CantMultiplex)
+            }
+            Command::Tls => self.reply(number, place, CommandName::Tls, Said::CantTls),
+            Command::Error => self.close(number, place),
+            Command::Push { .. }
+            | Command::Pull { .. }
+            | Command::Prepare
+            | Command::Reconnect { .. } => unreachable!(),
+        }
+    }
+
     /// IDENTIFY: version 3 is spoken where it lies within what the primary offers.
     #[tactic(auto, using(crate::proofs::Commanding::greeting))]
     pub fn greet(&mut self, number: u32, place: usize, versions: (u32, u32), peer: Option<Address>)
@@ -126,6 +197,24 @@ impl Work<Connection, Transaction, Making> {
             Outcome::Stored => self.abort(key),
             Outcome::Refused | Outcome::NoChange => self.close(number, place),
         }
+    }
+}
+
+/// Whether a command needs no superior or subordinate elsewhere.
+fn is_local(command: CommandName) -> bool
+    ensures { result ≡ is_local command }
+{
+    match command {
+        CommandName::Identify
+        | CommandName::Begin
+        | CommandName::Commit
+        | CommandName::Abort
+        | CommandName::Query
+        | CommandName::Multiplex
+        | CommandName::Tls
+        | CommandName::Error => true,
+        CommandName::Push | CommandName::Pull | CommandName::Prepare | CommandName::Reconnect =>
+            false,
     }
 }
 

@@ -5,10 +5,10 @@ ghost use Rattle.tip_machine.specs.Answers.{silence};
 ghost use Rattle.tip_machine.specs.Connections.{has_number};
 ghost use Rattle.tip_line.specs.declared.refusal.Refusal.TheVariants.{Full};
 ghost use Rattle.tip_machine.specs.Changes.{refuse};
-ghost use Rattle.tip_machine.specs.Requests.{hand_back, may_take_on, opened};
+ghost use Rattle.tip_machine.specs.Requests.{hand_back, lost, may_take_on, opened};
 ghost use Rattle.tip_machine.specs.States.{connection_of, has_place, seated};
 ghost use Rattle.tip_machine.specs.Steps.{entered, is_open};
-ghost use Rattle.tip_core.specs.Works.{counting, Does, joining, showing, work_of};
+ghost use Rattle.tip_core.specs.Works.{counting, Does, IsIdle, joining, lines_at, showing, work_of};
 
 use crate::making::Making;
 use crate::query::Numbered;
@@ -67,6 +67,20 @@ impl Work<Connection, Transaction, Making> {
         match self.seated(seat) {
             Some(place) => self.connection(seat.number, place).may_take(),
             None => false,
+        }
+    }
+
+    /// A connection was lost, if it was there.
+    #[tactic(auto, using(crate::proofs::Openings::losing))]
+    pub fn lost(&mut self, seat: Seat)
+        requires here { self.old.realm < length self.old.heads.items }
+        requires lines { lines_at seat.number (work_of self.old).state ≤ self.old.making.free }
+        requires none { IsIdle self.old.making.answer }
+        ensures { Does self.old self.new (lost (seated seat (work_of self.old).state) (work_of self.old)) }
+    {
+        match self.seated(seat) {
+            Some(place) => self.fail(seat.number, place),
+            None => self.refuse(Refusal::Stale),
         }
     }
 

@@ -145,7 +145,7 @@ impl Work<Connection, Transaction, Making> {
     {
         match self.outcome {
             Outcome::Stored => self.commit(key),
-            Outcome::Refused | Outcome::NoChange => self.abort(key),
+            Outcome::NoChange | Outcome::Refused => self.abort(key),
         }
     }
 

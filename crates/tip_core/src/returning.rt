@@ -168,7 +168,7 @@ impl Work<Connection, Transaction, Making> {
     }
 
     /// The event can't happen as things are.
-    fn refuse(&mut self, why: Refusal)
+    pub(crate) fn refuse(&mut self, why: Refusal)
         ensures { Does self.old self.new (refuse why (work_of self.old)) }
     {
         self.making.refuse(why);

@@ -1,4 +1,4 @@
-use Rattle.std.proofs.Common.{None, refl, sym, ◌∙◌}
+use Rattle.std.proofs.Common.{refl, sym, ◌∙◌}
 use Rattle.std.proofs.lemmas.Option.{none-some}
 use Rattle.tip_core.proofs.Identifying.{named_key, named_same, sought_here, sought_none}
 use Rattle.tip_core.proofs.finding.Work+Connection+Transaction+Making.identified.Goals as goal
