@@ -139,7 +139,7 @@ impl Work<Connection, Transaction, Making> {
     }
 
     /// The party, which is with the transaction, is let go.
-    pub(crate) fn let_go(&mut self, key: Key, place: usize)
+    fn let_go(&mut self, key: Key, place: usize)
         requires stands { StandsAt self.old.transactions self.old.realm (is_keyed key) place }
         requires here { IsSome (party_here place self.old) }
         requires none { self.old.making.answer.spent ≡ None }
