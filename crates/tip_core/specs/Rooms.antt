@@ -1,10 +1,8 @@
 -- The room that a new transaction needs.
-use Rattle.std.specs.Prelude.{ℕ, ◌<◌, length}
-use Rattle.std.specs.List.{All}
+use Rattle.std.specs.Prelude.{ℕ, length}
 use Rattle.tip_rows.specs.Keys.{Key}
 use Rattle.tip_txn.specs.Transactions.{fresh}
 use Rattle.tip_machine.specs.Answers.{identifier}
-use Rattle.tip_machine.specs.States.{State}
 use Rattle.tip_machine.specs.declared.head.Head.{Head}
 use Rattle.tip_core.specs.declared.transaction_room.TransactionRoom as declared
 
@@ -14,9 +12,3 @@ TransactionRoom = declared.TransactionRoom ℕ
 -- room for the transaction of a key: its names, its branches, and a box for each
 abbrev pub room_for : Head → Key → TransactionRoom
 room_for head key = record { name = head.name; id = identifier head.name key; branches = head.branches; party = length head.branches; txn = fresh }
-
--- What a realm counts stays below this, so that no count comes to its end.
-pub record IsBelow (most : ℕ) (state : State) : Type 0 where
-  pub given : state.head.given < most
-  pub epoch : 0 < state.head.epoch
-  pub connections : All (λ connection. (0 < connection.number) × (connection.made < most)) state.connections
