@@ -1,6 +1,7 @@
 //! The items of many realms in one table. Contracts see realm by realm the list of the items, in the order made.
 #![tactic(auto)]
 
+mod items;
 pub mod laws;
 mod table;
 mod test;
@@ -8,6 +9,7 @@ mod test;
 mod tests;
 mod visit;
 
+pub use items::Items;
 pub use table::Table;
 pub use test::Test;
 pub use visit::Visit;

@@ -5,6 +5,7 @@ ghost use Rattle.tip_table.specs.Entries.{IsVisited, Item, items_in};
 ghost use Rattle.tip_table.specs.Kept.{StandsAt, capacity, of, places, item_at, taken_out};
 ghost use Rattle.tip_table.specs.Visits.{MayVisit, notes_of};
 
+use crate::items::Items;
 use crate::test::Test;
 use crate::visit::Visit;
 use std::alloc::{AllocError, Allocator, Global};
@@ -12,9 +13,9 @@ use std::marker::Model;
 
 /// An item and its realm.
 #[derive(Drop)]
-struct Entry<T> {
-    realm: usize,
-    item: T,
+pub(crate) struct Entry<T> {
+    pub(crate) realm: usize,
+    pub(crate) item: T,
 }
 
 /// Items, each of a realm. A place is a name of one item that holds until an item is removed.
@@ -84,6 +85,14 @@ impl<T: Drop, A: Allocator> Table<T, A> {
         ensures some { IfSome result (λ place. StandsAt self.now realm (Q.passes query.now) place) }
     {
         find_in(&self.entries, realm, query)
+    }
+
+    /// The items of a realm, in the order made.
+    #[tactic(auto, unfolding(crate::specs::Kept::of))]
+    pub fn items(&self, realm: usize) -> Items<'_, T>
+        ensures { result ≡ of self.now realm }
+    {
+        Items::new(&self.entries, realm)
     }
 
     /// How many of a realm's items pass.

@@ -56,3 +56,17 @@ fn the_first_that_passes_is_written_and_taken_out(rt: HostRuntime) -> Result<(),
     assert!(rt; table.find(0, &Is { number: 5 }).is_some());
     Ok(())
 }
+
+#[test]
+fn the_items_of_a_realm_come_in_their_order(rt: HostRuntime) -> Result<(), Fail> {
+    let mut table = Table::new(rt.alloc());
+    put(&mut table, 0, 5)?;
+    put(&mut table, 1, 6)?;
+    put(&mut table, 0, 7)?;
+    let mut seen = Vec::new(rt.alloc());
+    for number in table.items(0) {
+        seen.push(*number)?;
+    }
+    assert_eq!(rt; seen.as_slice(), [5, 7].as_slice());
+    Ok(())
+}
