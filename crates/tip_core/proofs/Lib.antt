@@ -13,3 +13,4 @@ pub mod Doing
 pub mod Stepping
 pub mod Isolated
 pub mod Naming
+pub mod Turning

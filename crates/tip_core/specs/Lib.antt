@@ -1,5 +1,6 @@
 pub mod Rooms
 pub mod Makings
+pub mod Turns
 pub mod Works
 pub mod Reacting
 pub mod Tables

@@ -18,6 +18,7 @@ mod room;
 mod rules;
 mod starts;
 mod transaction_room;
+mod turns;
 mod work;
 
 pub use machine::{Core, Run};
