@@ -1,9 +1,12 @@
 //! An answer in the making.
-ghost use Rattle.std.specs.Prelude.{◌≡◌, ◌+◌, ◌<◌, ◌≤◌, [], ◌∷◌, ◌++◌, None, Some, IfOk, IsSome};
+ghost use Rattle.std.specs.Prelude.{◌≡◌, ◌+◌, ◌<◌, ◌≤◌, [], ◌∷◌, ◌++◌, length, vec_capacity, None, Some, IfOk, IsSome};
 ghost use Rattle.tip_machine.specs.Answers.{silence};
+ghost use Rattle.tip_machine.specs.Order.{in_turn};
 ghost use Rattle.tip_machine.specs.Steps.{returned};
+ghost use Rattle.tip_core.specs.Turns.{turn_in};
 
 use crate::transaction_room::TransactionRoom;
+use crate::turns::Turns;
 use std::alloc::{AllocError, Global};
 use std::marker::Model;
 use tip_branch::{HeldFresh, HeldParty};
@@ -166,6 +169,28 @@ impl Making {
             spent,
             unused,
             entry,
+        }
+    }
+
+    /// The answer as it is now, with its lines in the order of their turns, in an empty vector that has room for them. An
+    /// answer with nothing in it is left, and no room for a transaction.
+    pub fn finish_in_turn(&mut self, lines: Vec<Sent>, turns: &Turns) -> Answer
+        requires empty { lines.items ≡ [] }
+        requires room { length self.old.answer.sent ≤ vec_capacity lines }
+        ensures answer { result ≡ record self.old.answer { sent = in_turn (turn_in turns.now.turns) self.old.answer.sent } }
+        ensures left { self.new.answer ≡ silence }
+        ensures free { self.new.free ≡ self.old.free + length self.old.answer.sent }
+        ensures room { self.new.room ≡ None }
+    {
+        self.room = None;
+        Answer {
+            refusal: self.refusal.take(),
+            opened: self.opened.take(),
+            sent: SentLines::new(turns.order(&mut self.sent, lines)),
+            work: self.work.take(),
+            spent: self.spent.take(),
+            unused: self.unused.take(),
+            entry: self.entry.take(),
         }
     }
 }
