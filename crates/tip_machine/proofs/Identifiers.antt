@@ -56,7 +56,7 @@ made_there key f (d ∷ cs) c last is rising counted = let parts = and_parts _ _
       (later is)
 
 -- a reaction makes no transaction
-made-reacted : (key : Key) (reaction : Reaction) (c : Connection) → (reacted reaction key c).connection.made ≡ c.made
+pub made-reacted : (key : Key) (reaction : Reaction) (c : Connection) → (reacted reaction key c).connection.made ≡ c.made
 made-reacted key reaction c = reacted-keeps (λ d. d.made ≡ c.made) c refl reaction key (λ command response. advanced-made command response c) (λ awaited. refl)
 
 -- Rules

@@ -1,8 +1,9 @@
 -- Lists of which an item is changed, taken out or added: what a test finds there.
 use Rattle.std.proofs.Common.{◌≡◌, Bool, true, false, List, [], ◌∷◌, ◌++◌, Some, None, cond, refl, ap, subst}
 use Rattle.std.specs.Prelude.{◌||◌, find, is_some, map}
-use Rattle.std.specs.List.{list_any}
+use Rattle.std.specs.List.{list_any, All}
 use Rattle.std.proofs.lemmas.Bool.{or_from, or_parts}
+use Rattle.std.proofs.lemmas.List.Elements.{All-cons, All-head, All-tail}
 use Rattle.std.proofs.lemmas.Option.{same_Some, none-some}
 use Rattle.tip_table.specs.Lists.{changed, without}
 
@@ -65,3 +66,28 @@ module _ {T : Type 0} (p : T → Bool) where
     step : (b : Bool) → p y ≡ false → (find q ys ≡ Some x → p x ≡ false) → cond b (Some y) (find q ys) ≡ Some x → p x ≡ false
     step true first later is = subst (λ z. p z ≡ false) (same_Some y x is) first
     step false first later is = later is
+
+-- What holds of all
+
+module _ {T : Type 0} (P : T → Type 0) (q : T → Bool) where
+  pub all-changed : (f : T → T) (xs : List T) → ((x : T) → find q xs ≡ Some x → P x → P (f x)) → All P xs → All P (changed q f xs)
+  all-changed f [] keeps all = all
+  all-changed f (x ∷ xs) keeps all = step (q x) keeps (λ keeps. all-changed f xs keeps (All-tail P x xs all)) where
+    step : (b : Bool) → ((y : T) → cond b (Some x) (find q xs) ≡ Some y → P y → P (f y)) → (((y : T) → find q xs ≡ Some y → P y → P (f y)) → All P (changed q f xs)) → All P (cond b (f x ∷ xs) (x ∷ changed q f xs))
+    step true keeps later = All-cons P (f x) xs (keeps x refl (All-head P x xs all)) (All-tail P x xs all)
+    step false keeps later = All-cons P x (changed q f xs) (All-head P x xs all) (later keeps)
+
+  pub all-without : (xs : List T) → All P xs → All P (without q xs)
+  all-without [] all = all
+  all-without (x ∷ xs) all = step (q x) (all-without xs (All-tail P x xs all)) where
+    step : (b : Bool) → All P (without q xs) → All P (cond b xs (x ∷ without q xs))
+    step true later = All-tail P x xs all
+    step false later = All-cons P x (without q xs) (All-head P x xs all) later
+
+  -- what is found is one of them
+  pub all-found : (xs : List T) (x : T) → find q xs ≡ Some x → All P xs → P x
+  all-found [] x is all = absurd (none-some x is)
+  all-found (y ∷ ys) x is all = step (q y) is (λ later. all-found ys x later (All-tail P y ys all)) where
+    step : (b : Bool) → cond b (Some y) (find q ys) ≡ Some x → (find q ys ≡ Some x → P x) → P x
+    step true is later = subst P (same_Some y x is) (All-head P y ys all)
+    step false is later = later is

@@ -73,7 +73,7 @@ ordered-went w state v none (inl goes) = inl (record {
 ordered-went w state v none (inr opens) = inr (record { head = opens.head; opened = opens.opened; refusal = opens.refusal })
 
 -- an event that takes an entry goes from `entered`
-step-went : (serving : Serving) (state : State) (event : Event) (outcome : Outcome) → Went (entered state) (ordered state (chosen (attempt serving event (entered state)) outcome))
+pub step-went : (serving : Serving) (state : State) (event : Event) (outcome : Outcome) → Went (entered state) (ordered state (chosen (attempt serving event (entered state)) outcome))
 step-went serving state event outcome = ordered-went (entered state) state _ refl (chosen_ends (Went (entered state)) (attempt serving event (entered state)) outcome (attempt-went serving event (entered state) refl))
 
 returned-opened : (why : Refusal) (event : Event) → (returned why event).opened ≡ None

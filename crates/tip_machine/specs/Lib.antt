@@ -5,6 +5,7 @@ pub mod Events
 pub mod Answers
 pub mod Transactions
 pub mod States
+pub mod Counts
 pub mod Given
 pub mod Alone
 pub mod Served

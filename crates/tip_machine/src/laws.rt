@@ -10,6 +10,7 @@ ghost use Rattle.tip_line.specs.declared.command.CommandName.TheVariants as comm
 ghost use Rattle.tip_rows.specs.Keys.{Key};
 ghost use Rattle.tip_machine.specs.Changes.{refuse, reply};
 ghost use Rattle.tip_machine.specs.Commands.{pull, query, reconnect};
+ghost use Rattle.tip_machine.specs.Counts.{HasCounts};
 ghost use Rattle.tip_machine.specs.Failing.{closed};
 ghost use Rattle.tip_machine.specs.Given.{are_numbered, was_given};
 ghost use Rattle.tip_machine.specs.Invariants.{IsSound};
@@ -19,8 +20,8 @@ ghost use Rattle.tip_machine.specs.Responses.{pursue};
 ghost use Rattle.tip_machine.specs.Returns.{Back, back_of, can_answer, is_done};
 ghost use Rattle.tip_machine.specs.Served.{Serving, today};
 ghost use Rattle.tip_machine.specs.Starting.{IsStart, is_starting};
-ghost use Rattle.tip_machine.specs.States.{State, Work, identified_by, transaction_of};
-ghost use Rattle.tip_machine.specs.Steps.{step_serving, wants_serving, ChangesTheEntriesAlone, IsForgotten, IsNext, IsOfKey, SendsOne, TellsOfOne, TouchesOne};
+ghost use Rattle.tip_machine.specs.States.{State, Work, connection_of, identified_by, started, transaction_of};
+ghost use Rattle.tip_machine.specs.Steps.{entered, step_serving, wants_serving, ChangesTheEntriesAlone, IsForgotten, IsNext, IsOfKey, SendsOne, TellsOfOne, TouchesOne};
 ghost use Rattle.tip_machine.specs.Transactions.{decision};
 ghost use Rattle.tip_machine.specs.Types.{Connection, Event};
 ghost use Rattle.tip_machine.specs.declared.answer.Said.TheVariants as said;
@@ -49,6 +50,16 @@ pub fn numbers_of_connections_rise()
     ensures rising { (serving : Serving) (state : State) (event : Event) (outcome : Outcome) → state.head.given ≤ (step_serving serving state event outcome).state.head.given }
     ensures none { (state : State) → state.connections ≡ [] → are_numbered state ≡ true }
     ensures stays { (serving : Serving) (state : State) (event : Event) (outcome : Outcome) → are_numbered state ≡ true → are_numbered (step_serving serving state event outcome).state ≡ true }
+{}
+
+/// A realm's counts stay below its entries: an event takes one, gives at most one connection, and makes at most one transaction.
+/// So once an event has its entry, no more transactions were made on any connection than there were entries before.
+#[tactic(auto, using(crate::proofs::Counting::counts_start, crate::proofs::Counting::counts_stay, crate::proofs::Counting::entered_below))]
+pub fn counts_stay_below_the_entries()
+    ensures start { (head : Head) → 0 < head.epoch → head.given ≤ head.entries → HasCounts (started head) }
+    ensures stays { (serving : Serving) (state : State) (event : Event) (outcome : Outcome) → HasCounts state → HasCounts (step_serving serving state event outcome).state }
+    ensures entered { (number : ℕ) (state : State) (connection : Connection) → HasCounts state → connection_of number (entered state).state ≡ Some connection →
+        (connection.made < (entered state).state.head.entries) × (0 < connection.number) }
 {}
 
 /// A step changes at most one transaction, and only connections that are on it, the one that its event names, and a new one;
