@@ -191,6 +191,13 @@ impl<A: Allocator> Txn<A> {
         }
     }
 
+    /// Its subordinates, in the order enlisted: all parts but the local party.
+    pub fn others(&self) -> &[Participant]
+        ensures { result.now ≡ drop 1 self.now.parts }
+    {
+        &self.others
+    }
+
     /// Whether a peer that asks for it is told that it exists.
     pub fn exists(&self) -> bool
         ensures { result ≡ exists_in self.now.phase }
