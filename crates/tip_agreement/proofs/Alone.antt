@@ -18,10 +18,9 @@ use Rattle.tip_line.specs.declared.response.ResponseName.TheVariants as response
 use Rattle.tip_machine.specs.Failing.{wrong}
 use Rattle.tip_machine.specs.declared.answer.Item.TheVariants.{Say}
 use Rattle.tip_machine.proofs.Walks.{either}
-use Rattle.tip_agreement.specs.Whole.{is_at_once}
 use Rattle.tip_txn.specs.declared.answer.Phase.{Phase}
 use Rattle.tip_txn.specs.declared.answer.Phase.TheVariants.{Active, Asking, Prepared, Committed, Aborted}
-use Rattle.tip_machine.specs.Alone.{is_early}
+use Rattle.tip_machine.specs.Invariants.Links.{is_early}
 use Rattle.tip_machine.specs.Answers.{response_name}
 use Rattle.tip_machine.specs.Changes.{change, reply, tell}
 use Rattle.tip_machine.specs.Commands.{exists, identify, query, serve}
@@ -43,6 +42,15 @@ use Rattle.tip_agreement.proofs.Found.{any_apart, find_apart}
 use Rattle.tip_agreement.proofs.Obeying.{link_was}
 use Rattle.tip_agreement.proofs.Proceeding.{AllWhole}
 use Rattle.tip_agreement.proofs.Reacting.{Standing, acts_free, idle}
+
+-- what is answered at once, whatever the transactions are (section 13)
+abbrev pub is_at_once : Command → Bool
+is_at_once (commands.Identify lowest highest primary secondary) = true
+is_at_once (commands.Query superior) = true
+is_at_once (commands.Multiplex protocol) = true
+is_at_once commands.Tls = true
+is_at_once commands.Error = true
+is_at_once other = false
 
 -- A connection on no transaction changes, and stays on none
 
@@ -164,7 +172,7 @@ tls_next : next_of command.Tls state.Initial (response_name said.CantTls) ≡ So
 unfolding next_of
 tls_next = refl
 
-identify_next : next_of command.Identify state.Initial response.Identified ≡ Some (state.Idle, Original)
+pub identify_next : next_of command.Identify state.Initial response.Identified ≡ Some (state.Idle, Original)
 unfolding next_of
 identify_next = refl
 

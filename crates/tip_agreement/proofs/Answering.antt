@@ -20,7 +20,7 @@ use Rattle.tip_txn.specs.declared.answer.Ballot.TheVariants.{Yes, No, ReadOnly}
 use Rattle.tip_txn.specs.declared.answer.Phase.{Phase}
 use Rattle.tip_txn.specs.declared.answer.Phase.TheVariants.{Active, Asking, Prepared, Committed, Aborted}
 use Rattle.tip_txn.specs.declared.part.Participant.{Participant}
-use Rattle.tip_machine.specs.Alone.{is_early}
+use Rattle.tip_machine.specs.Invariants.Links.{is_early}
 use Rattle.tip_machine.specs.Connections.{advanced, advanced_to, is_part_of, reaches, role_in}
 use Rattle.tip_machine.specs.Invariants.Links.{Link, is_on_none, link, link_on}
 use Rattle.tip_machine.specs.Invariants.Links.Link.{Gone, Owes, Awaits}
@@ -49,7 +49,7 @@ use Rattle.tip_agreement.proofs.Responding.{Becomes, is_going, noted_whole, part
 use Rattle.tip_agreement.proofs.Sound.{PartAt, part_held}
 
 -- what only a subordinate answers
-abbrev is_partly : Awaited → Bool
+abbrev pub is_partly : Awaited → Bool
 is_partly (awaited.Identify purpose) = false
 is_partly awaited.Push = true
 is_partly awaited.Pull = false
@@ -115,7 +115,7 @@ module _ (c : Connection) (w : Work) (whole : Whole w.state) (there : connection
   stood : Standing w.state c
   stood = stands_there c w whole there
 
-  link_now : link (Some c) ≡ Awaits c.state (Some a)
+  pub link_now : link (Some c) ≡ Awaits c.state (Some a)
   link_now = ap (λ side. link_on side c) side ∙ ap (Awaits c.state) waits
 
   never_alone : c.role ≡ None → ⊥
@@ -176,7 +176,7 @@ module _ (a : Awaited) (command : CommandName) (response : ResponseName) (note :
 
 -- PUSH is refused, or was known
 
-push_goes : (response : ResponseName) → next_of command.Push state.Idle response ≡ Some (state.Idle, Original) → (phase : Phase) (at : ConnectionState) (answer : Option Ballot) → is_part phase (Awaits at (Some awaited.Push)) answer ≡ true → (next_of command.Push at response ≡ Some (state.Idle, Original)) × (is_going phase ≡ true)
+pub push_goes : (response : ResponseName) → next_of command.Push state.Idle response ≡ Some (state.Idle, Original) → (phase : Phase) (at : ConnectionState) (answer : Option Ballot) → is_part phase (Awaits at (Some awaited.Push)) answer ≡ true → (next_of command.Push at response ≡ Some (state.Idle, Original)) × (is_going phase ≡ true)
 push_goes response next Active state.Idle None is = (next, refl)
 push_goes response next Asking state.Idle None is = (next, refl)
 push_goes response next Aborted state.Idle None is = (next, refl)
@@ -192,15 +192,15 @@ push_fits Prepared state.Idle answer part is told = absurd (cc)
 push_fits Committed state.Idle answer part is told = absurd (cc)
 push_fits phase at answer part is told = absurd (cc)
 
-never_pushed : (at : ConnectionState) (answer : Option Ballot) → is_part Committed (Awaits at (Some awaited.Push)) answer ≡ true → ⊥
+pub never_pushed : (at : ConnectionState) (answer : Option Ballot) → is_part Committed (Awaits at (Some awaited.Push)) answer ≡ true → ⊥
 never_pushed state.Idle answer is = cc
 never_pushed at answer is = cc
 
-already_next : next_of command.Push state.Idle response.AlreadyPushed ≡ Some (state.Idle, Original)
+pub already_next : next_of command.Push state.Idle response.AlreadyPushed ≡ Some (state.Idle, Original)
 unfolding next_of
 already_next = refl
 
-not_pushed_next : next_of command.Push state.Idle response.NotPushed ≡ Some (state.Idle, Original)
+pub not_pushed_next : next_of command.Push state.Idle response.NotPushed ≡ Some (state.Idle, Original)
 unfolding next_of
 not_pushed_next = refl
 
@@ -212,7 +212,7 @@ not_pushed_whole c w whole there side waits = leaving_whole awaited.Push command
 
 -- PREPARE is refused, or there is nothing to commit
 
-prepare_goes : (response : ResponseName) → next_of command.Prepare state.Enlisted response ≡ Some (state.Idle, Original) → (phase : Phase) (at : ConnectionState) (answer : Option Ballot) → is_part phase (Awaits at (Some awaited.Prepare)) answer ≡ true → (next_of command.Prepare at response ≡ Some (state.Idle, Original)) × (is_going phase ≡ true)
+pub prepare_goes : (response : ResponseName) → next_of command.Prepare state.Enlisted response ≡ Some (state.Idle, Original) → (phase : Phase) (at : ConnectionState) (answer : Option Ballot) → is_part phase (Awaits at (Some awaited.Prepare)) answer ≡ true → (next_of command.Prepare at response ≡ Some (state.Idle, Original)) × (is_going phase ≡ true)
 prepare_goes response next Asking state.Enlisted None is = (next, refl)
 prepare_goes response next Aborted state.Enlisted None is = (next, refl)
 prepare_goes response next Active state.Idle answer is = absurd (cc)
@@ -228,11 +228,11 @@ prepare_fits ballot asked other Prepared state.Idle answer part is told = absurd
 prepare_fits ballot asked other Committed state.Idle answer part is told = absurd (cc)
 prepare_fits ballot asked other phase at answer part is told = absurd (cc)
 
-never_asked : (at : ConnectionState) (answer : Option Ballot) → is_part Committed (Awaits at (Some awaited.Prepare)) answer ≡ true → ⊥
+pub never_asked : (at : ConnectionState) (answer : Option Ballot) → is_part Committed (Awaits at (Some awaited.Prepare)) answer ≡ true → ⊥
 never_asked state.Idle answer is = cc
 never_asked at answer is = cc
 
-aborted_next : next_of command.Prepare state.Enlisted response.Aborted ≡ Some (state.Idle, Original)
+pub aborted_next : next_of command.Prepare state.Enlisted response.Aborted ≡ Some (state.Idle, Original)
 unfolding next_of
 aborted_next = refl
 
@@ -251,7 +251,7 @@ read_only_whole c w whole there side waits = leaving_whole awaited.Prepare comma
 told_gone : (part : Participant) → part.answer ≡ Some Yes → has_pair part ≡ true → part_before Committed Gone (acknowledged part) ≡ true
 told_gone part same pair = and_from _ _ (and_from _ _ (ap (may_commit Gone) same) (ap (may_have_acknowledged Committed Gone) same)) (or_right _ _ pair)
 
-commit_goes : next_of command.Commit state.Prepared response.Committed ≡ Some (state.Idle, Original) → (phase : Phase) (at : ConnectionState) (answer : Option Ballot) → is_part phase (Awaits at (Some awaited.Commit)) answer ≡ true → (next_of command.Commit at response.Committed ≡ Some (state.Idle, Original)) × (is_going phase ≡ true)
+pub commit_goes : next_of command.Commit state.Prepared response.Committed ≡ Some (state.Idle, Original) → (phase : Phase) (at : ConnectionState) (answer : Option Ballot) → is_part phase (Awaits at (Some awaited.Commit)) answer ≡ true → (next_of command.Commit at response.Committed ≡ Some (state.Idle, Original)) × (is_going phase ≡ true)
 commit_goes next Committed state.Prepared (Some Yes) is = (next, refl)
 commit_goes next Active state.Idle answer is = absurd (cc)
 commit_goes next Asking state.Idle answer is = absurd (cc)
@@ -267,7 +267,7 @@ commit_fits Prepared state.Idle answer part same is pair = absurd (cc)
 commit_fits Aborted state.Idle answer part same is pair = absurd (cc)
 commit_fits phase at answer part same is pair = absurd (cc)
 
-reconnect_goes : next_of command.Reconnect state.Idle response.NotReconnected ≡ Some (state.Idle, Original) → (phase : Phase) (at : ConnectionState) (answer : Option Ballot) → is_part phase (Awaits at (Some awaited.Reconnect)) answer ≡ true → (next_of command.Reconnect at response.NotReconnected ≡ Some (state.Idle, Original)) × (is_going phase ≡ true)
+pub reconnect_goes : next_of command.Reconnect state.Idle response.NotReconnected ≡ Some (state.Idle, Original) → (phase : Phase) (at : ConnectionState) (answer : Option Ballot) → is_part phase (Awaits at (Some awaited.Reconnect)) answer ≡ true → (next_of command.Reconnect at response.NotReconnected ≡ Some (state.Idle, Original)) × (is_going phase ≡ true)
 reconnect_goes next Committed state.Idle (Some Yes) is = (next, refl)
 reconnect_goes next Active state.Idle answer is = absurd (cc)
 reconnect_goes next Asking state.Idle answer is = absurd (cc)
@@ -283,11 +283,11 @@ reconnect_fits Prepared state.Idle answer part same is pair = absurd (cc)
 reconnect_fits Aborted state.Idle answer part same is pair = absurd (cc)
 reconnect_fits phase at answer part same is pair = absurd (cc)
 
-committed_next : next_of command.Commit state.Prepared response.Committed ≡ Some (state.Idle, Original)
+pub committed_next : next_of command.Commit state.Prepared response.Committed ≡ Some (state.Idle, Original)
 unfolding next_of
 committed_next = refl
 
-not_reconnected_next : next_of command.Reconnect state.Idle response.NotReconnected ≡ Some (state.Idle, Original)
+pub not_reconnected_next : next_of command.Reconnect state.Idle response.NotReconnected ≡ Some (state.Idle, Original)
 unfolding next_of
 not_reconnected_next = refl
 
@@ -337,7 +337,7 @@ pushed_fits id Prepared state.Idle answer part same is told address = absurd (cc
 pushed_fits id Committed state.Idle answer part same is told address = absurd (cc)
 pushed_fits id phase at answer part same is told address = absurd (cc)
 
-pushed_next : next_of command.Push state.Idle response.Pushed ≡ Some (state.Enlisted, Keep)
+pub pushed_next : next_of command.Push state.Idle response.Pushed ≡ Some (state.Enlisted, Keep)
 unfolding next_of
 pushed_next = refl
 
@@ -436,7 +436,7 @@ reconnected_fits Prepared state.Idle answer part same is told pair = absurd (cc)
 reconnected_fits Aborted state.Idle answer part same is told pair = absurd (cc)
 reconnected_fits phase at answer part same is told pair = absurd (cc)
 
-reconnected_next : next_of command.Reconnect state.Idle response.Reconnected ≡ Some (state.Prepared, Keep)
+pub reconnected_next : next_of command.Reconnect state.Idle response.Reconnected ≡ Some (state.Prepared, Keep)
 unfolding next_of
 reconnected_next = refl
 

@@ -104,7 +104,7 @@ module _ (old new : State) (t : Transaction) (alike : Alike t.key old new) where
   pub same_transaction : is_transaction new t ≡ is_transaction old t
   same_transaction = λ i. is_superior t.phase t.origin (link (alike.superior i)) && has_its_address t.phase t.origin (alike.superior i) && same_own t.place i && same_all t.parts i && has_come_to t.phase (decision_of t) && not (same_over t.phase i)
 
-turned_about : (key other : Key) → is_same key other ≡ false → is_same other key ≡ false
+pub turned_about : (key other : Key) → is_same key other ≡ false → is_same other key ≡ false
 turned_about key other differ = grind (arith, nat_tests)
 
 differs_from : (key other at : Key) → is_same key at ≡ true → is_same key other ≡ false → is_same other at ≡ false
@@ -279,7 +279,7 @@ module _ (key : Key) (s : State) where
   abbrev pub altered : (Transaction → Transaction) → State
   altered f = with_transactions (changed (has_key key) f s.transactions)
 
-  other_found : (f : Transaction → Transaction) → ((t : Transaction) → (f t).key ≡ t.key) → (other : Key) → is_same key other ≡ false → transaction_of other (altered f) ≡ transaction_of other s
+  pub other_found : (f : Transaction → Transaction) → ((t : Transaction) → (f t).key ≡ t.key) → (other : Key) → is_same key other ≡ false → transaction_of other (altered f) ≡ transaction_of other s
   other_found f same other differ = find-changed (has_key other) (has_key key) f s.transactions (λ t here. let apart = differs_from key other t.key here differ in (apart, ap (is_same other) (same t) ∙ apart))
 
   pub found_altered : (f : Transaction → Transaction) → ((t : Transaction) → (f t).key ≡ t.key) → (t : Transaction) → transaction_of key s ≡ Some t → transaction_of key (altered f) ≡ Some (f t)
@@ -325,7 +325,7 @@ module _ (key : Key) (s : State) where
   abbrev pub ended : State
   ended = with_transactions (without (has_key key) s.transactions)
 
-  other_left : (other : Key) → is_same key other ≡ false → transaction_of other ended ≡ transaction_of other s
+  pub other_left : (other : Key) → is_same key other ≡ false → transaction_of other ended ≡ transaction_of other s
   other_left other differ = find-without (has_key other) (has_key key) s.transactions (λ t here. differs_from key other t.key here differ)
 
   role_left : (role : Option Role) → names key role ≡ false → is_placed s role ≡ true → is_placed ended role ≡ true

@@ -1,9 +1,8 @@
 -- The answers to our QUERY leave a realm whole.
-use Rattle.std.proofs.Common.{◌≡◌, Bool, true, false, ℕ, suc, zero, Option, Some, None, cond, refl, ap, subst, sym, ◌∙◌}
-use Rattle.std.specs.Prelude.{◌&&◌, ◌||◌, not, is_some, length, nat_le, nat_lt}
+use Rattle.std.proofs.Common.{◌≡◌, Bool, true, false, Option, Some, None, cond, refl, ap, subst, sym, ◌∙◌}
+use Rattle.std.specs.Prelude.{not}
 use Rattle.std.specs.List.{list_any}
-use Rattle.std.specs.Option.{option_map_or}
-use Rattle.std.proofs.lemmas.Bool.{and_parts, both_ways, not-true}
+use Rattle.std.proofs.lemmas.Bool.{and_parts, not-true}
 use Rattle.tip_rows.specs.Keys.{Key}
 use Rattle.tip_conn.specs.Table.{next_of}
 use Rattle.tip_conn.specs.declared.state.Side.TheVariants.{Primary}
@@ -13,15 +12,12 @@ use Rattle.tip_conn.specs.declared.state.Turn.TheVariants.{Original}
 use Rattle.tip_line.specs.declared.command.CommandName.TheVariants as command
 use Rattle.tip_line.specs.declared.response.ResponseName.{ResponseName}
 use Rattle.tip_line.specs.declared.response.ResponseName.TheVariants as response
-use Rattle.tip_txn.specs.declared.answer.Ballot.{Ballot}
-use Rattle.tip_txn.specs.declared.answer.Phase.{Phase}
-use Rattle.tip_txn.specs.declared.answer.Phase.TheVariants.{Active, Asking, Prepared, Committed, Aborted}
 use Rattle.tip_machine.specs.Changes.{attempt_on, change, tell}
 use Rattle.tip_machine.specs.Connections.{advanced, advanced_to, is_superior_of}
 use Rattle.tip_machine.specs.Failing.{closed, fail, gone, missed}
 use Rattle.tip_machine.specs.Invariants.Links.{is_on_none, link, link_on}
 use Rattle.tip_machine.specs.Invariants.Links.Link.{Awaits}
-use Rattle.tip_machine.specs.Invariants.Phases.{is_part, is_part_in, is_party, is_superior, is_transaction}
+use Rattle.tip_machine.specs.Invariants.Phases.{is_part_in, is_party, is_transaction}
 use Rattle.tip_machine.specs.Proceeding.{abort}
 use Rattle.tip_machine.specs.Responses.{go_on, is_in_doubt, presume_abort}
 use Rattle.tip_machine.specs.States.{Attempt, Work, connection_of, transaction_of}
@@ -29,24 +25,20 @@ use Rattle.tip_machine.specs.Transactions.{has_key, is_prepared}
 use Rattle.tip_machine.specs.Types.{Connection, Transaction}
 use Rattle.tip_machine.specs.declared.answer.Item.TheVariants.{Close}
 use Rattle.tip_machine.specs.declared.connection.Awaited.TheVariants as awaited
-use Rattle.tip_machine.specs.declared.connection.Role.{Role}
-use Rattle.tip_machine.specs.declared.connection.Role.TheVariants.{Superior, Subordinate}
-use Rattle.tip_machine.specs.declared.transaction.Origin.{Origin}
-use Rattle.tip_machine.specs.declared.transaction.Origin.TheVariants as origin
 use Rattle.tip_machine.specs.declared.event.Change.TheVariants.{Remove}
 use Rattle.tip_machine.proofs.RuleWalks.{advanced-number}
 use Rattle.tip_agreement.proofs.Aborting.{aborted_whole, may_abort_above, may_abort_part, may_abort_party}
 use Rattle.tip_agreement.proofs.Alone.{alone_set}
 use Rattle.tip_agreement.proofs.Apart.{all_found}
-use Rattle.tip_agreement.proofs.Around.{Whole, around_of, is_placed, stands}
-use Rattle.tip_agreement.proofs.Closing.{closed_whole, gone_may_abort, have_same, in_table, part_of, part_there, stands_there}
+use Rattle.tip_agreement.proofs.Around.{Whole, around_of, stands}
+use Rattle.tip_agreement.proofs.Closing.{closed_whole, gone_may_abort, have_same}
 use Rattle.tip_agreement.proofs.Commanding.{doubt_aborts, doubt_party, same_without}
 use Rattle.tip_agreement.proofs.Found.{none_there}
+use Rattle.tip_agreement.proofs.Loose.{loose, on_none, querying}
 use Rattle.tip_agreement.proofs.Owned.{in_phase, key_found}
 use Rattle.tip_agreement.proofs.Proceeding.{AllWhole}
-use Rattle.tip_agreement.proofs.Pulling.{link_before}
-use Rattle.tip_agreement.proofs.Reacting.{Standing, idle}
-use Rattle.tip_agreement.proofs.Sound.{part_held}
+use Rattle.tip_agreement.proofs.Reacting.{idle}
+use Rattle.tip_agreement.proofs.Reaching.{only_prepared}
 
 -- A connection that awaits the answer to QUERY is on no transaction
 
@@ -54,23 +46,8 @@ query_state : (key : Key) (at : ConnectionState) → is_on_none (Awaits at (Some
 query_state key state.Idle is = refl
 query_state key at is = absurd (cc)
 
-never_superior : (key : Key) (phase : Phase) (from : Origin) (at : ConnectionState) → is_superior phase from (Awaits at (Some (awaited.Query key))) ≡ true → ⊥
-never_superior key Active (origin.Subordinate address superior) state.Idle is = cc
-never_superior key Aborted (origin.Subordinate address superior) state.Idle is = cc
-never_superior key Asking (origin.Subordinate None superior) at is = cc
-never_superior key Prepared (origin.Subordinate None superior) at is = cc
-never_superior key phase from at is = cc
-
-never_part : (key : Key) (phase : Phase) (at : ConnectionState) (answer : Option Ballot) → is_part phase (Awaits at (Some (awaited.Query key))) answer ≡ true → ⊥
-never_part key Active state.Idle answer is = cc
-never_part key Asking state.Idle answer is = cc
-never_part key Prepared state.Idle answer is = cc
-never_part key Committed state.Idle answer is = cc
-never_part key Aborted state.Idle answer is = cc
-never_part key phase at answer is = cc
-
 -- Where it hangs up, it makes no difference what became of the connection
-closed_anyway : (c : Connection) (f : Connection → Connection) (w : Work) → ((d : Connection) → (f d).number ≡ d.number) → closed c (change c.number f w) ≡ closed c w
+pub closed_anyway : (c : Connection) (f : Connection → Connection) (w : Work) → ((d : Connection) → (f d).number ≡ d.number) → closed c (change c.number f w) ≡ closed c w
 unfolding closed fail gone
 closed_anyway c f w same = ap (missed c.role) (λ i. record (gone c (tell c.number Close w)) { state = record w.state { connections = same_without c.number f w.state.connections same i } })
 
@@ -83,41 +60,14 @@ unfolding next_of
 not_found_next = refl
 
 module _ (asked : Key) (c : Connection) (w : Work) (whole : Whole w.state) (there : connection_of c.number w.state ≡ Some c) (side : c.side ≡ Primary) (waits : c.awaited ≡ Some (awaited.Query asked)) where
-  known_there : Standing w.state c
-  known_there = stands_there c w whole there
-
   awaits_now : link_on c.side c ≡ Awaits c.state (Some (awaited.Query asked))
   awaits_now = ap (λ s. link_on s c) side ∙ ap (Awaits c.state) waits
 
-  never_below : (key : Key) (place : ℕ) (found : Option Transaction) → transaction_of key w.state ≡ found → nat_le 1 place && option_map_or (λ (t : Transaction). nat_lt place (length t.parts)) found false ≡ true → c.role ≡ Some (Subordinate key place) → ⊥
-  never_below key place None is range role = both_ways false refl (and_parts (nat_le 1 place) false range).1
-  never_below key zero (Some t) is range role = cc
-  never_below key (suc m) (Some t) is range role =
-      let same = key_found key t w.state is in
-      let found = subst (λ k. transaction_of k w.state ≡ Some t) same is in
-      let on = subst (λ k. c.role ≡ Some (Subordinate k (suc m))) same role in
-      let parts = and_parts (nat_le 1 (suc m)) (nat_lt (suc m) (length t.parts)) range in
-      let held = part_held (is_part_in t.phase) (is_party t.phase) t.place (suc m) t.parts t.key w.state.connections parts.0 parts.1 (part_of m t c w whole there found on).owned.parts in
-      let holds : is_part_in t.phase (Awaits c.state (Some (awaited.Query asked))) held.part ≡ true = subst (λ l. is_part_in t.phase l held.part ≡ true) (ap link (part_there m t c w whole there found on) ∙ awaits_now) held.holds in
-      never_part asked t.phase c.state held.part.answer (in_table t.phase (Awaits c.state (Some (awaited.Query asked))) held.part holds).fits
-
-  never_above : (key : Key) (found : Option Transaction) → transaction_of key w.state ≡ found → is_some found ≡ true → c.role ≡ Some (Superior key) → ⊥
-  never_above key None is some role = cc
-  never_above key (Some t) is some role =
-      let same = key_found key t w.state is in
-      let fits = link_before t c w whole there (subst (λ k. transaction_of k w.state ≡ Some t) same is) (subst (λ k. c.role ≡ Some (Superior k)) same role) in
-      never_superior asked t.phase t.origin c.state (subst (λ l. is_superior t.phase t.origin l ≡ true) awaits_now fits)
-
-  of_none : (role : Option Role) → c.role ≡ role → is_placed w.state role ≡ true → c.role ≡ None
-  of_none None role placed = role
-  of_none (Some (Superior key)) role placed = absurd (never_above key (transaction_of key w.state) refl placed role)
-  of_none (Some (Subordinate key place)) role placed = absurd (never_below key place (transaction_of key w.state) refl placed role)
-
   alone : c.role ≡ None
-  alone = of_none c.role refl known_there.placed
+  alone = loose (Awaits c.state (Some (awaited.Query asked))) (querying asked c.state) c w whole there awaits_now
 
   idle_now : c.state ≡ state.Idle
-  idle_now = query_state asked c.state (subst (λ l. is_on_none l ≡ true) awaits_now (subst (λ r. is_some r || is_on_none (link_on c.side c) ≡ true) alone known_there.free))
+  idle_now = query_state asked c.state (on_none (Awaits c.state (Some (awaited.Query asked))) (querying asked c.state) c w whole there awaits_now)
 
   gone_on : (response : ResponseName) → next_of command.Query state.Idle response ≡ Some (state.Idle, Original) → Whole (go_on command.Query response c w).state
   gone_on response next =
@@ -143,13 +93,7 @@ module _ (asked : Key) (c : Connection) (w : Work) (whole : Whole w.state) (ther
         above = ap (λ o. may_abort_above t.origin (link o)) none ∙ gone_may_abort t.origin;
         parts = have_same t.key after.state.connections after.state.connections 0 (is_part_in t.phase) may_abort_part (λ place differs. refl) (λ l p fits. doubt_aborts l p (subst (λ f. is_part_in f l p ≡ true) prepared fits)) (is_party t.phase) may_abort_party t.place t.parts refl (λ answer fits. doubt_party t.place answer (subst (λ f. is_party f t.place answer ≡ true) prepared fits)) was.parts;
         own = was.own;
-      }) where
-        only_prepared : (phase : Phase) → is_prepared phase ≡ true → phase ≡ Prepared
-        only_prepared Prepared is = refl
-        only_prepared Active is = absurd (cc)
-        only_prepared Asking is = absurd (cc)
-        only_prepared Committed is = absurd (cc)
-        only_prepared Aborted is = absurd (cc)
+      })
 
   presumed : (t : Transaction) → transaction_of t.key after.state ≡ Some t → AllWhole (presume_abort c t after)
   presumed t found = step (is_in_doubt after.state t) refl where

@@ -1,8 +1,8 @@
 -- A connection that is lost or closed leaves a realm whole.
 use Rattle.std.proofs.Common.{◌≡◌, ◌<◌, Bool, true, false, ℕ, ◌+◌, suc, zero, List, [], ◌∷◌, Option, Some, None, cond, refl, ap, subst, sym, arith, ◌∙◌}
-use Rattle.std.specs.Prelude.{◌&&◌, ◌||◌, ◌==◌, not, find, is_some, length, nat_le, nat_lt}
+use Rattle.std.specs.Prelude.{◌&&◌, ◌||◌, ◌==◌, not, find, is_some, length, nat_le, nat_lt, slice_get}
 use Rattle.std.specs.List.{list_all}
-use Rattle.std.specs.Option.{option_map_or}
+use Rattle.std.specs.Option.{option_and_then, option_map_or}
 use Rattle.std.proofs.lemmas.Bool.{and_from, and_parts, and_right, false_from_ne_true, not_from_false, or_left, or_right}
 use Rattle.std.proofs.lemmas.Bool.Decides.{nat_tests}
 use Rattle.tip_rows.specs.Keys.{Key}
@@ -57,7 +57,7 @@ module _ (key : Key) (cs new : List Connection) (at : ℕ) (table table' : Link 
         further : at < start → at < start + 1
         further less = omega (arith, less)
 
-  parts_noted : (f : Participant → Participant) (m start : ℕ) (parts : List Participant) → at ≡ start + m → ((p : Participant) → answer_at parts m ≡ p.answer → table (link (find (is_part_of key at) cs)) p ≡ true → table' (link (find (is_part_of key at) new)) (f p) ≡ true) → parts_from table start parts key cs ≡ true → parts_from table' start (changed_at m f parts) key new ≡ true
+  parts_noted : (f : Participant → Participant) (m start : ℕ) (parts : List Participant) → at ≡ start + m → ((p : Participant) → slice_get parts m ≡ Some p → table (link (find (is_part_of key at) cs)) p ≡ true → table' (link (find (is_part_of key at) new)) (f p) ≡ true) → parts_from table start parts key cs ≡ true → parts_from table' start (changed_at m f parts) key new ≡ true
   parts_noted f m start [] is here all = refl
   parts_noted f zero start (p ∷ parts) is here all =
       let both = and_parts (table (link (find (is_part_of key start) cs)) p) (parts_from table (start + 1) parts key cs) all in
@@ -69,7 +69,7 @@ module _ (key : Key) (cs new : List Connection) (at : ℕ) (table table' : Link 
         apart : at ≡ start + suc m → ¬ (start ≡ at)
         apart is so = omega (arith, is, so)
 
-  pub have_noted : (f : Participant → Participant) (m : ℕ) (party party' : PartyPlace → Option Ballot → Bool) (place : PartyPlace) (parts : List Participant) → at ≡ suc m → ((answer : Option Ballot) → party place answer ≡ true → party' place answer ≡ true) → ((p : Participant) → answer_at parts (suc m) ≡ p.answer → table (link (find (is_part_of key at) cs)) p ≡ true → table' (link (find (is_part_of key at) new)) (f p) ≡ true) → have_parts table party place parts key cs ≡ true → have_parts table' party' place (changed_at (suc m) f parts) key new ≡ true
+  pub have_noted : (f : Participant → Participant) (m : ℕ) (party party' : PartyPlace → Option Ballot → Bool) (place : PartyPlace) (parts : List Participant) → at ≡ suc m → ((answer : Option Ballot) → party place answer ≡ true → party' place answer ≡ true) → ((p : Participant) → slice_get parts (suc m) ≡ Some p → table (link (find (is_part_of key at) cs)) p ≡ true → table' (link (find (is_part_of key at) new)) (f p) ≡ true) → have_parts table party place parts key cs ≡ true → have_parts table' party' place (changed_at (suc m) f parts) key new ≡ true
   have_noted f m party party' place [] is local here all = absurd (cc)
   have_noted f m party party' place (l ∷ parts) is local here all =
       let both = and_parts (party place l.answer) (parts_from table 1 parts key cs) all in
@@ -328,7 +328,7 @@ module _ (key : Key) (t : Transaction) (c : Connection) (w : Work) (whole : Whol
       over = ap (λ f. not (is_over f left t)) is ∙ over;
     })) around_left
 
-    superior_lost_whole : (phase : Phase) → t.phase ≡ phase → Whole (superior_lost phase key (gone c w)).state
+    pub superior_lost_whole : (phase : Phase) → t.phase ≡ phase → Whole (superior_lost phase key (gone c w)).state
     superior_lost_whole Active is = stops (ap is_stoppable is)
     superior_lost_whole Asking is = stops (ap is_stoppable is)
     superior_lost_whole Aborted is = stops (ap is_stoppable is)
@@ -367,7 +367,7 @@ module _ (m : ℕ) (t : Transaction) (c : Connection) (w : Work) (whole : Whole 
 
   -- the parts then, with something noted of this one
   parts_then : (f : Participant → Participant) (table : Link → Participant → Bool) (party : PartyPlace → Option Ballot → Bool) → ((l : Link) (p : Participant) → is_part_in t.phase l p ≡ true → table l p ≡ true) → ((answer : Option Ballot) → is_party t.phase t.place answer ≡ true → party t.place answer ≡ true) → ((l : Link) (p : Participant) → answer_at t.parts (suc m) ≡ p.answer → is_part_in t.phase l p ≡ true → table Gone (f p) ≡ true) → have_parts table party t.place (changed_at (suc m) f t.parts) t.key (left t.key t c w whole there found).connections ≡ true
-  parts_then f table party down local here = have_noted t.key w.state.connections (left t.key t c w whole there found).connections (suc m) (is_part_in t.phase) table others_left down f m (is_party t.phase) party t.place t.parts refl local (λ p at fits. ap (λ o. table (link o) (f p)) part_left ∙ here (link (find (is_part_of t.key (suc m)) w.state.connections)) p at fits) part_of.owned.parts
+  parts_then f table party down local here = have_noted t.key w.state.connections (left t.key t c w whole there found).connections (suc m) (is_part_in t.phase) table others_left down f m (is_party t.phase) party t.place t.parts refl local (λ p at fits. ap (λ o. table (link o) (f p)) part_left ∙ here (link (find (is_part_of t.key (suc m)) w.state.connections)) p (ap (option_and_then (λ (p : Participant). p.answer)) at) fits) part_of.owned.parts
 
   part_stops : is_stoppable t.phase ≡ true → Whole (abort t.key (gone c w)).state
   unfolding gone

@@ -25,6 +25,7 @@ lost_from_sound : (errands : List PartyNotes) (world : World) → are_out world.
 lost_from_sound [] world out sound = sound
 lost_from_sound (party ∷ errands) world out sound = record {
   numbered = sound.numbered;
+  bounded = sound.bounded;
   keyed = sound.keyed;
   roles = sound.roles;
   connections = sound.connections;

@@ -2,35 +2,27 @@
 use Rattle.std.proofs.Common.{◌≡◌, Bool, true, false, ℕ, ◌+◌, List, [], ◌∷◌, ◌++◌, Option, Some, None, refl, ap, ◌∙◌}
 use Rattle.std.specs.Prelude.{◌&&◌, ◌||◌, find, length}
 use Rattle.std.specs.List.{list_any}
-use Rattle.std.proofs.lemmas.Bool.{and_parts, or_from}
+use Rattle.std.proofs.lemmas.Bool.{or_from}
 use Rattle.tip_branch.specs.declared.branch.Badge.{Badge}
 use Rattle.tip_line.specs.declared.refusal.Refusal.TheVariants.{Full}
-use Rattle.tip_rows.specs.Keys.{Key, is_same}
+use Rattle.tip_rows.specs.Keys.{Key}
 use Rattle.tip_machine.specs.Connections.{accepted, asks_for, dialled, is_on, is_part_of, is_superior_of, names, reaches}
 use Rattle.tip_machine.specs.Changes.{refuse}
-use Rattle.tip_machine.specs.Invariants.{IsSound}
-use Rattle.tip_machine.specs.Invariants.Links.{are_distinct}
-use Rattle.tip_machine.specs.Moves.{World}
 use Rattle.tip_machine.specs.Order.{ordered}
 use Rattle.tip_machine.specs.Requests.{added, dial, hand_back, lost, opened}
 use Rattle.tip_machine.specs.Served.{Serving}
-use Rattle.tip_machine.specs.States.{State, Work, connection_of, has_place, seated}
+use Rattle.tip_machine.specs.States.{State, Work, connection_of, has_place}
 use Rattle.tip_machine.specs.Steps.{attempt, chosen, entered, frozen, is_open, step_serving}
 use Rattle.tip_machine.specs.Types.{Connection, Event}
 use Rattle.tip_machine.specs.declared.connection.Purpose.{Purpose}
 use Rattle.tip_machine.specs.declared.connection.Role.{Role}
-use Rattle.tip_machine.specs.declared.event.Event.TheVariants.{Open, Dial, Lost}
 use Rattle.tip_machine.specs.declared.event.Outcome.{Outcome}
-use Rattle.tip_machine.specs.declared.event.Seat.{Seat}
 use Rattle.tip_machine.proofs.Lists.{find-added}
-use Rattle.tip_machine.proofs.Walks.{Ends, chosen_ends, either, more_ends, seated_there}
-use Rattle.tip_agreement.specs.Whole.{IsWhole}
+use Rattle.tip_machine.proofs.Walks.{Ends, chosen_ends, either}
 use Rattle.tip_agreement.proofs.Apart.{all_added}
 use Rattle.tip_agreement.proofs.Around.{Alike, Whole, all_stand_still, clash, clashes, same_roles, stands}
 use Rattle.tip_agreement.proofs.Closing.{fail_whole, whole_alike}
 use Rattle.tip_agreement.proofs.Found.{apart_more}
-use Rattle.tip_agreement.proofs.Keys.{keys_of}
-use Rattle.tip_agreement.proofs.Sound.{whole_from, whole_to}
 
 -- Counts alone change
 
@@ -88,15 +80,15 @@ added_whole new s none stand whole =
 abbrev pub WholeFrom : State → Work → Type 0
 WholeFrom s v = Whole s → Whole v.state
 
-opened_whole : (boxes : List Badge) (s : State) → WholeFrom s (opened boxes (entered s))
+pub opened_whole : (boxes : List Badge) (s : State) → WholeFrom s (opened boxes (entered s))
 unfolding opened
 opened_whole boxes s = either (WholeFrom s) (has_place (length boxes) (entered s).state) (added (accepted boxes) (entered s)) (hand_back boxes (refuse Full (entered s))) (added_whole (accepted boxes) s (λ n. refl) (λ n. refl)) (entered_whole s)
 
-dial_whole : (serves : Bool) (address : List ℕ) (purpose : Purpose) (boxes : List Badge) (s : State) → WholeFrom s (dial serves address purpose boxes (entered s))
+pub dial_whole : (serves : Bool) (address : List ℕ) (purpose : Purpose) (boxes : List Badge) (s : State) → WholeFrom s (dial serves address purpose boxes (entered s))
 unfolding dial
 dial_whole serves address purpose boxes s = either (WholeFrom s) (serves && has_place (length boxes) (entered s).state) _ (hand_back boxes (refuse Full (entered s))) (added_whole (dialled address purpose boxes) s (λ n. refl) (λ n. refl)) (entered_whole s)
 
-lost_whole : (found : Option Connection) (s : State) → ((c : Connection) → found ≡ Some c → connection_of c.number (entered s).state ≡ Some c) → WholeFrom s (lost found (entered s))
+pub lost_whole : (found : Option Connection) (s : State) → ((c : Connection) → found ≡ Some c → connection_of c.number (entered s).state ≡ Some c) → WholeFrom s (lost found (entered s))
 unfolding lost
 lost_whole None s there whole = entered_whole s whole
 lost_whole (Some c) s there whole = fail_whole c (entered s) (entered_whole s whole) (there c refl)
@@ -109,22 +101,3 @@ ordered_whole s v keeps whole = keeps whole
 
 pub steps_whole : (serving : Serving) (s : State) (event : Event) (outcome : Outcome) → Ends (WholeFrom s) (attempt serving event (entered s)) → WholeFrom s (step_serving serving s event outcome)
 steps_whole serving s event outcome ends = either (WholeFrom s) (is_open s) (ordered s (chosen (attempt serving event (entered s)) outcome)) (frozen event s) (ordered_whole s _ (chosen_ends (WholeFrom s) (attempt serving event (entered s)) outcome ends)) (λ whole. whole)
-
--- the invariants of roles, of connections and of transactions, where an event leaves a realm whole
-pub keeps_invariants : (serving : Serving) (world : World) (event : Event) (outcome : Outcome) → Ends (WholeFrom world.state) (attempt serving event (entered world.state)) → IsSound world → IsWhole (step_serving serving world.state event outcome).state
-keeps_invariants serving world event outcome ends sound = whole_to _ (steps_whole serving world.state event outcome ends (whole_from world.state (and_parts (are_distinct is_same (keys_of world.state.transactions)) _ sound.keyed).0 sound.roles sound.connections sound.transactions))
-
--- the same, of what is whole where the realm was
-pub keeps_with : (serving : Serving) (world : World) (event : Event) (outcome : Outcome) → (Whole world.state → Ends (λ v. Whole v.state) (attempt serving event (entered world.state))) → IsSound world → IsWhole (step_serving serving world.state event outcome).state
-keeps_with serving world event outcome ends sound =
-    let whole = whole_from world.state (and_parts (are_distinct is_same (keys_of world.state.transactions)) _ sound.keyed).0 sound.roles sound.connections sound.transactions in
-    keeps_invariants serving world event outcome (more_ends (λ v. Whole v.state) (WholeFrom world.state) (λ v is always. is) (attempt serving event (entered world.state)) (ends whole)) sound
-
-pub opening_keeps : (serving : Serving) (world : World) (boxes : List Badge) (outcome : Outcome) → IsSound world → IsWhole (step_serving serving world.state (Open boxes) outcome).state
-opening_keeps serving world boxes outcome = keeps_invariants serving world (Open boxes) outcome (opened_whole boxes world.state)
-
-pub dialling_keeps : (serving : Serving) (world : World) (address : List ℕ) (purpose : Purpose) (boxes : List Badge) (outcome : Outcome) → IsSound world → IsWhole (step_serving serving world.state (Dial address purpose boxes) outcome).state
-dialling_keeps serving world address purpose boxes outcome = keeps_invariants serving world (Dial address purpose boxes) outcome (dial_whole serving.dials address purpose boxes world.state)
-
-pub losing_keeps : (serving : Serving) (world : World) (seat : Seat) (outcome : Outcome) → IsSound world → IsWhole (step_serving serving world.state (Lost seat) outcome).state
-losing_keeps serving world seat outcome = keeps_invariants serving world (Lost seat) outcome (lost_whole (seated seat (entered world.state).state) world.state (seated_there seat (entered world.state).state))

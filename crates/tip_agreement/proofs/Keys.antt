@@ -36,7 +36,7 @@ use Rattle.tip_agreement.proofs.Apart.{all_added, all_changed, all_more, all_wit
 abbrev pub keys_of : List Transaction → List Key
 keys_of ts = map (λ (t : Transaction). t.key) ts
 
-abbrev are_given : State → List Transaction → Bool
+abbrev pub are_given : State → List Transaction → Bool
 are_given s ts = list_all (λ (t : Transaction). was_given s t.key) ts
 
 -- numbers rise, and keys are apart and were given
@@ -75,7 +75,7 @@ none_added : (key : Key) (ts : List Transaction) (t : Transaction) → list_any 
 none_added key [] t none differs = or_from _ _ differs refl
 none_added key (u ∷ ts) t none differs = let parts = or_parts (is_same key u.key) _ none in or_from _ _ parts.0 (none_added key ts t parts.1 differs)
 
-apart_added : (ts : List Transaction) (t : Transaction) → are_distinct is_same (keys_of ts) ≡ true → list_all (λ (u : Transaction). not (is_same u.key t.key)) ts ≡ true → are_distinct is_same (keys_of (ts ++ t ∷ [])) ≡ true
+pub apart_added : (ts : List Transaction) (t : Transaction) → are_distinct is_same (keys_of ts) ≡ true → list_all (λ (u : Transaction). not (is_same u.key t.key)) ts ≡ true → are_distinct is_same (keys_of (ts ++ t ∷ [])) ≡ true
 apart_added [] t apart differ = refl
 apart_added (u ∷ ts) t apart differ =
     let parts = and_parts _ (are_distinct is_same (keys_of ts)) apart in
@@ -110,7 +110,7 @@ ends at s keyed = record {
 }
 
 -- the next key is none of those that were given
-next_apart : (c : Connection) (s : State) (key : Key) → connection_of c.number s ≡ Some c → was_given s key ≡ true → not (is_same key (next_key s.head c)) ≡ true
+pub next_apart : (c : Connection) (s : State) (key : Key) → connection_of c.number s ≡ Some c → was_given s key ≡ true → not (is_same key (next_key s.head c)) ≡ true
 next_apart c s key found given = step (is_same key (next_key s.head c)) refl where
   step : (b : Bool) → is_same key (next_key s.head c) ≡ b → not b ≡ true
   step false differs = refl

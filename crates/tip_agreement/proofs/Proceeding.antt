@@ -1,5 +1,5 @@
 -- What follows for a transaction leaves a realm whole.
-use Rattle.std.proofs.Common.{◌≡◌, Bool, true, false, ℕ, ◌+◌, List, [], ◌∷◌, Option, Some, None, cond, refl, ap, subst, sym, ◌∙◌}
+use Rattle.std.proofs.Common.{◌≡◌, Bool, true, false, ℕ, ◌+◌, List, [], ◌∷◌, Option, Some, None, cond, refl, ap, subst, sym, ◌∙◌, ◌⊎◌, inl, inr}
 use Rattle.std.specs.Prelude.{◌&&◌, ◌||◌, not, find, map, is_none}
 use Rattle.std.specs.List.{list_any}
 use Rattle.std.specs.Option.{option_and_then}
@@ -13,12 +13,16 @@ use Rattle.tip_conn.specs.declared.state.State.TheVariants as state
 use Rattle.tip_line.specs.declared.command.CommandName.{CommandName}
 use Rattle.tip_line.specs.declared.command.CommandName.TheVariants as command
 use Rattle.tip_txn.specs.declared.answer.Ballot.{Ballot}
-use Rattle.tip_txn.specs.declared.answer.Ballot.TheVariants.{Yes, No, ReadOnly}
+use Rattle.tip_txn.specs.declared.answer.Ballot.TheVariants.{Yes, No, ReadOnly, Lost}
 use Rattle.tip_txn.specs.declared.answer.Decision.{Decision}
 use Rattle.tip_txn.specs.declared.answer.Decision.TheVariants as decisions
+use Rattle.tip_txn.specs.declared.answer.Phase.{Phase}
 use Rattle.tip_txn.specs.declared.answer.Phase.TheVariants.{Active, Asking, Prepared, Committed, Aborted}
 use Rattle.tip_txn.specs.declared.part.Participant.{Participant}
 use Rattle.tip_txn.specs.Parts.{is_yes}
+use Rattle.tip_branch.specs.Members.{is_active}
+use Rattle.tip_branch.specs.Notes.{PartyNotes}
+use Rattle.tip_branch.specs.declared.member.Errand.{Errand}
 use Rattle.tip_machine.specs.Connections.{is_superior_of}
 use Rattle.tip_machine.specs.Invariants.Links.{Link, link, link_on}
 use Rattle.tip_machine.specs.Invariants.Links.Link.{Gone, Owes, Awaits}
@@ -28,7 +32,7 @@ use Rattle.tip_machine.specs.Changes.{attempt_on, end}
 use Rattle.tip_machine.specs.Proceeding.{abort, agree, commit, conclude, finish, leave, proceed, proceed_in, promise, wait}
 use Rattle.tip_machine.specs.Reactions.{asks, commits, react}
 use Rattle.tip_machine.specs.States.{Attempt, State, Work, transaction_of}
-use Rattle.tip_machine.specs.Transactions.{decision, decision_of, is_done, refuses}
+use Rattle.tip_machine.specs.Transactions.{decision, decision_of, is_done, refuses, has_ready}
 use Rattle.tip_machine.specs.Types.{Connection, PartyPlace, Transaction}
 use Rattle.tip_machine.specs.declared.event.Change.TheVariants.{Remove}
 use Rattle.tip_machine.specs.declared.connection.Awaited.TheVariants as awaited
@@ -359,3 +363,82 @@ unfolding proceed
 proceed_whole key t w found around known =
     let same = key_found key t w.state found in
     subst (λ o. AllWhole (attempt_on o (λ t. proceed_in t.phase t) w)) (sym found) (follows t w (subst (λ k. transaction_of k w.state ≡ Some t) same found) (subst (λ k. Around k w.state) same around) known)
+
+-- What the local party is where the answers decide
+
+-- the party of a transaction that is asked, or was not asked yet
+abbrev pub waits_at : Phase → PartyPlace → Option Ballot → Bool
+waits_at Active place answer = is_party Active place answer
+waits_at Asking place answer = may_ask_party place answer
+waits_at phase place answer = true
+
+abbrev pub local_waits : Phase → PartyPlace → List Participant → Bool
+local_waits phase place [] = false
+local_waits phase place (local ∷ parts) = waits_at phase place local.answer
+
+active_open : (place : PartyPlace) (answer : Option Ballot) → is_party Active place answer ≡ true → is_open_answer answer ≡ true
+unfolding is_open_answer
+active_open (Here party) None is = refl
+active_open place answer is = absurd (cc)
+
+-- all agree: none of its branches is active
+pub agreed_party : (phase : Phase) (place : PartyPlace) (parts : List Participant) → (phase ≡ Active) ⊎ (phase ≡ Asking) → local_waits phase place parts ≡ true → decision (map (λ (part : Participant). part.answer) parts) ≡ decisions.Commit → (party : PartyNotes) → place ≡ Here party → list_any is_active party.members ≡ false
+agreed_party phase place [] which waits agreed party at = absurd (cc)
+agreed_party phase place (local ∷ parts) which waits agreed party at = step phase which waits where
+  closed_now : is_open_answer local.answer ≡ false
+  closed_now = (or_parts (is_open_answer local.answer) _ (agrees (local.answer ∷ map (λ (part : Participant). part.answer) parts) agreed)).0
+
+  none_active : (answer : Option Ballot) → is_party Prepared (Here party) answer ≡ true → list_any is_active party.members ≡ false
+  none_active (Some Yes) is = not-true _ (and_parts (not (list_any is_active party.members)) (has_ready party) is).0
+  none_active (Some ReadOnly) is = not-true _ (and_parts (not (list_any is_active party.members)) (not (has_ready party)) is).0
+  none_active None is = absurd (cc)
+  none_active (Some No) is = absurd (cc)
+  none_active (Some Lost) is = absurd (cc)
+
+  step : (phase : Phase) → (phase ≡ Active) ⊎ (phase ≡ Asking) → waits_at phase place local.answer ≡ true → list_any is_active party.members ≡ false
+  step Active which waits = absurd (both_ways (is_open_answer local.answer) closed_now (active_open place local.answer waits))
+  step Asking which waits = none_active local.answer (subst (λ p. is_party Prepared p local.answer ≡ true) at (decided_party place local.answer waits closed_now))
+  step Prepared (inl is) waits = absurd (cc)
+  step Prepared (inr is) waits = absurd (cc)
+  step Committed (inl is) waits = absurd (cc)
+  step Committed (inr is) waits = absurd (cc)
+  step Aborted (inl is) waits = absurd (cc)
+  step Aborted (inr is) waits = absurd (cc)
+
+-- all are read-only: it is not out, and none of its branches waits for the outcome
+pub record HasLeft (place : PartyPlace) : Type 0 where
+  pub within : (e : Errand) → place ≡ Out e → ⊥
+  pub left : (party : PartyNotes) → place ≡ Here party → has_ready party ≡ false
+
+read_only_at : (place : PartyPlace) (answer : Option Ballot) → may_ask_party place answer ≡ true → is_not_read_only answer ≡ false → HasLeft place
+unfolding is_open_answer is_not_read_only
+read_only_at (Out errand.Vote) None may closed = absurd (cc)
+read_only_at (Here party) (Some Yes) may closed = absurd (cc)
+read_only_at (Here party) (Some No) may closed = absurd (cc)
+read_only_at (Here party) (Some ReadOnly) may closed = record { within = λ e is. never e is; left = λ q is. subst (λ p. has_ready p ≡ false) (same_here q is) (not-true _ (and_parts (not (list_any is_active party.members)) (not (has_ready party)) may).1) } where
+  never : (e : Errand) → Here party ≡ Out e → ⊥
+  never e is = cc
+
+  same_here : (q : PartyNotes) → Here party ≡ Here q → party ≡ q
+  same_here q is = cc
+read_only_at place answer may closed = absurd (cc)
+
+open_not : (answer : Option Ballot) → is_not_read_only answer ≡ false → is_open_answer answer ≡ false
+unfolding is_not_read_only
+open_not answer not = (or_parts (is_open_answer answer) (is_yes answer) not).0
+
+pub left_party : (phase : Phase) (place : PartyPlace) (parts : List Participant) → (phase ≡ Active) ⊎ (phase ≡ Asking) → local_waits phase place parts ≡ true → decision (map (λ (part : Participant). part.answer) parts) ≡ decisions.ReadOnly → HasLeft place
+left_party phase place [] which waits left = absurd (cc)
+left_party phase place (local ∷ parts) which waits left = step phase which waits where
+  closed_now : is_not_read_only local.answer ≡ false
+  closed_now = (or_parts (is_not_read_only local.answer) _ (leaves (local.answer ∷ map (λ (part : Participant). part.answer) parts) left)).0
+
+  step : (phase : Phase) → (phase ≡ Active) ⊎ (phase ≡ Asking) → waits_at phase place local.answer ≡ true → HasLeft place
+  step Active which waits = absurd (both_ways (is_open_answer local.answer) (open_not local.answer closed_now) (active_open place local.answer waits))
+  step Asking which waits = read_only_at place local.answer waits closed_now
+  step Prepared (inl is) waits = absurd (cc)
+  step Prepared (inr is) waits = absurd (cc)
+  step Committed (inl is) waits = absurd (cc)
+  step Committed (inr is) waits = absurd (cc)
+  step Aborted (inl is) waits = absurd (cc)
+  step Aborted (inr is) waits = absurd (cc)

@@ -114,7 +114,7 @@ module _ (t : Transaction) (c : Connection) (w : Work) (whole : Whole w.state) (
 
 -- Only a superior's connection awaits the answer to PULL
 
-pull_rows : (phase : Phase) (from : Origin) (at : ConnectionState) → is_superior phase from (Awaits at (Some awaited.Pull)) ≡ true → (at ≡ state.Idle) × (is_stoppable phase ≡ true) × (is_superior phase from (Owes state.Enlisted None) ≡ true)
+pub pull_rows : (phase : Phase) (from : Origin) (at : ConnectionState) → is_superior phase from (Awaits at (Some awaited.Pull)) ≡ true → (at ≡ state.Idle) × (is_stoppable phase ≡ true) × (is_superior phase from (Owes state.Enlisted None) ≡ true)
 pull_rows Active (origin.Subordinate address superior) state.Idle is = (refl, refl, refl)
 pull_rows Aborted (origin.Subordinate address superior) state.Idle is = (refl, refl, refl)
 pull_rows Asking (origin.Subordinate None superior) at is = absurd (cc)
@@ -133,19 +133,19 @@ never_none : (at : ConnectionState) → is_on_none (Awaits at (Some awaited.Pull
 never_none state.Idle is = cc
 never_none at is = cc
 
-pulled_next : next_of command.Pull state.Idle response.Pulled ≡ Some (state.Enlisted, Reverse)
+pub pulled_next : next_of command.Pull state.Idle response.Pulled ≡ Some (state.Enlisted, Reverse)
 unfolding next_of
 pulled_next = refl
 
-not_pulled_next : next_of command.Pull state.Idle response.NotPulled ≡ Some (state.Idle, Original)
+pub not_pulled_next : next_of command.Pull state.Idle response.NotPulled ≡ Some (state.Idle, Original)
 unfolding next_of
 not_pulled_next = refl
 
 -- the transaction that was pulled
-record Pulls (c : Connection) (s : State) : Type 0 where
-  transaction : Transaction
-  found : transaction_of transaction.key s ≡ Some transaction
-  on : c.role ≡ Some (Superior transaction.key)
+pub record Pulls (c : Connection) (s : State) : Type 0 where
+  pub transaction : Transaction
+  pub found : transaction_of transaction.key s ≡ Some transaction
+  pub on : c.role ≡ Some (Superior transaction.key)
 
 module _ (c : Connection) (w : Work) (whole : Whole w.state) (there : connection_of c.number w.state ≡ Some c) (side : c.side ≡ Primary) (waits : c.awaited ≡ Some awaited.Pull) where
   known_there : Standing w.state c
@@ -155,7 +155,7 @@ module _ (c : Connection) (w : Work) (whole : Whole w.state) (there : connection
   link_now Primary at is = ap (Awaits c.state) waits
   link_now Secondary at is = absurd (cc)
 
-  awaits_now : link_on c.side c ≡ Awaits c.state (Some awaited.Pull)
+  pub awaits_now : link_on c.side c ≡ Awaits c.state (Some awaited.Pull)
   awaits_now = link_now c.side refl side
 
   never_part_there : (key : Key) (place : ℕ) (found : Option Transaction) → transaction_of key w.state ≡ found → nat_le 1 place && option_map_or (λ (t : Transaction). nat_lt place (length t.parts)) found false ≡ true → c.role ≡ Some (Subordinate key place) → ⊥
@@ -179,7 +179,7 @@ module _ (c : Connection) (w : Work) (whole : Whole w.state) (there : connection
   pulls_at (Some (Superior key)) role placed = its_own key (transaction_of key w.state) refl placed role
   pulls_at (Some (Subordinate key place)) role placed = absurd (never_part_there key place (transaction_of key w.state) refl placed role)
 
-  pulls : Pulls c w.state
+  pub pulls : Pulls c w.state
   pulls = pulls_at c.role refl known_there.placed
 
   pub pulled_whole : Whole (go_on command.Pull response.Pulled c w).state

@@ -52,7 +52,7 @@ none_refuse place (p ∷ parts) key cs all =
       agreeable Gone (Some ReadOnly) is = refl
       agreeable l answer is = absurd (cc)
 
-active_decides : (place : PartyPlace) (parts : List Participant) (key : Key) (cs : List Connection) → have_parts (is_part_in Active) (is_party Active) place parts key cs ≡ true → decision (map (λ (part : Participant). part.answer) parts) ≡ decisions.Wait
+pub active_decides : (place : PartyPlace) (parts : List Participant) (key : Key) (cs : List Connection) → have_parts (is_part_in Active) (is_party Active) place parts key cs ≡ true → decision (map (λ (part : Participant). part.answer) parts) ≡ decisions.Wait
 active_decides place [] key cs all = absurd (cc)
 active_decides place (local ∷ parts) key cs all =
     let both = and_parts (is_party Active place local.answer) (parts_from (is_part_in Active) 1 parts key cs) all in
@@ -93,14 +93,14 @@ committed_before Gone (Some Yes) is = refl
 committed_before Gone (Some ReadOnly) is = refl
 committed_before link answer is = absurd (cc)
 
-before_part : (phase : Phase) → is_going phase ≡ true → (link : Link) (part : Participant) → is_part_in phase link part ≡ true → part_before phase link part ≡ true
+pub before_part : (phase : Phase) → is_going phase ≡ true → (link : Link) (part : Participant) → is_part_in phase link part ≡ true → part_before phase link part ≡ true
 before_part Active can link part is = is
 before_part Asking can link part is = let a = in_table Asking link part is in and_from _ _ (and_from _ _ (asking_before link part.answer a.fits) (untold_in Asking refl part link a.told)) a.named
 before_part Prepared can link part is = absurd (cc)
 before_part Committed can link part is = let a = in_table Committed link part is in and_from _ _ (and_from _ _ (committed_before link part.answer a.fits) a.told) a.named
 before_part Aborted can link part is = stoppable_parts Aborted refl link part is
 
-asking_party : (place : PartyPlace) (answer : Option Ballot) → is_party Asking place answer ≡ true → may_ask_party place answer ≡ true
+pub asking_party : (place : PartyPlace) (answer : Option Ballot) → is_party Asking place answer ≡ true → may_ask_party place answer ≡ true
 asking_party (Out errand.Vote) None is = refl
 asking_party (Here party) (Some Yes) is = is
 asking_party (Here party) (Some ReadOnly) is = is

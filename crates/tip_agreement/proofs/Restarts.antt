@@ -8,21 +8,23 @@ use Rattle.std.proofs.lemmas.Bool.Decides.{nat_tests}
 use Rattle.tip_branch.specs.Notes.{PartyNotes}
 use Rattle.tip_branch.specs.declared.branch.Badge.{Badge}
 use Rattle.tip_rows.specs.Keys.{Key, comes_before, is_same}
-use Rattle.tip_rows.specs.Logs.{is_rising, row_at}
+use Rattle.tip_rows.specs.Logs.{is_rising, last_epoch, row_at}
 use Rattle.tip_rows.specs.declared.row.Row.{Row}
 use Rattle.tip_rows.specs.declared.row.Row.TheVariants as row
 use Rattle.tip_rows.proofs.MemoryLemmas.{bytes_eq-self, same_text}
 use Rattle.tip_txn.specs.declared.answer.Phase.{Phase}
 use Rattle.tip_txn.specs.declared.answer.Phase.TheVariants.{Active, Asking, Prepared, Committed, Aborted}
 use Rattle.tip_machine.specs.Given.{was_given}
+use Rattle.tip_machine.specs.Heads.{are_allowed, is_within}
 use Rattle.tip_machine.specs.Honest.{can_start, is_honest}
 use Rattle.tip_machine.specs.Invariants.{IsSound, are_known_once, came_twice}
+use Rattle.tip_machine.specs.Invariants.Bounds.{are_bounded, is_spelled}
 use Rattle.tip_machine.specs.Invariants.Links.{are_distinct}
 use Rattle.tip_machine.specs.Invariants.Parties.{are_out, is_due, is_of_this_start, is_sent}
 use Rattle.tip_machine.specs.Invariants.Stored.{is_stored_as}
 use Rattle.tip_machine.specs.Moves.{Move, World, moved, renewed, restarted_from, risen}
 use Rattle.tip_machine.specs.Served.{Serving}
-use Rattle.tip_machine.specs.Starting.{IsStart, are_adopted}
+use Rattle.tip_machine.specs.Starting.{IsStart, are_adopted, are_declared}
 use Rattle.tip_machine.specs.declared.event.Outcome.{Outcome}
 use Rattle.tip_machine.specs.declared.event.Outcome.TheVariants.{NoChange, Stored, Refused}
 use Rattle.tip_machine.specs.States.{State, transaction_of}
@@ -35,7 +37,8 @@ use Rattle.tip_machine.proofs.Walks.{found_passes}
 use Rattle.tip_rows.proofs.OrderLemmas.{same_key}
 use Rattle.tip_agreement.proofs.Apart.{all_found, all_more, kept_apart}
 use Rattle.tip_agreement.proofs.Keys.{key_self}
-use Rattle.tip_agreement.proofs.Starts.{back, backs, before_apart, skipped, starts_sound}
+use Rattle.tip_line.specs.Words.{is_address, is_realm}
+use Rattle.tip_agreement.proofs.Starts.{back, backs, before_apart, has_bounds, skipped, starts_sound}
 
 -- The epoch of a key that was given
 
@@ -68,7 +71,7 @@ in_doubt address superior branches pairs t Asking is = absurd (cc)
 in_doubt address superior branches pairs t Committed is = absurd (cc)
 in_doubt address superior branches pairs t Aborted is = absurd (cc)
 
-came_back : (this that : Transaction) → came_twice this that.origin ≡ true → came_twice that this.origin ≡ true
+pub came_back : (this that : Transaction) → came_twice this that.origin ≡ true → came_twice that this.origin ≡ true
 came_back this that is = step this.origin that.origin is where
   step : (a b : Origin) → came_twice (record this { origin = a }) b ≡ true → came_twice (record that { origin = b }) a ≡ true
   step a origin.Root is = absurd (cc)
@@ -159,14 +162,16 @@ module _ (state : State) where
         step true first rest = and_from _ _ (not_from_false _ first) rest
         step false first rest = rest
 
-  rows_before : (rows : List (Key × Row)) → list_all (λ (t : Transaction). was_given state t.key) state.transactions ≡ true → list_all (λ (e : Key × Row). is_some (transaction_of e.0 state)) rows ≡ true → list_all (λ (e : Key × Row). nat_lt e.0.epoch (state.head.epoch + 1)) rows ≡ true
-  rows_before rows given stands = all_more _ _ rows (λ e is. before e (some_is (transaction_of e.0 state) is)) stands where
-    before : (e : Key × Row) → (t : Transaction) × (transaction_of e.0 state ≡ Some t) → nat_lt e.0.epoch (state.head.epoch + 1) ≡ true
-    before e found =
+  -- what is so of the keys of transactions is so of the rows'
+  each_row : (p : Key → Bool) (rows : List (Key × Row)) → list_all (λ (t : Transaction). p t.key) state.transactions ≡ true → list_all (λ (e : Key × Row). is_some (transaction_of e.0 state)) rows ≡ true → list_all (λ (e : Key × Row). p e.0) rows ≡ true
+  each_row p rows all stands = all_more _ _ rows (λ e is. of_row e (some_is (transaction_of e.0 state) is)) stands where
+    of_row : (e : Key × Row) → (t : Transaction) × (transaction_of e.0 state ≡ Some t) → p e.0 ≡ true
+    of_row e found =
         let key = same_key e.0 found.0.key (found_passes (has_key e.0) state.transactions found.0 found.1) in
-        let was = all_found (λ (t : Transaction). was_given state t.key) (has_key e.0) state.transactions found.0 given found.1 in
-        let less = given_before state e.0 (subst (λ k. was_given state k ≡ true) (sym key) was) in
-        grind (arith, nat_tests, less)
+        subst (λ k. p k ≡ true) (sym key) (all_found (λ (t : Transaction). p t.key) (has_key e.0) state.transactions found.0 all found.1)
+
+  rows_before : (rows : List (Key × Row)) → list_all (λ (t : Transaction). was_given state t.key) state.transactions ≡ true → list_all (λ (e : Key × Row). is_some (transaction_of e.0 state)) rows ≡ true → list_all (λ (e : Key × Row). nat_lt e.0.epoch (state.head.epoch + 1)) rows ≡ true
+  rows_before rows given stands = all_more _ _ rows (λ e was. let less = given_before state e.0 was in grind (arith, nat_tests, less)) (each_row (was_given state) rows given stands)
 
 -- Errands are of an earlier start then
 
@@ -187,13 +192,23 @@ out_again boxes world errands out =
     let none = none_of_start boxes world errands (and_parts _ (list_all (is_due world.state) errands) out).1 in
     and_from _ _ (rw none.0 refl) none.1
 
+-- counts that may be are those of the next epoch too
+bounds_risen : (state : State) → are_bounded state ≡ true → nat_lt state.head.epoch last_epoch ≡ true → has_bounds (risen state.head) ≡ true
+bounds_risen state bounded less =
+    let limits = (and_parts (is_within 1 last_epoch state.head.epoch) (are_allowed state.head.limits) (bounds_of state bounded)).1 in
+    and_from _ _ (and_from _ _ (and_from _ _ (grind (arith, nat_tests, less)) limits) refl) (grind (arith, nat_tests)) where
+      bounds_of : (state : State) → are_bounded state ≡ true → is_within 1 last_epoch state.head.epoch && are_allowed state.head.limits ≡ true
+      bounds_of state bounded = (and_parts _ _ (and_parts _ _ (and_parts _ _ (and_parts _ _ bounded).0).0).0).0
+
 pub restarts_sound : (boxes : Key → List Badge) (world : World) (errands : List PartyNotes) → IsSound world → are_out world.state errands ≡ true → can_start boxes world ≡ true → IsSound (record { state = restarted_from boxes world; rows = world.rows; errands = errands })
 restarts_sound boxes world errands sound out can =
     let stored = and_parts (is_rising world.rows && list_all (λ (t : Transaction). is_stored_as t.phase t (row_at t.key world.rows)) world.state.transactions) _ sound.stored in
     let rows = and_parts (is_rising world.rows) _ stored.0 in
     let given = (and_parts _ (list_all (λ (t : Transaction). was_given world.state t.key) world.state.transactions) sound.keyed).1 in
+    let spelled = (and_parts _ (list_all (λ (t : Transaction). is_spelled t.key) world.state.transactions) sound.bounded).1 in
+    let may = and_parts (nat_lt world.state.head.epoch last_epoch) (are_adopted boxes world.rows) can in
     let stands = all_open world.state world.rows world.rows rows.1 stored.1 (rows_at world.rows rows.0) in
-    starts_sound (risen world.state.head) boxes world.rows errands rows.0 (rows_before world.state world.rows given stored.1) (and_parts _ (are_adopted boxes world.rows) can).1 (once_again world.state sound.known_once boxes (risen world.state.head) world.rows rows.0 stands) (out_again boxes world errands out)
+    starts_sound (risen world.state.head) boxes world.rows errands (bounds_risen world.state sound.bounded may.0) (record { rising = rows.0; earlier = rows_before world.state world.rows given stored.1; spelled = each_row world.state is_spelled world.rows spelled stored.1 }) may.1 (once_again world.state sound.known_once boxes (risen world.state.head) world.rows rows.0 stands) (out_again boxes world errands out)
 
 renewed_sound : (boxes : Key → List Badge) (outcome : Outcome) (world : World) → IsSound world → can_start boxes world ≡ true → IsSound (renewed boxes outcome world).world
 renewed_sound boxes Stored world sound can = restarts_sound boxes world world.errands sound sound.out can
@@ -208,5 +223,17 @@ renewing_sound serving boxes Stored world sound can = renewed_sound boxes Stored
 renewing_sound serving boxes Refused world sound can = renewed_sound boxes Refused world sound can
 renewing_sound serving boxes NoChange world sound can = absurd (cc)
 
-pub start_sound : (world : World) → IsStart world → are_known_once world.state ≡ true → IsSound world
-start_sound world start once = subst IsSound (λ i. record { state = (sym start.state) i; rows = world.rows; errands = (sym start.errands) i }) (starts_sound world.state.head start.boxes world.rows [] start.rows.rising start.rows.earlier start.adopted (subst (λ s. are_known_once s ≡ true) start.state once) refl)
+-- A START IS SOUND
+pub start_sound : (world : World) → IsStart world → IsSound world
+start_sound world start =
+    let head = world.state.head in
+    let a = and_parts _ (head.entries == 0) start.head in
+    let b = and_parts _ (head.given == 0) a.0 in
+    let c = and_parts _ (is_within 1 last_epoch head.epoch) b.0 in
+    let d = and_parts _ (are_declared head.branches) c.0 in
+    let limits = (and_parts (is_realm head.name && is_address head.address) (are_allowed head.limits) d.0).1 in
+    let given : (head.given == 0) ≡ true = b.1 in
+    let entries : (head.entries == 0) ≡ true = a.1 in
+    let bounds : has_bounds head ≡ true = and_from _ _ (and_from _ _ (and_from _ _ c.1 limits) (grind (arith, nat_tests, given, entries))) (grind (arith, nat_tests, entries)) in
+    subst IsSound (λ i. record { state = (sym start.state) i; rows = world.rows; errands = (sym start.errands) i })
+    (starts_sound head start.boxes world.rows [] bounds (record { rising = start.rows.rising; earlier = start.rows.earlier; spelled = start.rows.spelled }) start.adopted (subst (λ s. are_known_once s ≡ true) start.state start.known_once) refl)

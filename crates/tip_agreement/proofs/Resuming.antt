@@ -1,5 +1,5 @@
 -- A committed transaction that is resumed leaves a realm whole.
-use Rattle.std.proofs.Common.{◌≡◌, Bool, true, false, List, ℕ, Option, Some, None, cond, refl, ap, subst, sym, ◌∙◌}
+use Rattle.std.proofs.Common.{◌≡◌, Bool, true, false, Option, Some, None, cond, refl, ap, subst, sym, ◌∙◌}
 use Rattle.tip_branch.specs.Notes.{PartyNotes}
 use Rattle.tip_line.specs.declared.refusal.Refusal.TheVariants.{Busy, NotActive}
 use Rattle.tip_txn.specs.declared.answer.Ballot.{Ballot}
@@ -8,29 +8,20 @@ use Rattle.tip_txn.specs.declared.answer.Decision.TheVariants as decisions
 use Rattle.tip_txn.specs.declared.answer.Phase.{Phase}
 use Rattle.tip_txn.specs.declared.answer.Phase.TheVariants.{Active, Asking, Prepared, Committed, Aborted}
 use Rattle.tip_machine.specs.Changes.{refuse}
-use Rattle.tip_machine.specs.Invariants.{IsSound}
 use Rattle.tip_machine.specs.Invariants.Phases.{has_come_to, is_part_in, is_party, is_superior, is_transaction}
-use Rattle.tip_machine.specs.Moves.{World}
 use Rattle.tip_machine.specs.Proceeding.{dispatch, finish}
 use Rattle.tip_machine.specs.Requests.{resume, resume_in}
-use Rattle.tip_machine.specs.Served.{Serving}
-use Rattle.tip_machine.specs.States.{Attempt, Work, identified_by, transaction_of}
-use Rattle.tip_machine.specs.Steps.{entered, step_serving}
-use Rattle.tip_machine.specs.Transactions.{decision_of, entering, has_id, has_key, is_committed, is_done}
+use Rattle.tip_machine.specs.States.{Attempt, Work, transaction_of}
+use Rattle.tip_machine.specs.Transactions.{decision_of, entering, has_key, is_committed, is_done}
 use Rattle.tip_machine.specs.Types.{PartyPlace, Transaction}
-use Rattle.tip_machine.specs.declared.event.Event.TheVariants.{Resume}
-use Rattle.tip_machine.specs.declared.event.Outcome.{Outcome}
 use Rattle.tip_machine.specs.declared.transaction.PartyPlace.TheVariants.{Here, Out, Spent}
-use Rattle.tip_agreement.specs.Whole.{IsWhole}
 use Rattle.tip_agreement.proofs.Aborting.{party_now}
 use Rattle.tip_agreement.proofs.Apart.{all_found}
 use Rattle.tip_agreement.proofs.Around.{Around, Whole, around_of}
 use Rattle.tip_agreement.proofs.Deciding.{Entered, committed_whole, dispatched_whole}
-use Rattle.tip_agreement.proofs.Events.{entered_whole, keeps_with}
 use Rattle.tip_agreement.proofs.Owned.{Owned, in_phase}
 use Rattle.tip_agreement.proofs.Proceeding.{AllWhole, finished}
 use Rattle.tip_agreement.proofs.Responding.{commit_agreed}
-use Rattle.tip_agreement.proofs.Sound.{found_by}
 
 -- a party that is here goes as one in doubt would
 here_so : (party : PartyNotes) (answer : Option Ballot) → is_party Committed (Here party) answer ≡ true → is_party Prepared (Here party) answer ≡ true
@@ -77,20 +68,17 @@ module _ (t : Transaction) (w : Work) (whole : Whole w.state) (found : transacti
     step true = finished t w committed agreed here_around here_owned
     step false = whole
 
-only_committed : (phase : Phase) → is_committed phase ≡ true → phase ≡ Committed
+pub only_committed : (phase : Phase) → is_committed phase ≡ true → phase ≡ Committed
 only_committed Committed is = refl
 only_committed Active is = absurd (cc)
 only_committed Asking is = absurd (cc)
 only_committed Prepared is = absurd (cc)
 only_committed Aborted is = absurd (cc)
 
-resumed : (found : Option Transaction) (w : Work) → Whole w.state → ((t : Transaction) → found ≡ Some t → transaction_of t.key w.state ≡ Some t) → AllWhole (resume found w)
+pub resumed : (found : Option Transaction) (w : Work) → Whole w.state → ((t : Transaction) → found ≡ Some t → transaction_of t.key w.state ≡ Some t) → AllWhole (resume found w)
 unfolding resume
 resumed None w whole there = whole
 resumed (Some t) w whole there = step (is_committed t.phase) refl where
   step : (b : Bool) → is_committed t.phase ≡ b → AllWhole (cond b (resume_in t.place t w) (Attempt.Done (refuse NotActive w)))
   step true is = resumed_in t w whole (there t refl) (only_committed t.phase is) t.place refl
   step false is = whole
-
-pub resuming_keeps : (serving : Serving) (world : World) (id : List ℕ) (outcome : Outcome) → IsSound world → IsWhole (step_serving serving world.state (Resume id) outcome).state
-resuming_keeps serving world id outcome sound = keeps_with serving world (Resume id) outcome (λ whole. let stands = entered_whole world.state whole in resumed (identified_by id (entered world.state).state) (entered world.state) stands (λ t is. found_by (has_id world.state.head.name id) (entered world.state).state t stands is)) sound

@@ -27,13 +27,18 @@ use Rattle.tip_machine.specs.declared.connection.Role.{Role}
 use Rattle.tip_machine.specs.declared.connection.Role.TheVariants.{Superior, Subordinate}
 use Rattle.tip_machine.proofs.Lists.{find_any, none-found}
 use Rattle.tip_machine.proofs.Walks.{found_passes}
-use Rattle.tip_agreement.specs.Whole.{IsWhole}
 use Rattle.tip_agreement.proofs.Apart.{all_both, all_found, all_more, all_of_none}
 use Rattle.tip_agreement.proofs.Around.{Whole, asks_as, clash, clashes, is_placed, stands}
 use Rattle.tip_agreement.proofs.Found.{Once}
 use Rattle.tip_agreement.proofs.Keys.{keys_of}
 use Rattle.tip_agreement.proofs.Keys.{key_self}
 use Rattle.tip_agreement.proofs.Owned.{have_parts, in_phase, once_part, parts_from, place_self}
+
+-- three of the invariants, which hold only together
+pub record IsWhole (state : State) : Type 0 where
+  pub roles : have_roles state ≡ true
+  pub connections : list_all is_connected state.connections ≡ true
+  pub transactions : list_all (is_transaction state) state.transactions ≡ true
 
 -- Roles, as they are listed
 
@@ -161,8 +166,8 @@ whole_to s whole = record {
 }
 
 -- a transaction that is found by whatever test is the one of its key
-pub found_by : (test : Transaction → Bool) (s : State) (t : Transaction) → Whole s → find test s.transactions ≡ Some t → transaction_of t.key s ≡ Some t
-found_by test s t whole is = step s.transactions whole.keys is where
+pub found_own : (test : Transaction → Bool) (t : Transaction) (all : List Transaction) → are_distinct is_same (keys_of all) ≡ true → find test all ≡ Some t → find (has_key t.key) all ≡ Some t
+found_own test t all apart is = step all apart is where
   step : (ts : List Transaction) → are_distinct is_same (keys_of ts) ≡ true → find test ts ≡ Some t → find (has_key t.key) ts ≡ Some t
   step [] apart is = absurd (none-some t is)
   step (u ∷ ts) apart is = first (test u) is (has_key t.key u) refl (step ts (and_parts (not (list_any (is_same u.key) (keys_of ts))) (are_distinct is_same (keys_of ts)) apart).1) (not-true _ (and_parts (not (list_any (is_same u.key) (keys_of ts))) (are_distinct is_same (keys_of ts)) apart).0) where
@@ -177,3 +182,6 @@ found_by test s t whole is = step s.transactions whole.keys is where
     first true is e here later none = let same = same_Some u t is in subst (λ x. cond (has_key x.key u) (Some u) (find (has_key x.key) ts) ≡ Some x) same (rw (key_self u.key) refl)
     first false is false here later none = rw here (later is)
     first false is true here later none = absurd (both_ways (is_same u.key t.key) (absent ts none is) (subst (λ k. is_same k t.key ≡ true) (same_key t.key u.key here) (key_self t.key)))
+
+pub found_by : (test : Transaction → Bool) (s : State) (t : Transaction) → Whole s → find test s.transactions ≡ Some t → transaction_of t.key s ≡ Some t
+found_by test s t whole is = found_own test t s.transactions whole.keys is

@@ -1,14 +1,14 @@
 -- A realm that starts again from its rows is sound.
 use Rattle.std.proofs.Common.{◌≡◌, Bool, true, false, ℕ, ◌+◌, List, [], ◌∷◌, Option, Some, cond, refl, ap, arith, sym, ◌∙◌, subst}
-use Rattle.std.specs.Prelude.{◌==◌, is_none, is_some, length, map, nat_lt, unwrap_or}
-use Rattle.std.specs.List.{list_all, list_any}
+use Rattle.std.specs.Prelude.{◌&&◌, ◌==◌, is_none, is_some, length, map, nat_le, nat_lt}
+use Rattle.std.specs.List.{flat_map, list_all, list_any}
 use Rattle.std.proofs.lemmas.Bool.{and_from, and_parts, not_from_false, or_from, or_left}
 use Rattle.std.proofs.lemmas.Bool.Decides.{nat_tests}
 use Rattle.tip_branch.specs.Members.{is_active, ready_members}
 use Rattle.tip_branch.specs.Notes.{PartyNotes, idle_party}
 use Rattle.tip_branch.specs.declared.branch.Badge.{Badge}
 use Rattle.tip_rows.specs.Keys.{Key, comes_before, is_same}
-use Rattle.tip_rows.specs.Logs.{is_rising, row_at}
+use Rattle.tip_rows.specs.Logs.{is_rising, last_epoch, row_at}
 use Rattle.tip_rows.specs.Rows.{branches_of}
 use Rattle.tip_rows.specs.declared.row.Row.{Row}
 use Rattle.tip_rows.specs.declared.row.Row.TheVariants as row
@@ -20,7 +20,9 @@ use Rattle.tip_agreement.proofs.Keys.{key_self}
 use Rattle.tip_agreement.proofs.Apart.{all_more}
 use Rattle.tip_machine.specs.Answers.{identifier}
 use Rattle.tip_machine.specs.Given.{was_given}
+use Rattle.tip_machine.specs.Heads.{are_allowed, is_within}
 use Rattle.tip_machine.specs.Invariants.{IsSound, are_known_once}
+use Rattle.tip_machine.specs.Invariants.Bounds.{is_spelled}
 use Rattle.tip_machine.specs.Invariants.Links.{are_distinct}
 use Rattle.tip_machine.specs.Invariants.Links.Link.{Gone}
 use Rattle.tip_machine.specs.Invariants.Parties.{are_out, has_promised, is_its_own}
@@ -30,7 +32,7 @@ use Rattle.tip_machine.specs.Moves.{loaded}
 use Rattle.tip_machine.specs.Recovery.{adopted, reopened, restarted}
 use Rattle.tip_machine.specs.Starting.{are_adopted}
 use Rattle.tip_machine.specs.States.{State, transaction_of}
-use Rattle.tip_machine.specs.Transactions.{decision, has_key, pairs, refuses, subordinates, willing_from}
+use Rattle.tip_machine.specs.Transactions.{decision, has_key, pair_of, pairs, refuses, subordinates, willing_from}
 use Rattle.tip_machine.specs.Types.{Transaction}
 use Rattle.tip_machine.specs.declared.head.Head.{Head}
 use Rattle.tip_txn.specs.declared.answer.Decision.TheVariants as decisions
@@ -81,12 +83,22 @@ none_misses : (pairs : List (List ℕ × List ℕ)) → list_any is_none (map (�
 none_misses [] = refl
 none_misses (pair ∷ pairs) = none_misses pairs
 
-none_less : (place : ℕ) (these : List (List ℕ × List ℕ)) → are_same_pairs these (map (λ (s : ℕ × Participant). (unwrap_or s.1.address [], unwrap_or s.1.id [])) (willing_from place (map willing these))) ≡ true
+none_less : (place : ℕ) (these : List (List ℕ × List ℕ)) → are_same_pairs these (flat_map (λ (s : ℕ × Participant). pair_of s.1.address s.1.id) (willing_from place (map willing these))) ≡ true
 none_less place [] = refl
 none_less place (this ∷ these) = and_from _ _ (and_from _ _ (bytes_eq-self this.0) (bytes_eq-self this.1)) (none_less (place + 1) these)
 
 decided : (pairs : List (List ℕ × List ℕ)) → decision (Some Yes ∷ map (λ part. part.answer) (map willing pairs)) ≡ decisions.Commit
 decided pairs = rw (none_refuses pairs, none_misses pairs) refl
+
+-- counts that a head may have
+abbrev pub has_bounds : Head → Bool
+has_bounds head = is_within 1 last_epoch head.epoch && are_allowed head.limits && nat_le head.given head.entries && nat_le head.entries head.limits.entries
+
+-- rows by rising key, of earlier epochs, with keys that fit
+pub record AreBehind (epoch : ℕ) (rows : List (Key × Row)) : Type 0 where
+  pub rising : is_rising rows ≡ true
+  pub earlier : list_all (λ (stored : Key × Row). nat_lt stored.0.epoch epoch) rows ≡ true
+  pub spelled : list_all (λ (stored : Key × Row). is_spelled stored.0) rows ≡ true
 
 module _ (head : Head) (boxes : Key → List Badge) where
   abbrev pub again : List (Key × Row) → State
@@ -112,9 +124,13 @@ module _ (head : Head) (boxes : Key → List Badge) where
   keys_apart [] rising = refl
   keys_apart (e ∷ rows) rising = let parts = and_parts _ (is_rising rows) rising in and_from _ _ (not_from_false _ (rw (back_key e.0 e.1) (key_behind e.0 rows parts.0))) (keys_apart rows parts.1)
 
+  -- what is so of each row's key
+  each_back : (p : Key → Bool) (rows : List (Key × Row)) → list_all (λ (stored : Key × Row). p stored.0) rows ≡ true → list_all (λ (t : Transaction). p t.key) (backs rows) ≡ true
+  each_back p [] all = refl
+  each_back p (e ∷ rows) all = let parts = and_parts (p e.0) _ all in and_from _ _ (rw (back_key e.0 e.1) parts.0) (each_back p rows parts.1)
+
   keys_given : (state : State) (rows : List (Key × Row)) → list_all (λ (stored : Key × Row). nat_lt stored.0.epoch state.head.epoch) rows ≡ true → list_all (λ (t : Transaction). was_given state t.key) (backs rows) ≡ true
-  keys_given state [] earlier = refl
-  keys_given state (e ∷ rows) earlier = let parts = and_parts (nat_lt e.0.epoch state.head.epoch) _ earlier in and_from _ _ (rw (back_key e.0 e.1) (or_left _ _ parts.0)) (keys_given state rows parts.1)
+  keys_given state rows earlier = all_more _ _ (backs rows) (λ t less. or_left _ _ less) (each_back (λ key. nat_lt key.epoch state.head.epoch) rows earlier)
 
   -- Transactions
 
@@ -167,14 +183,15 @@ module _ (head : Head) (boxes : Key → List Badge) where
   opened_backs (e ∷ rows) = and_from _ _ (rw (back_key e.0 e.1, key_self e.0) refl) (opened_behind e rows rows (opened_backs rows))
 
   -- what is sound where a realm starts from rows of earlier epochs
-  pub starts_sound : (rows : List (Key × Row)) (errands : List PartyNotes) → is_rising rows ≡ true → list_all (λ (stored : Key × Row). nat_lt stored.0.epoch head.epoch) rows ≡ true → are_adopted boxes rows ≡ true → are_known_once (again rows) ≡ true → are_out (again rows) errands ≡ true → IsSound (record { state = again rows; rows = rows; errands = errands })
-  starts_sound rows errands rising earlier adopted once out = record {
+  pub starts_sound : (rows : List (Key × Row)) (errands : List PartyNotes) → has_bounds head ≡ true → AreBehind head.epoch rows → are_adopted boxes rows ≡ true → are_known_once (again rows) ≡ true → are_out (again rows) errands ≡ true → IsSound (record { state = again rows; rows = rows; errands = errands })
+  starts_sound rows errands bounds behind adopted once out = record {
     numbered = refl;
-    keyed = and_from _ _ (keys_apart rows rising) (keys_given (again rows) rows earlier);
+    bounded = and_from _ _ (and_from _ _ bounds refl) (each_back is_spelled rows behind.spelled);
+    keyed = and_from _ _ (keys_apart rows behind.rising) (keys_given (again rows) rows behind.earlier);
     roles = refl;
     connections = refl;
     transactions = sound_backs rows rows adopted;
     out = out;
     known_once = once;
-    stored = and_from _ _ (and_from _ _ rising (stored_backs rows rising)) (opened_backs rows);
+    stored = and_from _ _ (and_from _ _ behind.rising (stored_backs rows behind.rising)) (opened_backs rows);
   }

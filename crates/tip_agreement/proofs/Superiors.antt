@@ -14,36 +14,33 @@ use Rattle.tip_line.specs.declared.command.Command.{Command}
 use Rattle.tip_line.specs.declared.command.Command.TheVariants as commands
 use Rattle.tip_line.specs.declared.command.CommandName.{CommandName}
 use Rattle.tip_line.specs.declared.command.CommandName.TheVariants as command
-use Rattle.tip_line.specs.declared.refusal.Refusal.TheVariants.{Busy}
-use Rattle.tip_machine.specs.Changes.{attempt_on, change, refuse}
+use Rattle.tip_machine.specs.Changes.{attempt_on, change}
 use Rattle.tip_machine.specs.Commands.{commanded, decide_abort, decide_commit, obey, prepare, serve, serve_if, superior_role}
 use Rattle.tip_machine.specs.Connections.{may_take, owing}
-use Rattle.tip_machine.specs.Invariants.{IsSound}
 use Rattle.tip_machine.specs.Invariants.Links.{is_on_none, link_on}
 use Rattle.tip_machine.specs.Invariants.Links.Link.{Owes}
-use Rattle.tip_machine.specs.Moves.{World}
 use Rattle.tip_machine.specs.Requests.{hear, line}
 use Rattle.tip_machine.specs.Served.{Serving}
-use Rattle.tip_machine.specs.States.{Attempt, Work, connection_of, seated, transaction_of}
-use Rattle.tip_machine.specs.Steps.{entered, step_serving}
+use Rattle.tip_machine.specs.States.{Attempt, Work, connection_of, transaction_of}
 use Rattle.tip_machine.specs.Types.{Connection, Transaction}
 use Rattle.tip_machine.specs.declared.connection.Role.{Role}
 use Rattle.tip_machine.specs.declared.connection.Role.TheVariants.{Superior, Subordinate}
-use Rattle.tip_machine.specs.declared.event.Event.TheVariants.{Line}
 use Rattle.tip_machine.specs.declared.event.Heard.TheVariants.{Command as ACommand}
-use Rattle.tip_machine.specs.declared.event.Outcome.{Outcome}
-use Rattle.tip_machine.specs.declared.event.Seat.{Seat}
-use Rattle.tip_machine.proofs.Walks.{either_attempt, seated_there}
-use Rattle.tip_agreement.specs.Whole.{IsWhole, is_at_once, is_of_superior}
-use Rattle.tip_agreement.proofs.Alone.{at_once_whole}
+use Rattle.tip_machine.proofs.Walks.{either_attempt}
 use Rattle.tip_agreement.proofs.Around.{Whole, asks_as, is_placed}
 use Rattle.tip_agreement.proofs.Closing.{wrong_whole, stands_there}
 use Rattle.tip_agreement.proofs.Commanding.{abort_obeyed, commit_obeyed, prepare_obeyed}
 use Rattle.tip_agreement.proofs.Obeying.{is_enlisted_state}
-use Rattle.tip_agreement.proofs.Events.{entered_whole, keeps_with}
 use Rattle.tip_agreement.proofs.Owned.{key_found}
 use Rattle.tip_agreement.proofs.Proceeding.{AllWhole}
 use Rattle.tip_agreement.proofs.Reacting.{Standing}
+
+-- what a superior says of its transaction (section 13)
+abbrev is_of_superior : CommandName → Bool
+is_of_superior command.Prepare = true
+is_of_superior command.Commit = true
+is_of_superior command.Abort = true
+is_of_superior other = false
 
 -- a command of a superior's is valid on no idle connection
 never_early : (name : CommandName) (at : ConnectionState) (owed : Option CommandName) → is_of_superior name ≡ true → is_valid name at ≡ true → is_on_none (Owes at owed) ≡ false
@@ -83,14 +80,14 @@ module _ (c : Connection) (w : Work) (whole : Whole w.state) (there : connection
   obeyed = by_role c.role refl known_there.placed
 
 module _ (c : Connection) (w : Work) (whole : Whole w.state) (there : connection_of c.number w.state ≡ Some c) (side : c.side ≡ Secondary) (silent : c.owed ≡ None) where
-  commit_served : is_valid command.Commit c.state ≡ true → AllWhole (serve commands.Commit c w)
+  pub commit_served : is_valid command.Commit c.state ≡ true → AllWhole (serve commands.Commit c w)
   commit_served valid = obeyed c w whole there side command.Commit refl valid (λ t. decide_commit t.phase c t) (λ t found on. commit_obeyed t c w whole there found on side silent t.phase refl)
 
-  abort_served : is_valid command.Abort c.state ≡ true → AllWhole (serve commands.Abort c w)
+  pub abort_served : is_valid command.Abort c.state ≡ true → AllWhole (serve commands.Abort c w)
   abort_served valid = obeyed c w whole there side command.Abort refl valid (λ t. decide_abort t.phase c t) (λ t found on. abort_obeyed t c w whole there found on side silent t.phase refl)
 
   -- whether it is valid, and served, or not
-  served_or_not : (serving : Serving) (line : Command) → (is_valid (name_of line) c.state ≡ true → AllWhole (serve line c w)) → AllWhole (hear serving Secondary (ACommand line) c w)
+  pub served_or_not : (serving : Serving) (line : Command) → (is_valid (name_of line) c.state ≡ true → AllWhole (serve line c w)) → AllWhole (hear serving Secondary (ACommand line) c w)
   unfolding commanded
   served_or_not serving line serves = subst (λ s. AllWhole (serve_if serving (admit_of c.state s (name_of line)) line c w)) (sym side) (step (is_valid (name_of line) c.state) refl) where
     step : (b : Bool) → is_valid (name_of line) c.state ≡ b → AllWhole (serve_if serving (cond b Serve Wrong) line c w)
@@ -105,41 +102,11 @@ module _ (c : Connection) (w : Work) (whole : Whole w.state) (there : connection
     step state.Enlisted valid = refl
     step at valid = absurd (cc)
 
-  prepare_served : is_valid command.Prepare c.state ≡ true → AllWhole (serve commands.Prepare c w)
+  pub prepare_served : is_valid command.Prepare c.state ≡ true → AllWhole (serve commands.Prepare c w)
   prepare_served valid = obeyed c w whole there side command.Prepare refl valid (λ t. prepare t.phase c.peer c t) (λ t found on. prepare_obeyed t c w whole there found on side silent (enlisted_there valid) t.phase refl c.peer refl)
 
-  pub taken_in_turn : (serving : Serving) (line' : Command) → AllWhole (hear serving Secondary (ACommand line') c w) → AllWhole (hear serving c.side (ACommand line') c w)
-  taken_in_turn serving line' hears = subst (λ s. AllWhole (hear serving s (ACommand line') c w)) (sym side) hears
-
-  superior_heard : (serving : Serving) (line' : Command) → is_of_superior (name_of line') ≡ true → AllWhole (hear serving Secondary (ACommand line') c w)
-  superior_heard serving commands.Prepare is = served_or_not serving commands.Prepare prepare_served
-  superior_heard serving commands.Commit is = served_or_not serving commands.Commit commit_served
-  superior_heard serving commands.Abort is = served_or_not serving commands.Abort abort_served
-  superior_heard serving line' is = absurd (cc)
-
-nothing_owed : (c : Connection) → may_take c ≡ true → c.owed ≡ None
+pub nothing_owed : (c : Connection) → may_take c ≡ true → c.owed ≡ None
 nothing_owed c is = step c.owed (and_parts (is_none c.owed) _ is).0 where
   step : (o : Option CommandName) → is_none o ≡ true → o ≡ None
   step None is = refl
   step (Some name) is = absurd (cc)
-
-superior_line : (c : Connection) (w : Work) → Whole w.state → connection_of c.number w.state ≡ Some c → c.side ≡ Secondary → (serving : Serving) (command : Command) → is_of_superior (name_of command) ≡ true → AllWhole (line serving (Some c) (ACommand command) w)
-unfolding line
-superior_line c w whole there side serving command is = step (may_take c) refl where
-  step : (b : Bool) → may_take c ≡ b → AllWhole (cond b (hear serving c.side (ACommand command) c w) (Attempt.Done (refuse Busy w)))
-  step true turn = let silent = nothing_owed c turn in taken_in_turn c w whole there side silent serving command (superior_heard c w whole there side silent serving command is)
-  step false turn = whole
-
-pub obeying_keeps : (serving : Serving) (world : World) (seat : Seat) (c : Connection) (command : Command) (outcome : Outcome) → IsSound world → seated seat world.state ≡ Some c → c.side ≡ Secondary → is_of_superior (name_of command) ≡ true → IsWhole (step_serving serving world.state (Line seat (ACommand command)) outcome).state
-obeying_keeps serving world seat c command outcome sound seats side is = keeps_with serving world (Line seat (ACommand command)) outcome (λ whole. subst (λ o. AllWhole (line serving o (ACommand command) (entered world.state))) (sym seats) (superior_line c (entered world.state) (entered_whole world.state whole) (seated_there seat world.state c seats) side serving command is)) sound
-
--- commands that are answered at once
-at_once_line : (c : Connection) (w : Work) → Whole w.state → connection_of c.number w.state ≡ Some c → c.side ≡ Secondary → (serving : Serving) (command : Command) → is_at_once command ≡ true → AllWhole (line serving (Some c) (ACommand command) w)
-unfolding line
-at_once_line c w whole there side serving command is = step (may_take c) refl where
-  step : (b : Bool) → may_take c ≡ b → AllWhole (cond b (hear serving c.side (ACommand command) c w) (Attempt.Done (refuse Busy w)))
-  step true turn = let silent = nothing_owed c turn in taken_in_turn c w whole there side silent serving command (served_or_not c w whole there side silent serving command (at_once_whole c w whole there side command is))
-  step false turn = whole
-
-pub at_once_keeps : (serving : Serving) (world : World) (seat : Seat) (c : Connection) (command : Command) (outcome : Outcome) → IsSound world → seated seat world.state ≡ Some c → c.side ≡ Secondary → is_at_once command ≡ true → IsWhole (step_serving serving world.state (Line seat (ACommand command)) outcome).state
-at_once_keeps serving world seat c command outcome sound seats side is = keeps_with serving world (Line seat (ACommand command)) outcome (λ whole. subst (λ o. AllWhole (line serving o (ACommand command) (entered world.state))) (sym seats) (at_once_line c (entered world.state) (entered_whole world.state whole) (seated_there seat world.state c seats) side serving command is)) sound

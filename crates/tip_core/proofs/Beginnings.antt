@@ -45,9 +45,9 @@ open_count held = count_seen (of held.transactions held.realm)
 pub head_there : (held : Held) (head : Head) → held.realm < length held.heads.items → head ≡ get_or held.heads.items held.realm head → head ≡ (work_of held).state.head
 head_there held head inside is = is ∙ same_Some (get_or held.heads.items held.realm head) (get_or held.heads.items held.realm no_head) (sym (slice_get-get_or held.heads.items held.realm head inside) ∙ slice_get-get_or held.heads.items held.realm no_head inside)
 
-pub made_fits : (held : Held) (head : Head) (made : ℕ) → made < (work_of held).state.head.entries → held.realm < length held.heads.items → head ≡ get_or held.heads.items held.realm head → Fits w32 head.entries → Fits w32 (made + 1)
+pub made_fits : (held : Held) (head : Head) (made : ℕ) → made < (work_of held).state.head.limits.entries → held.realm < length held.heads.items → head ≡ get_or held.heads.items held.realm head → Fits w32 head.limits.entries → Fits w32 (made + 1)
 made_fits held head made below inside is most =
-    let same : head.entries ≡ (work_of held).state.head.entries = ap (λ (h : Head). h.entries) (head_there held head inside is) in
+    let same : head.limits.entries ≡ (work_of held).state.head.limits.entries = ap (λ (h : Head). h.limits.entries) (head_there held head inside is) in
     record { fits = omega (arith, below, same, most.fits) }
 
 pub ruleset room = (open_count)

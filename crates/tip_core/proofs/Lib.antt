@@ -8,9 +8,12 @@ pub mod Openings
 pub mod Beginnings
 pub mod Commanding
 pub mod Coming
-pub mod Tables
-pub mod Doing
+pub mod Foreseeing
+pub mod Outlooks
+pub mod Needing
+pub mod Happening
+pub mod Turning
 pub mod Stepping
+pub mod Lending
 pub mod Isolated
 pub mod Naming
-pub mod Turning

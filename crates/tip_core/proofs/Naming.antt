@@ -1,8 +1,9 @@
 -- Each realm has a name of its own, at its start and after each event.
 use Rattle.std.proofs.Common.{◌≡◌, ◌≢◌, ℕ, zero, suc, Bool, true, false, List, [], ◌∷◌, ◌++◌, Option, Some, None, refl, ap, sym, ◌∙◌, subst, inl, inr}
 use Rattle.std.specs.Prelude.{map, not, slice_get, option_map}
-use Rattle.std.specs.List.{list_all}
+use Rattle.std.specs.List.{All, list_all}
 use Rattle.std.specs.Str.{bytes_eq}
+use Rattle.std.proofs.lemmas.List.Elements.{All-push}
 use Rattle.std.proofs.lemmas.Option.{same_Some, none-some}
 use Rattle.std.proofs.lemmas.Bool.{and_from, and_parts, cases_eq}
 use Rattle.std.proofs.lemmas.Slice.Eq.{bytes_eq-Decides}
@@ -13,10 +14,10 @@ use Rattle.tip_machine.specs.Types.{Answer, Connection, Event}
 use Rattle.tip_machine.specs.declared.event.Outcome.{Outcome}
 use Rattle.tip_machine.specs.declared.head.Start.{Start}
 use Rattle.tip_machine.proofs.Stepping.{step-named}
-use Rattle.tip_machine.specs.declared.head.Head.{Head}
-use Rattle.tip_table.specs.Kept.{Kept, of}
-use Rattle.tip_core.specs.Hosted.{Hosted, HaveNames, Steps, realm}
-use Rattle.tip_core.proofs.Stepping.{new_realm}
+use Rattle.tip_table.specs.Kept.{of}
+use Rattle.tip_core.specs.Hosted.{HasEpoch, Hosted, HaveNames, Steps, realm}
+use Rattle.tip_core.specs.Works.{Realms}
+use Rattle.tip_core.proofs.Stepping.{hosted, new_realm}
 
 -- Realms that are to start
 
@@ -30,6 +31,11 @@ named_more (s ∷ starts) start named other =
     let names = and_parts (list_all (λ (o : Start). not (bytes_eq s.name o.name)) starts) (have_names starts) named in
     let others = and_parts (is_other start.name s) (list_all (is_other start.name) starts) other in
     and_from (list_all (λ (o : Start). not (bytes_eq s.name o.name)) (starts ++ start ∷ [])) _ (all_more (λ o. not (bytes_eq s.name o.name)) starts start names.0 others.0) (named_more starts start names.1 others.1)
+
+pub epochs_more : (starts : List Start) (start : Start) → All HasEpoch starts → HasEpoch start → All HasEpoch (starts ++ start ∷ [])
+epochs_more starts start all last = All-push HasEpoch starts start all last
+
+pub ruleset adding = (named_more, epochs_more)
 
 -- a name and another
 
@@ -90,5 +96,5 @@ named_alike old new same named this that a b is_this is_that names = named this 
 pub none_named : (core : Hosted) → ((place : ℕ) → realm core place ≡ None) → HaveNames core
 none_named core none this that a b is_this is_that same = absurd (none-some a (sym (none this) ∙ is_this))
 
-pub heads_named : (starts : List Start) (heads : List Head) (table : Kept Connection) → have_names starts ≡ true → heads ≡ map starting starts → ((place : ℕ) → of table place ≡ []) → HaveNames (record { heads = heads; connections = table })
-heads_named starts heads table named are empty = named_at_start (record { heads = heads; connections = table }) starts named (λ place. rw are (new_realm starts table place (empty place)))
+pub heads_named : (starts : List Start) (realms : Realms) (turns : ℕ) → have_names starts ≡ true → realms.heads.items ≡ map starting starts → ((place : ℕ) → of realms.connections place ≡ []) → ((place : ℕ) → of realms.transactions place ≡ []) → HaveNames (hosted realms turns)
+heads_named starts realms turns named are connections transactions = named_at_start (hosted realms turns) starts named (new_realm starts realms are connections transactions turns)

@@ -203,7 +203,7 @@ pub ruleset forgetting = (unended)
 -- A committed transaction
 
 -- who said yes and has not acknowledged
-acknowledged_all : (part : ℕ) (parts : List Participant) → list_all (λ s. s.1.acknowledged) (willing_from part parts) ≡ list_all is_settled parts
+pub acknowledged_all : (part : ℕ) (parts : List Participant) → list_all (λ s. s.1.acknowledged) (willing_from part parts) ≡ list_all is_settled parts
 acknowledged_all part [] = refl
 acknowledged_all part (p ∷ parts) = step (is_yes p.answer) (acknowledged_all (part + 1) parts) where
   step : (yes : Bool) → list_all (λ s. s.1.acknowledged) (willing_from (part + 1) parts) ≡ list_all is_settled parts → list_all (λ s. s.1.acknowledged) (cond yes ((part, p) ∷ willing_from (part + 1) parts) (willing_from (part + 1) parts)) ≡ ((not yes || p.acknowledged) && list_all is_settled parts)

@@ -1,87 +1,201 @@
 -- From the shared tables to the realms that they stand for.
-use Rattle.std.proofs.Common.{◌≡◌, ℕ, ◌<◌, ◌≤◌, zero, suc, List, [], ◌∷◌, length, Option, Some, None, refl, ap, arith, ◌∙◌, sym, subst, inl, inr}
-use Rattle.std.specs.Prelude.{map, slice_get, slice_index_or, option_map}
+use Rattle.std.proofs.Common.{◌≡◌, ◌≢◌, ℕ, ◌<◌, ◌≤◌, zero, suc, Bool, true, false, cond, List, [], ◌∷◌, length, map, Option, Some, None, refl, ap, arith, ◌∙◌, sym, subst, inl, inr}
+use Rattle.std.specs.Prelude.{slice_get, slice_index_or, option_map}
+use Rattle.std.specs.List.{All}
 use Rattle.std.proofs.lemmas.Option.{slice_get_past, slice_get-get_or, slice_get-map, same_Some, none-some}
 use Rattle.std.proofs.lemmas.Bool.{cases_lt, cases_eq}
-use Rattle.tip_machine.specs.Heads.{IsCounted, starting}
-use Rattle.tip_machine.specs.States.{State, started}
-use Rattle.tip_machine.specs.Steps.{step, wants, nowhere}
-use Rattle.tip_machine.proofs.Stepping.{step-counted}
+use Rattle.tip_line.specs.declared.refusal.Refusal.{Refusal}
+use Rattle.tip_line.specs.declared.refusal.Refusal.TheVariants.{Frozen, NoRealm}
+use Rattle.std.proofs.lemmas.List.{length-map}
+use Rattle.std.proofs.lemmas.List.Elements.{All-head, All-nil, All-tail}
+use Rattle.tip_machine.specs.Counts.{HasCounts, IsBelow}
+use Rattle.tip_machine.specs.Heads.{starting}
+use Rattle.tip_machine.specs.Order.{in_turn, ordered, turn}
+use Rattle.tip_machine.specs.Runs.{unstored_outcome}
 use Rattle.tip_machine.specs.Served.{today}
-use Rattle.tip_machine.proofs.Alone.{step_alone, wants_none}
-use Rattle.tip_machine.specs.Alone.{AreAlone}
-use Rattle.tip_machine.specs.declared.head.Start.{Start}
-use Rattle.tip_machine.specs.Types.{Answer, Connection, Event}
+use Rattle.tip_machine.specs.States.{Attempt, State, started}
+use Rattle.tip_machine.specs.Steps.{attempt, chosen, entered, fits, frozen, is_open, nowhere, returned, step}
+use Rattle.tip_machine.specs.Types.{Answer, Connection, Event, seen}
+use Rattle.tip_machine.specs.declared.event.Change.{Change}
+use Rattle.tip_machine.specs.declared.event.Event.TheVariants.{AskPull, AskPush, Dial, Line, Lost, Open, Resume, Settled, Voted}
 use Rattle.tip_machine.specs.declared.event.Outcome.{Outcome}
+use Rattle.tip_machine.specs.declared.event.Outcome.TheVariants.{NoChange, Refused}
+use Rattle.tip_machine.specs.declared.head.Head.{Head}
+use Rattle.tip_machine.specs.declared.head.Start.{Start}
+use Rattle.tip_machine.proofs.Counting.{counts_start, counts_stay}
 use Rattle.tip_table.specs.Kept.{Kept, of}
+use Rattle.tip_core.proofs.Turning.{in_turn_of_state}
+use Rattle.tip_core.specs.Hosted.{HasEpoch, Hosted, IsRoomFor, Steps, realm}
 use Rattle.tip_core.specs.Makings.{Made}
-use Rattle.tip_core.specs.Tables.{state_at, Does, AreAllAlone, AreCounted, Realms}
-use Rattle.tip_core.specs.Works.{no_head}
-use Rattle.tip_core.specs.Hosted.{Hosted, realm, Steps}
+use Rattle.tip_core.specs.Needs.{Granted, HasNeeds, Suits, happened}
+use Rattle.tip_core.specs.Turns.{noted, turn_in}
+use Rattle.tip_core.specs.declared.turns.Turn.{Turn}
+use Rattle.tip_core.specs.Works.{Does, HaveCounts, HeldTransaction, Realms, no_head, state_in, working}
 
--- what the tables stand for
-abbrev pub hosted : Realms → Hosted
-hosted tables = record { heads = tables.heads.items; connections = tables.connections }
+-- what the tables stand for, with room to note so many turns
+abbrev pub hosted : Realms → ℕ → Hosted
+hosted realms turns = record { heads = realms.heads.items; connections = realms.connections; transactions = realms.transactions; turns = turns }
+
+state_of : Realms → ℕ → Head → State
+state_of realms place head = record { head = head; connections = of realms.connections place; transactions = map seen (of realms.transactions place) }
 
 -- a realm that is there
-pub there : (tables : Realms) (place : ℕ) → place < length tables.heads.items → realm (hosted tables) place ≡ Some (state_at place tables)
-there tables place lt = ap (option_map (λ head. record { head = head; connections = of tables.connections place; transactions = [] })) (slice_get-get_or tables.heads.items place no_head lt)
+pub there : (realms : Realms) (turns place : ℕ) → place < length realms.heads.items → realm (hosted realms turns) place ≡ Some (state_in place realms)
+unfolding state_of
+there realms turns place lt = ap (option_map (state_of realms place)) (slice_get-get_or realms.heads.items place no_head lt)
 
-pub past : (tables : Realms) (place : ℕ) → length tables.heads.items ≤ place → realm (hosted tables) place ≡ None
-past tables place le = ap (option_map (λ head. record { head = head; connections = of tables.connections place; transactions = [] })) (slice_get_past tables.heads.items place le)
+pub past : (realms : Realms) (turns place : ℕ) → length realms.heads.items ≤ place → realm (hosted realms turns) place ≡ None
+unfolding state_of
+past realms turns place le = ap (option_map (state_of realms place)) (slice_get_past realms.heads.items place le)
 
--- no change of the rows is wanted yet
-pub wants_here : (tables : Realms) (place : ℕ) (state : State) (event : Event) → AreAllAlone tables → realm (hosted tables) place ≡ Some state → wants state event ≡ None
-wants_here tables place state event alone is = elim (cases_lt place (length tables.heads.items)) [
-  | inl less ↦ let same = same_Some _ _ (sym (there tables place less) ∙ is) in ap (λ s. wants s event) (sym same) ∙ wants_none (state_at place tables) event refl (alone place)
-  | inr more ↦ absurd (none-some state (sym (past tables place more) ∙ is))
+-- a realm that is there is inside
+pub inside : (realms : Realms) (turns place : ℕ) (state : State) → realm (hosted realms turns) place ≡ Some state → (place < length realms.heads.items) × (state ≡ state_in place realms)
+inside realms turns place state is = elim (cases_lt place (length realms.heads.items)) [
+  | inl less ↦ (less, same_Some state (state_in place realms) (sym is ∙ there realms turns place less))
+  | inr more ↦ absurd (none-some state (sym (past realms turns place more) ∙ is))
 ]
 
--- a step of the tables is a step of the realm
-pub steps : (old new : Realms) (place : ℕ) (event : Event) (outcome : Outcome) (made : Made) → place < length old.heads.items → Does old new place made (step (state_at place old) event outcome) → Steps (hosted old) (hosted new) place event outcome made.answer
-steps old new place event outcome made lt does = record {
-  own = λ state is.
-      let same : state_at place old ≡ state = same_Some _ _ (sym (there old place lt) ∙ is) in (
-        does.answer ∙ ap (λ s. (step s event outcome).answer) same,
-        there new place (omega (arith, does.becomes.count, lt)) ∙ ap Some (does.becomes.own ∙ ap (λ s. (step s event outcome).state) same),
-      );
-  others = λ other differ. elim (cases_lt other (length old.heads.items)) [
-    | inl less ↦ there new other (omega (arith, does.becomes.count, less)) ∙ ap Some (does.becomes.others other differ) ∙ sym (there old other less)
-    | inr more ↦ past new other (omega (arith, does.becomes.count, more)) ∙ sym (past old other more)
-  ];
-  absent = λ none. absurd (none-some (state_at place old) (sym none ∙ there old place lt));
-}
+-- The step of a realm
+
+-- an answer whose lines are put in order
+abbrev pub in_order : List Connection → Answer → Answer
+in_order connections answer = record answer { sent = in_turn (turn_in (map noted connections)) answer.sent }
+
+-- what is turned down tells nobody
+returned_in_order : (turns : List Turn) (why : Refusal) (event : Event) → record (returned why event) { sent = in_turn (turn_in turns) (returned why event).sent } ≡ returned why event
+returned_in_order turns why (Open boxes) = refl
+returned_in_order turns why (Dial address purpose boxes) = refl
+returned_in_order turns why (Line seat heard) = refl
+returned_in_order turns why (Voted party) = refl
+returned_in_order turns why (Settled party) = refl
+returned_in_order turns why (Lost seat) = refl
+returned_in_order turns why (AskPush seat id) = refl
+returned_in_order turns why (AskPull seat superior) = refl
+returned_in_order turns why (Resume id) = refl
+
+module _ (state : State) (event : Event) (outcome : Outcome) where
+  pub answers_in_order : in_order state.connections (happened state event outcome).answer ≡ (step state event outcome).answer
+  unfolding ordered
+  answers_in_order = by (is_open state) where
+    by : (b : Bool) → in_order state.connections (cond b (chosen (attempt today event (entered state)) outcome) (frozen event state)).answer ≡ (cond b (ordered state (chosen (attempt today event (entered state)) outcome)) (frozen event state)).answer
+    by true = ap (λ sent. record (chosen (attempt today event (entered state)) outcome).answer { sent = sent }) (in_turn_of_state state (chosen (attempt today event (entered state)) outcome).answer.sent)
+    by false = returned_in_order (map noted state.connections) Frozen event
+
+  pub state_stays : (happened state event outcome).state ≡ (step state event outcome).state
+  unfolding ordered
+  state_stays = by (is_open state) where
+    by : (b : Bool) → (cond b (chosen (attempt today event (entered state)) outcome) (frozen event state)).state ≡ (cond b (ordered state (chosen (attempt today event (entered state)) outcome)) (frozen event state)).state
+    by true = refl
+    by false = refl
+
+-- where the tables did the work of an event, its realm went by its machine
+module _ (old new : Realms) (place : ℕ) (event : Event) (outcome : Outcome) (made after : Made) (lt : place < length old.heads.items)
+    (does : Does (working place outcome made old) (working place outcome after new) (happened (state_in place old) event outcome)) where
+  went : state_in place new ≡ (step (state_in place old) event outcome).state
+  went = ap (λ w. w.state) does.own ∙ state_stays (state_in place old) event outcome
+
+  pub steps : (turns turns' : ℕ) (answer : Answer) → answer ≡ in_order (of old.connections place) after.answer → Steps (hosted old turns) (hosted new turns') place event outcome answer
+  steps turns turns' answer is = record {
+    own = λ state here.
+        let same : state_in place old ≡ state = same_Some _ _ (sym (there old turns place lt) ∙ here) in (
+          is ∙ ap (λ w. in_order (of old.connections place) w.answer) does.own ∙ answers_in_order (state_in place old) event outcome ∙ ap (λ s. (step s event outcome).answer) same,
+          there new turns' place (omega (arith, does.count, lt)) ∙ ap Some (went ∙ ap (λ s. (step s event outcome).state) same),
+        );
+    others = λ other differ. elim (cases_lt other (length old.heads.items)) [
+      | inl less ↦ there new turns' other (omega (arith, does.count, less)) ∙ ap Some (does.others other differ) ∙ sym (there old turns other less)
+      | inr more ↦ past new turns' other (omega (arith, does.count, more)) ∙ sym (past old turns other more)
+    ];
+    absent = λ none. absurd (none-some (state_in place old) (sym none ∙ there old turns place lt));
+  }
+
+  pub counted : HaveCounts old → HaveCounts new
+  counted before other less = elim (cases_eq other place) [
+    | inl same ↦ subst (λ p. HasCounts (state_in p new)) (sym same) (subst HasCounts (sym went) (counts_stay today (state_in place old) event outcome (before place lt)))
+    | inr differ ↦ subst HasCounts (sym (does.others other differ)) (before other (omega (arith, does.count, less)))
+  ]
 
 -- an event for a realm that is not there
-pub nowhere_steps : (tables : Realms) (place : ℕ) (event : Event) (outcome : Outcome) (answer : Answer) → length tables.heads.items ≤ place → answer ≡ nowhere event → Steps (hosted tables) (hosted tables) place event outcome answer
-nowhere_steps tables place event outcome answer le is = record {
-  own = λ state here. absurd (none-some state (sym (past tables place le) ∙ here));
+pub turned_down : (turns : List Turn) (event : Event) (made answer : Answer) → made ≡ returned NoRealm event → answer ≡ record made { sent = in_turn (turn_in turns) made.sent } → answer ≡ nowhere event
+turned_down turns event made answer is put = put ∙ ap (λ (a : Answer). record a { sent = in_turn (turn_in turns) a.sent }) is ∙ returned_in_order turns NoRealm event
+
+pub nowhere_steps : (realms : Realms) (turns place : ℕ) (event : Event) (outcome : Outcome) (answer : Answer) → length realms.heads.items ≤ place → answer ≡ nowhere event → Steps (hosted realms turns) (hosted realms turns) place event outcome answer
+nowhere_steps realms turns place event outcome answer le is = record {
+  own = λ state here. absurd (none-some state (sym (past realms turns place le) ∙ here));
   others = λ other differ. refl;
   absent = λ none. (is, none);
 }
 
-pub counted : (old new : Realms) (place : ℕ) (event : Event) (outcome : Outcome) (made : Made) → AreCounted old → Does old new place made (step (state_at place old) event outcome) → AreCounted new
-counted old new place event outcome made before does other = elim (cases_eq other place) [
-  | inl same ↦ subst (λ (s : State). IsCounted s.head) (sym does.becomes.own ∙ ap (λ n. state_at n new) (sym same)) (step-counted today (state_at place old) event outcome (before place))
-  | inr differ ↦ subst (λ (s : State). IsCounted s.head) (sym (does.becomes.others other differ)) (before other)
-]
+-- Room
 
-pub alone : (old new : Realms) (place : ℕ) (event : Event) (outcome : Outcome) (made : Made) → AreAllAlone old → Does old new place made (step (state_at place old) event outcome) → AreAllAlone new
-alone old new place event outcome made before does other = elim (cases_eq other place) [
-  | inl same ↦ subst (λ (s : State). AreAlone s.connections) (sym does.becomes.own ∙ ap (λ n. state_at n new) (sym same)) (step_alone (state_at place old) event outcome refl (before place))
-  | inr differ ↦ subst (λ (s : State). AreAlone s.connections) (sym (does.becomes.others other differ)) (before other)
-]
+-- the room that was made is what the work of the event needs
+pub needs : (realms : Realms) (place : ℕ) (outcome : Outcome) (made : Made) (event : Event) (room : Granted) → Suits (state_in place realms) realms.connections.free realms.transactions.free event room → made.free ≡ room.lines → made.room ≡ room.transaction → HasNeeds event (working place outcome made realms)
+needs realms place outcome made event room suits lines transaction = record {
+  lines = omega (arith, suits.lines, lines);
+  connections = suits.connections;
+  transactions = suits.transactions;
+  transaction = λ is. transaction ∙ suits.transaction is;
+}
+
+pub room_for_it : (realms : Realms) (turns place : ℕ) (event : Event) (room : Granted) → place < length realms.heads.items → length (of realms.connections place) ≤ turns → Suits (state_in place realms) realms.connections.free realms.transactions.free event room → IsRoomFor (hosted realms turns) place event room
+room_for_it realms turns place event room lt enough suits = record {
+  suits = λ state here. subst (λ s. Suits s realms.connections.free realms.transactions.free event room) (sym (inside realms turns place state here).1) suits;
+  turns = λ state here. subst (λ (s : State). length s.connections ≤ turns) (sym (inside realms turns place state here).1) enough;
+  nothing = λ none. absurd (none-some (state_in place realms) (sym none ∙ there realms turns place lt));
+}
+
+-- realms that are as they were
+module _ (old new : Realms) (heads : new.heads ≡ old.heads) (same : (place : ℕ) → state_in place new ≡ state_in place old) where
+  pub alike : (turns turns' place : ℕ) → realm (hosted new turns') place ≡ realm (hosted old turns) place
+  alike turns turns' place = elim (cases_lt place (length old.heads.items)) [
+    | inl less ↦ there new turns' place (subst (λ (hs : List Head). place < length hs) (sym (ap (λ h. h.items) heads)) less) ∙ ap Some (same place) ∙ sym (there old turns place less)
+    | inr more ↦ past new turns' place (subst (λ (hs : List Head). length hs ≤ place) (sym (ap (λ h. h.items) heads)) more) ∙ sym (past old turns place more)
+  ]
+
+  pub still_counted : HaveCounts old → HaveCounts new
+  still_counted counts place lt = subst HasCounts (sym (same place)) (counts place (subst (λ (hs : List Head). place < length hs) (ap (λ h. h.items) heads) lt))
+
+-- Where no rows are stored
+
+pub unstored_fits : (change : Option Change) → fits change (unstored_outcome change) ≡ true
+unstored_fits None = refl
+unstored_fits (Some change) = refl
+
+-- what is refused is as what has no outcome
+refused_alike : (attempt : Attempt) → chosen attempt Refused ≡ chosen attempt NoChange
+refused_alike (Attempt.Done work) = refl
+refused_alike (Attempt.Asks change stored refused) = refl
+
+unstored_alike : (state : State) (event : Event) (change : Option Change) → step state event (unstored_outcome change) ≡ step state event NoChange
+unstored_alike state event None = refl
+unstored_alike state event (Some change) = ap (λ work. cond (is_open state) (ordered state work) (frozen event state)) (refused_alike (attempt today event (entered state)))
+
+pub unstored_steps : (old new : Hosted) (place : ℕ) (event : Event) (change : Option Change) (answer : Answer) → Steps old new place event (unstored_outcome change) answer → Steps old new place event NoChange answer
+unstored_steps old new place event change answer steps = record {
+  own = λ state here. let went = steps.own state here in (went.0 ∙ ap (λ w. w.answer) (unstored_alike state event change), went.1 ∙ ap (λ w. Some w.state) (unstored_alike state event change));
+  others = steps.others;
+  absent = steps.absent;
+}
+
+pub ruleset unstored = (unstored_fits, unstored_steps)
 
 -- Realms at their start
 
-pub starting_counted : (starts : List Start) (place : ℕ) → IsCounted (slice_index_or (map starting starts) place no_head)
-starting_counted [] place = omega arith
-starting_counted (start ∷ starts) zero = omega arith
-starting_counted (start ∷ starts) (suc place) = starting_counted starts place
+starting_counts : (starts : List Start) (place : ℕ) → All HasEpoch starts → place < length starts → (state : State) → state.head ≡ slice_index_or (map starting starts) place no_head → state.connections ≡ [] → HasCounts state
+starting_counts [] place epochs lt state head none = absurd (omega (arith, lt))
+starting_counts (start ∷ starts) zero epochs lt state head none = record {
+  epoch = subst (λ (h : Head). 0 < h.epoch) (sym head) (All-head HasEpoch start starts epochs);
+  given = subst (λ (h : Head). h.given ≤ h.entries) (sym head) (omega arith);
+  connections = subst (All (IsBelow state.head.entries)) (sym none) (All-nil (IsBelow state.head.entries));
+}
+starting_counts (start ∷ starts) (suc place) epochs lt state head none = starting_counts starts place (All-tail HasEpoch start starts epochs) (omega (arith, lt)) state head none
 
 just_started : (start : Option Start) → option_map (λ head. record { head = head; connections = []; transactions = [] }) (option_map starting start) ≡ option_map (λ start. started (starting start)) start
 just_started None = refl
 just_started (Some start) = refl
 
-pub new_realm : (starts : List Start) (table : Kept Connection) (place : ℕ) → of table place ≡ [] → option_map (λ head. record { head = head; connections = of table place; transactions = [] }) (slice_get (map starting starts) place) ≡ option_map (λ start. started (starting start)) (slice_get starts place)
-new_realm starts table place empty = rw (empty, slice_get-map starting starts place) (just_started (slice_get starts place))
+module _ (starts : List Start) (realms : Realms) (heads : realms.heads.items ≡ map starting starts) (connections : (place : ℕ) → of realms.connections place ≡ []) (transactions : (place : ℕ) → of realms.transactions place ≡ []) where
+  pub new_realm : (turns place : ℕ) → realm (hosted realms turns) place ≡ option_map (λ start. started (starting start)) (slice_get starts place)
+  new_realm turns place = rw (connections place, transactions place, heads, slice_get-map starting starts place) (just_started (slice_get starts place))
+
+  pub new_counts : All HasEpoch starts → HaveCounts realms
+  new_counts epochs place lt = starting_counts starts place epochs (omega (arith, lt, ap length heads, length-map starts starting)) (state_in place realms) (ap (λ hs. slice_index_or hs place no_head) heads) (connections place)

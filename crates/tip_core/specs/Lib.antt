@@ -3,6 +3,7 @@ pub mod Makings
 pub mod Turns
 pub mod Works
 pub mod Reacting
-pub mod Tables
+pub mod Wanting
+pub mod Needs
 pub mod Hosted
 pub mod Isolation

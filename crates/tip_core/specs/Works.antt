@@ -3,12 +3,10 @@ use Rattle.std.specs.Prelude.{ℕ, ◌≡◌, ◌≢◌, ◌+◌, ◌<◌, ◌�
 use Rattle.std.specs.Option.{option_and_then, option_map_or}
 use Rattle.tip_branch.specs.Notes.{PartyNotes}
 use Rattle.tip_branch.specs.declared.member.Errand.TheVariants as errand
-use Rattle.tip_line.specs.declared.command.CommandName.{CommandName}
-use Rattle.tip_line.specs.declared.command.CommandName.TheVariants as command
 use Rattle.tip_rows.specs.Keys.{Key}
-use Rattle.tip_table.specs.Kept.{capacity, item_at, of}
+use Rattle.tip_table.specs.Kept.{Kept, capacity, item_at, of}
 use Rattle.tip_machine.specs.Connections.{is_on}
-use Rattle.tip_machine.specs.Served.{Serving}
+use Rattle.tip_machine.specs.Counts.{HasCounts}
 use Rattle.tip_machine.specs.States.{State, Work, connection_of, has_room, transaction_of}
 use Rattle.tip_machine.specs.Transactions.{has_id, has_key, next_key}
 use Rattle.tip_machine.specs.Types.{Answer, Connection, PartyPlace, Transaction, seen}
@@ -19,9 +17,11 @@ use Rattle.tip_machine.specs.declared.transaction.Origin.{Origin}
 use Rattle.tip_machine.specs.declared.transaction.Origin.TheVariants as origin
 use Rattle.tip_machine.specs.declared.transaction.PartyPlace.TheVariants.{Here, Out, Spent}
 use Rattle.tip_machine.specs.declared.transaction.Transaction as transaction
+use Rattle.tip_machine.specs.declared.event.Outcome.{Outcome}
 use Rattle.tip_machine.specs.declared.event.Seat.{Seat}
 use Rattle.tip_core.specs.Makings.{Made}
 use Rattle.tip_core.specs.Rooms.{room_for}
+use Rattle.tip_core.specs.declared.realms.Realms as realms
 use Rattle.tip_core.specs.declared.work.Work as declared
 
 abbrev pub HeldTransaction : Type 0
@@ -57,6 +57,26 @@ realm_of realm held = record { head = slice_index_or held.heads.items realm no_h
 -- what the event at hand has done so far in its realm
 abbrev pub work_of : Held → Work
 work_of held = record { state = realm_of held.realm held; answer = held.making.answer }
+
+-- The tables of all realms between two events
+
+abbrev pub Realms : Type 0
+Realms = realms.Realms Connection HeldTransaction
+
+abbrev pub state_in : ℕ → Realms → State
+state_in realm realms = record { head = slice_index_or realms.heads.items realm no_head; connections = of realms.connections realm; transactions = map seen (of realms.transactions realm) }
+
+-- lent to the work of an event
+abbrev pub working : ℕ → Outcome → Made → Realms → Held
+working realm outcome making realms = record { heads = realms.heads; connections = realms.connections; transactions = realms.transactions; realm = realm; outcome = outcome; making = making }
+
+-- each realm's counts are as they can be
+abbrev pub HaveCounts : Realms → Type 0
+HaveCounts realms = (realm : ℕ) → realm < length realms.heads.items → HasCounts (state_in realm realms)
+
+-- a realm as far as seats can tell
+abbrev pub connected : Head → Kept Connection → ℕ → State
+connected head connections realm = record { head = head; connections = of connections realm; transactions = [] }
 
 -- how many lines and closings the answer can have
 abbrev pub lines_in : Held → ℕ
@@ -136,25 +156,6 @@ has_superior origin.Root = false
 has_superior (origin.Subordinate None superior) = false
 has_superior (origin.Subordinate (Some address) superior) = true
 
--- the commands that a realm without superiors and subordinates elsewhere needs
-abbrev pub is_local : CommandName → Bool
-is_local command.Identify = true
-is_local command.Begin = true
-is_local command.Push = false
-is_local command.Pull = false
-is_local command.Prepare = false
-is_local command.Commit = true
-is_local command.Abort = true
-is_local command.Query = true
-is_local command.Reconnect = false
-is_local command.Multiplex = true
-is_local command.Tls = true
-is_local command.Error = true
-
--- what is served where no connection is dialled, and none is for a superior or a subordinate elsewhere
-abbrev pub local : Serving
-local = record { commands = is_local; dials = false }
-
 -- Steps that make something new
 
 -- a connection more is given
@@ -175,7 +176,7 @@ showing seat work = record work { answer = record work.answer { opened = Some se
 
 -- A transaction can be made on a connection.
 pub record CanMake (held : Held) (connection : Connection) : Type 0 where
-  pub made : connection.made < (work_of held).state.head.entries
+  pub made : connection.made < (work_of held).state.head.limits.entries
   pub number : 0 < connection.number
   pub epoch : 0 < (work_of held).state.head.epoch
   pub place : 0 < held.transactions.free

@@ -42,7 +42,7 @@ impl Work<Connection, Transaction, Making> {
 
     /// Whether a transaction is free, and so many boxes are enough for each branch to have one.
     #[tactic(auto, using(crate::proofs::Beginnings::room))]
-    fn has_room(&self, boxes: usize) -> bool
+    pub(crate) fn has_room(&self, boxes: usize) -> bool
         requires { self.now.realm < length self.now.heads.items }
         ensures { result ≡ (nat_lt (length (work_of self.now).state.transactions) (work_of self.now).state.head.limits.transactions && nat_le (length (work_of self.now).state.head.branches) boxes) }
     {
@@ -53,15 +53,15 @@ impl Work<Connection, Transaction, Making> {
 
     /// The key of the next transaction on a connection of this number, on which so many were made.
     #[tactic(auto, using(crate::proofs::Beginnings::keys))]
-    fn next_key(&self, number: u32, made: u32) -> Key
+    pub(crate) fn next_key(&self, number: u32, made: u32) -> Key
         requires here { self.now.realm < length self.now.heads.items }
         requires epoch { 0 < (work_of self.now).state.head.epoch }
         requires number { 0 < number }
-        requires made { made < (work_of self.now).state.head.entries }
+        requires made { made < (work_of self.now).state.head.limits.entries }
         ensures { result ≡ record { epoch = (work_of self.now).state.head.epoch; connection = number; number = made + 1 } }
     {
         let head = &self.heads[self.realm];
-        let _most = head.entries;
+        let _most = head.limits.entries;
         match Key::new(head.epoch, number, made + 1) {
             Some(key) => key,
             None => unreachable!(),

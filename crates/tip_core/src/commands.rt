@@ -10,17 +10,18 @@ ghost use Rattle.tip_machine.specs.Connections.{has_number};
 ghost use Rattle.tip_machine.specs.Failing.{closed};
 ghost use Rattle.tip_machine.specs.Proceeding.{commit};
 ghost use Rattle.tip_machine.specs.Proceeding.{abort as aborted};
+ghost use Rattle.tip_machine.specs.Served.{is_served, today};
 ghost use Rattle.tip_machine.specs.States.{Attempt, connection_of};
 ghost use Rattle.tip_machine.specs.Steps.{chosen};
 ghost use Rattle.tip_machine.specs.Types.{Connection as AConnection};
 ghost use Rattle.tip_machine.specs.declared.event.Change.{Change};
-ghost use Rattle.tip_core.specs.Works.{Does, is_local, IsIdle, lines_at, lines_for, local, MayMake, work_of};
+ghost use Rattle.tip_core.specs.Works.{Does, IsIdle, lines_at, lines_for, MayMake, work_of};
 
 use crate::making::Making;
 use crate::work::Work;
 use tip_conn::{Admit, admit};
 use tip_line::{Address, Command, CommandName, Id};
-use tip_machine::{Connection, Item, Outcome, Role, Said, Transaction};
+use tip_machine::{Connection, Item, Outcome, Role, Said, Transaction, is_served};
 use tip_rows::Key;
 use tip_txn::Phase;
 
@@ -33,37 +34,37 @@ impl Work<Connection, Transaction, Making> {
         requires able { name_of command ≡ Begin → MayMake number self.old }
         requires lines { lines_at number (work_of self.old).state + 2 ≤ self.old.making.free }
         requires none { IsIdle self.old.making.answer }
-        ensures { (connection : AConnection) → connection_of number (work_of self.old).state ≡ Some connection → Does self.old self.new (chosen (commanded local command connection (work_of self.old)) self.old.outcome) }
+        ensures { (connection : AConnection) → connection_of number (work_of self.old).state ≡ Some connection → Does self.old self.new (chosen (commanded today command connection (work_of self.old)) self.old.outcome) }
     {
         let connection = self.connection(number, place);
         match admit(connection.state, connection.side, &command) {
-            Admit::Serve => self.serve_if_local(number, place, command),
+            Admit::Serve => self.serve_if_served(number, place, command),
             Admit::Wrong => self.reject(number, place),
         }
     }
 
     /// A command that is valid: served, or answered ERROR.
-    fn serve_if_local(&mut self, number: u32, place: usize, command: Command)
+    fn serve_if_served(&mut self, number: u32, place: usize, command: Command)
         requires here { self.old.realm < length self.old.heads.items }
         requires stands { StandsAt self.old.connections self.old.realm (has_number number) place }
         requires able { name_of command ≡ Begin → MayMake number self.old }
         requires lines { lines_at number (work_of self.old).state + 2 ≤ self.old.making.free }
         requires none { IsIdle self.old.making.answer }
-        ensures { (connection : AConnection) → connection_of number (work_of self.old).state ≡ Some connection → Does self.old self.new (chosen (serve_if local Serve command connection (work_of self.old)) self.old.outcome) }
+        ensures { (connection : AConnection) → connection_of number (work_of self.old).state ≡ Some connection → Does self.old self.new (chosen (serve_if today Serve command connection (work_of self.old)) self.old.outcome) }
     {
-        if is_local(command.name()) {
+        if is_served(command.name()) {
             self.serve(number, place, command);
         } else {
             self.reject(number, place);
         }
     }
 
-    /// A command that is valid, of those that need no superior or subordinate elsewhere.
+    /// A command that is valid and served.
     #[tactic(auto, using(crate::proofs::Commanding::serving))]
     pub fn serve(&mut self, number: u32, place: usize, command: Command)
         requires here { self.old.realm < length self.old.heads.items }
         requires stands { StandsAt self.old.connections self.old.realm (has_number number) place }
-        requires local { is_local (name_of command) ≡ true }
+        requires served { is_served (name_of command) ≡ true }
         requires able { name_of command ≡ Begin → MayMake number self.old }
         requires lines { lines_at number (work_of self.old).state + 2 ≤ self.old.making.free }
         requires none { IsIdle self.old.making.answer }
@@ -200,24 +201,6 @@ impl Work<Connection, Transaction, Making> {
     }
 }
 
-/// Whether a command needs no superior or subordinate elsewhere.
-fn is_local(command: CommandName) -> bool
-    ensures { result ≡ is_local command }
-{
-    match command {
-        CommandName::Identify
-        | CommandName::Begin
-        | CommandName::Commit
-        | CommandName::Abort
-        | CommandName::Query
-        | CommandName::Multiplex
-        | CommandName::Tls
-        | CommandName::Error => true,
-        CommandName::Push | CommandName::Pull | CommandName::Prepare | CommandName::Reconnect =>
-            false,
-    }
-}
-
 /// Whether version 3, the only one that we speak, lies between these.
 fn is_spoken(lowest: u32, highest: u32) -> bool
     ensures { result ≡ (nat_le lowest 3 && nat_le 3 highest) }
@@ -226,7 +209,7 @@ fn is_spoken(lowest: u32, highest: u32) -> bool
 }
 
 /// The transaction whose superior is on a connection of this role.
-fn superior_role(role: Option<Role>) -> Option<Key>
+pub(crate) fn superior_role(role: Option<Role>) -> Option<Key>
     ensures { result ≡ superior_role role }
 {
     match role {

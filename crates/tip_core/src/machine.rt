@@ -4,17 +4,18 @@ ghost use Rattle.tip_branch.specs.Always.{Always};
 ghost use Rattle.tip_machine.specs.Heads.{starting};
 ghost use Rattle.tip_machine.specs.Steps.{fits};
 ghost use Rattle.tip_machine.specs.States.{started};
-ghost use Rattle.tip_core.specs.Hosted.{realm as realm_at, room_in, may_take_in, HaveNames, IsRoomFor, Steps};
+ghost use Rattle.tip_core.specs.Hosted.{realm as realm_at, room_in, may_take_in, must_wait_in, HaveNames, IsRoomFor, Steps};
 ghost use Rattle.tip_core.specs.Isolation.{IsIsolated};
 
+use crate::happened::Happened;
 use crate::realms::Realms;
 use crate::room::Room;
 use crate::starts::Starts;
+use crate::turns::Turns;
 use std::alloc::{AllocError, Global};
 use std::marker::Model;
-use tip_line::Refusal;
-use tip_machine::{Answer, Connection, Event, Head, InRealm, Outcome, Seat, Start};
-use tip_table::Table;
+use tip_line::{Realm, Refusal};
+use tip_machine::{Answer, Event, Head, InRealm, Outcome, Seat, Start};
 
 /// What a list of events came to.
 #[derive(Drop)]
@@ -28,18 +29,19 @@ pub struct Run {
 /// All realms of the process, each by its place in the order of declaration.
 #[derive(Drop)]
 pub struct Core {
-    realms: Realms<Connection>,
+    realms: Realms,
+    turns: Turns,
 }
 
 impl Model for Core {
     ghost use Rattle.tip_core.specs.Hosted.{HaveNames, Hosted};
-    ghost use Rattle.tip_core.specs.Tables.{AreAllAlone, AreCounted};
+    ghost use Rattle.tip_core.specs.Works.{HaveCounts};
 
     ghost Value = { Hosted };
 
-    ghost view = { λ c. record { heads = c.realms.heads.items; connections = c.realms.connections } };
+    ghost view = { λ c. record { heads = c.realms.heads.items; connections = c.realms.connections; transactions = c.realms.transactions; turns = c.turns.capacity } };
 
-    ghost invariant = { λ c. AreCounted c.realms × AreAllAlone c.realms × HaveNames (record { heads = c.realms.heads.items; connections = c.realms.connections }) };
+    ghost invariant = { λ c. HaveCounts c.realms × HaveNames (record { heads = c.realms.heads.items; connections = c.realms.connections; transactions = c.realms.transactions; turns = c.turns.capacity }) };
 }
 
 impl Core {
@@ -49,65 +51,86 @@ impl Core {
         ensures { (place : ℕ) → realm_at result place ≡ None }
     {
         Core {
-            realms: Realms {
-                heads: Vec::new(alloc),
-                connections: Table::new(alloc),
-            },
+            realms: Realms::of(alloc, Vec::new(alloc)),
+            turns: Turns::new(alloc),
         }
     }
 
     /// These realms start, in place of those that were.
-    #[tactic(auto, using(crate::proofs::Stepping::starting_counted, crate::proofs::Stepping::new_realm, crate::proofs::Naming::named_at_start))]
     pub fn start(self, alloc: Global, starts: Starts) -> Result<Core, AllocError>
         requires { Always }
         ensures realms { IfOk result (λ core. (place : ℕ) → realm_at core place ≡ option_map (λ start. started (starting start)) (slice_get starts place)) }
         ensures named { IfOk result HaveNames }
     {
         Ok(Core {
-            realms: Realms {
-                heads: heads_of(alloc, starts.into_vec())?,
-                connections: Table::new(alloc),
-            },
+            realms: Realms::of(alloc, heads_of(alloc, starts.into_vec())?),
+            turns: Turns::new(alloc),
         })
     }
 
     /// Room for an event. The realms stay as they are.
-    #[tactic(auto, using(crate::proofs::Stepping::wants_here))]
     pub fn room(&mut self, alloc: Global, realm: usize, event: &Event) -> Result<Room, AllocError>
         requires { Always }
         ensures realms { (place : ℕ) → realm_at self.new place ≡ realm_at self.old place }
         ensures ok { IfOk result (IsRoomFor self.new realm event.now) }
-        ensures today { IfOk result (λ room. room.change ≡ None) }
     {
-        let room = Room::new(alloc, 2, None)?;
-        self.realms.reserve(event)?;
-        Ok(room)
+        if realm >= self.realms.heads.len() {
+            return Room::new(alloc, 0, None, None);
+        }
+        self.turns.reserve(self.realms.connections.count(realm))?;
+        self.realms.room(alloc, realm, event)
     }
 
     /// One event of one realm, with what became of the change that it wanted. It takes no memory.
-    #[tactic(auto, using(crate::proofs::Stepping::steps, crate::proofs::Stepping::nowhere_steps, crate::proofs::Stepping::counted))]
-    pub fn apply(&mut self, realm: usize, event: Event, room: Room, outcome: Outcome) -> Answer
+    pub fn apply(&mut self, realm: usize, event: Event, room: Room, outcome: Outcome) -> Happened
         requires room { IsRoomFor self.old realm event room }
         requires fits { fits room.change outcome ≡ true }
-        ensures steps { Steps self.old self.new realm event outcome result }
+        ensures steps { Steps self.old self.new realm event outcome result.answer }
+        ensures change { result.change ≡ room.change }
+        ensures outcome { result.outcome ≡ outcome }
         ensures named { HaveNames self.new }
         ensures room { room_in self.new ≡ room_in self.old }
     {
-        let mut making = room.into_making();
+        let (mut making, change) = room.into_parts();
         if realm >= self.realms.heads.len() {
             making.turn_down(Refusal::NoRealm, event);
-            return making.finish();
+            let answer = making.finish(&self.turns);
+            return Happened {
+                change,
+                outcome,
+                answer,
+            };
         }
-        self.realms.step(realm, event, outcome, &mut making);
-        making.finish()
+        self.turns.note(realm, &self.realms.connections);
+        let made = self.realms.step(realm, event, outcome, making);
+        let answer = made.finish(&self.turns);
+        Happened {
+            change,
+            outcome,
+            answer,
+        }
+    }
+
+    /// The name of a realm.
+    pub fn name(&self, realm: usize) -> Option<&Realm>
+        ensures { option_map (λ name. name.now) result ≡ option_map (λ state. state.head.name) (realm_at self.now realm) }
+    {
+        Some(&self.realms.heads.get(realm)?.name)
     }
 
     /// Whether a line of this seat may be taken now; else it is held until it may.
-    #[tactic(auto, using(crate::proofs::Stepping::there, crate::proofs::Stepping::past))]
     pub fn may_take(&self, realm: usize, seat: Seat) -> bool
         ensures { result ≡ may_take_in seat (realm_at self.now realm) }
     {
         realm < self.realms.heads.len() && self.realms.may_take(realm, seat)
+    }
+
+    /// Whether a line of this seat must wait until a response has gone out or is awaited. On a connection that is gone it need
+    /// not: it is refused.
+    pub fn must_wait(&self, realm: usize, seat: Seat) -> bool
+        ensures { result ≡ must_wait_in seat (realm_at self.now realm) }
+    {
+        realm < self.realms.heads.len() && self.realms.must_wait(realm, seat)
     }
 
     /// Events of all realms, one after another; no rows are stored. Each realm answers as if it were alone.
@@ -136,11 +159,9 @@ impl Core {
             let InRealm { realm, item } = event;
             answers.reserve(1)?;
             let room = self.room(alloc, realm, &item)?;
-            let answer = self.apply(realm, item, room, Outcome::NoChange);
-            answers.push_reserved(InRealm {
-                realm,
-                item: answer,
-            });
+            let outcome = room.unstored();
+            let item = self.apply(realm, item, room, outcome).into_answer();
+            answers.push_reserved(InRealm { realm, item });
         }
         Ok(())
     }

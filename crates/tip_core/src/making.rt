@@ -1,5 +1,5 @@
 //! An answer in the making.
-ghost use Rattle.std.specs.Prelude.{◌≡◌, ◌+◌, ◌<◌, ◌≤◌, [], ◌∷◌, ◌++◌, length, vec_capacity, None, Some, IfOk, IsSome};
+ghost use Rattle.std.specs.Prelude.{◌≡◌, ◌+◌, ◌<◌, ◌≤◌, [], ◌∷◌, ◌++◌, None, Some, IfOk, IsSome};
 ghost use Rattle.tip_machine.specs.Answers.{silence};
 ghost use Rattle.tip_machine.specs.Order.{in_turn};
 ghost use Rattle.tip_machine.specs.Steps.{returned};
@@ -19,6 +19,8 @@ pub struct Making {
     refusal: Option<Refusal>,
     opened: Option<Seat>,
     sent: Vec<Sent>,
+    /// An empty vector with room for as many lines, into which they are put in order.
+    ordered: Vec<Sent>,
     work: Option<HeldParty>,
     spent: Option<HeldParty>,
     unused: Option<HeldFresh>,
@@ -27,7 +29,7 @@ pub struct Making {
 }
 
 impl Model for Making {
-    ghost use Rattle.std.specs.Prelude.{◌-◌, vec_len, vec_capacity};
+    ghost use Rattle.std.specs.Prelude.{◌≡◌, ◌-◌, ◌≤◌, [], vec_len, vec_capacity};
     ghost use Rattle.tip_core.specs.Makings.{Made};
 
     ghost Value = { Made };
@@ -37,9 +39,28 @@ impl Model for Making {
       free = vec_capacity m.sent - vec_len m.sent;
       room = m.room;
     } };
+
+    ghost invariant = { λ m. (m.ordered.items ≡ []) × (vec_capacity m.sent ≤ vec_capacity m.ordered) };
 }
 
 impl Making {
+    /// An answer with nothing in it, and without room. It takes no memory.
+    pub fn idle(alloc: Global) -> Making
+        ensures { result.answer ≡ silence }
+    {
+        Making {
+            refusal: None,
+            opened: None,
+            sent: Vec::new(alloc),
+            ordered: Vec::new(alloc),
+            work: None,
+            spent: None,
+            unused: None,
+            entry: None,
+            room: None,
+        }
+    }
+
     /// An answer with nothing in it, which has room for so many lines and closings, and for a transaction if it is given.
     pub fn new(
         alloc: Global,
@@ -50,10 +71,13 @@ impl Making {
         ensures lines { IfOk result (λ making. lines ≤ making.free) }
         ensures room { IfOk result (λ making. making.room ≡ room) }
     {
+        let sent = Vec::with_capacity(alloc, lines)?;
+        let ordered = Vec::with_capacity(alloc, sent.capacity())?;
         Ok(Making {
             refusal: None,
             opened: None,
-            sent: Vec::with_capacity(alloc, lines)?,
+            sent,
+            ordered,
             work: None,
             spent: None,
             unused: None,
@@ -128,6 +152,7 @@ impl Making {
     pub fn turn_down(&mut self, why: Refusal, event: Event)
         requires { self.old.answer ≡ silence }
         ensures answer { self.new.answer ≡ returned why event }
+        ensures rest { self.new ≡ record self.old { answer = self.new.answer } }
     {
         self.refuse(why);
         match event {
@@ -147,14 +172,15 @@ impl Making {
         }
     }
 
-    /// The answer as it is now.
-    pub fn finish(self) -> Answer
-        ensures { result ≡ self.answer }
+    /// The answer as it is now, with its lines in the order of their turns.
+    pub fn finish(self, turns: &Turns) -> Answer
+        ensures { result ≡ record self.answer { sent = in_turn (turn_in turns.now.turns) self.answer.sent } }
     {
         let Making {
             refusal,
             opened,
-            sent,
+            mut sent,
+            ordered,
             work,
             spent,
             unused,
@@ -164,33 +190,11 @@ impl Making {
         Answer {
             refusal,
             opened,
-            sent: SentLines::new(sent),
+            sent: SentLines::new(turns.order(&mut sent, ordered)),
             work,
             spent,
             unused,
             entry,
-        }
-    }
-
-    /// The answer as it is now, with its lines in the order of their turns, in an empty vector that has room for them. An
-    /// answer with nothing in it is left, and no room for a transaction.
-    pub fn finish_in_turn(&mut self, lines: Vec<Sent>, turns: &Turns) -> Answer
-        requires empty { lines.items ≡ [] }
-        requires room { length self.old.answer.sent ≤ vec_capacity lines }
-        ensures answer { result ≡ record self.old.answer { sent = in_turn (turn_in turns.now.turns) self.old.answer.sent } }
-        ensures left { self.new.answer ≡ silence }
-        ensures free { self.new.free ≡ self.old.free + length self.old.answer.sent }
-        ensures room { self.new.room ≡ None }
-    {
-        self.room = None;
-        Answer {
-            refusal: self.refusal.take(),
-            opened: self.opened.take(),
-            sent: SentLines::new(turns.order(&mut self.sent, lines)),
-            work: self.work.take(),
-            spent: self.spent.take(),
-            unused: self.unused.take(),
-            entry: self.entry.take(),
         }
     }
 }

@@ -5,17 +5,18 @@ ghost use Rattle.tip_machine.specs.Answers.{silence};
 ghost use Rattle.tip_machine.specs.Connections.{has_number};
 ghost use Rattle.tip_line.specs.declared.refusal.Refusal.TheVariants.{Full};
 ghost use Rattle.tip_machine.specs.Changes.{refuse};
-ghost use Rattle.tip_machine.specs.Requests.{hand_back, lost, may_take_on, opened};
+ghost use Rattle.tip_machine.specs.Requests.{hand_back, lost, opened};
 ghost use Rattle.tip_machine.specs.States.{connection_of, has_place, seated};
 ghost use Rattle.tip_machine.specs.Steps.{entered, is_open};
-ghost use Rattle.tip_core.specs.Works.{counting, Does, IsIdle, joining, lines_at, showing, work_of};
+ghost use Rattle.tip_core.specs.Works.{connected, counting, Does, IsIdle, joining, lines_at, showing, work_of};
 
 use crate::making::Making;
 use crate::query::Numbered;
 use crate::work::Work;
 use tip_branch::HeldFresh;
 use tip_line::Refusal;
-use tip_machine::{Connection, Seat, Transaction};
+use tip_machine::{Connection, Head, Seat, Transaction};
+use tip_table::Table;
 
 impl Work<Connection, Transaction, Making> {
     /// Whether the realm's journal has room for an entry.
@@ -48,26 +49,7 @@ impl Work<Connection, Transaction, Making> {
         ensures some { IfSome result (λ place. StandsAt self.now.connections self.now.realm (has_number seat.number) place) }
         ensures same { IfSome result (λ place. seated seat (work_of self.now).state ≡ connection_of seat.number (work_of self.now).state) }
     {
-        if seat.epoch != self.heads[self.realm].epoch {
-            return None;
-        }
-        self.connections.find(
-            self.realm,
-            &Numbered {
-                number: seat.number,
-            },
-        )
-    }
-
-    /// Whether a line of this seat may be taken.
-    pub fn may_take(&self, seat: Seat) -> bool
-        requires { self.now.realm < length self.now.heads.items }
-        ensures { result ≡ may_take_on (seated seat (work_of self.now).state) }
-    {
-        match self.seated(seat) {
-            Some(place) => self.connection(seat.number, place).may_take(),
-            None => false,
-        }
+        seat_place(&self.heads[self.realm], &self.connections, self.realm, seat)
     }
 
     /// A connection was lost, if it was there.
@@ -111,7 +93,7 @@ impl Work<Connection, Transaction, Making> {
     }
 
     /// No connection is made, and its boxes are handed back.
-    fn turn_away(&mut self, boxes: HeldFresh)
+    pub(crate) fn turn_away(&mut self, boxes: HeldFresh)
         ensures { Does self.old self.new (hand_back boxes (refuse Full (work_of self.old))) }
     {
         self.making.refuse(Refusal::Full);
@@ -150,4 +132,22 @@ impl Work<Connection, Transaction, Making> {
     {
         self.making.open(seat);
     }
+}
+
+/// Where the connection of a seat stands, if the realm of this head has it.
+pub fn seat_place(
+    head: &Head,
+    connections: &Table<Connection>,
+    realm: usize,
+    seat: Seat,
+) -> Option<usize>
+    ensures none { (result ≡ None) ↔ (seated seat (connected head.now connections.now realm) ≡ None) }
+    ensures some { IfSome result (λ place. StandsAt connections.now realm (has_number seat.number) place) }
+    ensures same { IfSome result (λ place. seated seat (connected head.now connections.now realm) ≡ connection_of seat.number (connected head.now connections.now realm)) }
+{
+    if seat.epoch != head.epoch {
+        return None;
+    }
+    let number = seat.number;
+    connections.find(realm, &Numbered { number })
 }

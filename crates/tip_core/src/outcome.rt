@@ -118,7 +118,7 @@ impl Work<Connection, Transaction, Making> {
 
     /// The command that the superior of a transaction waits for.
     #[tactic(auto, using(crate::proofs::Outcomes::owed))]
-    fn owed_to_superior(&self, key: Key) -> Option<CommandName>
+    pub(crate) fn owed_to_superior(&self, key: Key) -> Option<CommandName>
         ensures { result ≡ owed_to_superior key (work_of self.now).state }
     {
         let place = self.connections.find(self.realm, &SuperiorOf { key })?;

@@ -1,167 +1,131 @@
-//! The tables of all realms, and what one change of them does to one realm.
-ghost use Rattle.std.specs.Prelude.{◌≡◌, ◌≢◌, ◌↔◌, ℕ, ◌+◌, ◌<◌, ◌≤◌, [], ◌∷◌, ◌++◌, length, None, Some, IfSome, OnOk};
-ghost use Rattle.std.specs.List.{find};
-ghost use Rattle.tip_table.specs.Kept.{StandsAt, of};
-ghost use Rattle.tip_table.specs.Lists.{changed, without};
-ghost use Rattle.tip_machine.specs.Connections.{has_number, identified, advanced};
+//! The tables of all realms, which are lent to the work of one event.
+ghost use Rattle.std.specs.Prelude.{◌≡◌, ◌<◌, ℕ, [], length, IfOk};
+ghost use Rattle.tip_table.specs.Kept.{of};
+ghost use Rattle.tip_machine.specs.Answers.{silence};
+ghost use Rattle.tip_machine.specs.Counts.{HasCounts};
 ghost use Rattle.tip_machine.specs.Requests.{may_take_on};
 ghost use Rattle.tip_machine.specs.States.{seated};
-ghost use Rattle.tip_machine.specs.Steps.{is_open};
-ghost use Rattle.tip_core.specs.Hosted.{connections_for};
-ghost use Rattle.tip_core.specs.Tables.{state_at, Becomes};
+ghost use Rattle.tip_core.specs.Hosted.{must_wait_on};
+ghost use Rattle.tip_core.specs.Needs.{HasNeeds, Suits, happened};
+ghost use Rattle.tip_core.specs.Works.{Does, state_in, working};
 
-use crate::query::Numbered;
-use std::alloc::AllocError;
-use tip_line::{Address, CommandName, ResponseName};
-use tip_machine::{Connection, Event, Head, Seat};
+use crate::making::Making;
+use crate::opening::seat_place;
+use crate::room::Room;
+use crate::work::Work;
+use std::alloc::{AllocError, Global};
+use std::mem;
+use tip_machine::{Connection, Event, Head, Outcome, Seat, Transaction};
 use tip_table::Table;
 
-/// All realms: what is declared and counted of each, and the table of all connections.
+/// What is declared and counted of each realm, and the tables of all connections and transactions.
 #[derive(Drop)]
-pub struct Realms<C = Connection> {
+pub struct Realms<C = Connection, T = Transaction> {
     pub heads: Vec<Head>,
     pub connections: Table<C>,
+    pub transactions: Table<T>,
+    pub alloc: Global,
 }
 
-impl Realms<Connection> {
-    /// Whether the realm's journal has room for an entry.
-    pub fn is_open(&self, realm: usize) -> bool
-        requires { realm < length self.now.heads.items }
-        ensures { result ≡ is_open (state_at realm self.now) }
+impl Realms<Connection, Transaction> {
+    /// These realms, at their start.
+    pub fn of(alloc: Global, heads: Vec<Head>) -> Realms<Connection, Transaction>
+        ensures heads { result.heads ≡ heads }
+        ensures connections { (realm : ℕ) → of result.connections realm ≡ [] }
+        ensures transactions { (realm : ℕ) → of result.transactions realm ≡ [] }
     {
-        let head = &self.heads[realm];
-        head.entries < head.limits.entries
-    }
-
-    /// Counts an entry.
-    pub fn enter(&mut self, realm: usize) -> u32
-        requires here { realm < length self.old.heads.items }
-        requires below { (state_at realm self.old).head.entries < (state_at realm self.old).head.limits.entries }
-        ensures number { result ≡ (state_at realm self.old).head.entries + 1 }
-        ensures room { self.new.connections ≡ self.old.connections }
-        ensures becomes { Becomes self.old self.new realm (record (state_at realm self.old) { head = record (state_at realm self.old).head { entries = (state_at realm self.old).head.entries + 1 } }) }
-    {
-        let head = &mut self.heads[realm];
-        let _most = head.limits.entries;
-        head.entries += 1;
-        head.entries
-    }
-
-    /// Counts a connection, and gives its seat.
-    pub fn next_seat(&mut self, realm: usize) -> Seat
-        requires here { realm < length self.old.heads.items }
-        requires counted { (state_at realm self.old).head.given < (state_at realm self.old).head.entries }
-        ensures seat { result ≡ record { epoch = (state_at realm self.old).head.epoch; number = (state_at realm self.old).head.given + 1 } }
-        ensures room { self.new.connections ≡ self.old.connections }
-        ensures becomes { Becomes self.old self.new realm (record (state_at realm self.old) { head = record (state_at realm self.old).head { given = (state_at realm self.old).head.given + 1 } }) }
-    {
-        let head = &mut self.heads[realm];
-        let _most = head.entries;
-        head.given += 1;
-        Seat {
-            epoch: head.epoch,
-            number: head.given,
+        Realms {
+            heads,
+            connections: Table::new(alloc),
+            transactions: Table::new(alloc),
+            alloc,
         }
     }
 
-    /// Where the connection of a seat stands, if the realm has it.
-    pub fn seated(&self, realm: usize, seat: Seat) -> Option<usize>
-        requires { realm < length self.now.heads.items }
-        ensures none { (result ≡ None) ↔ (seated seat (state_at realm self.now) ≡ None) }
-        ensures some { IfSome result (λ place. StandsAt self.now.connections realm (has_number seat.number) place) }
-        ensures same { IfSome result (λ place. seated seat (state_at realm self.now) ≡ find (has_number seat.number) (state_at realm self.now).connections) }
+    /// Room for an event of a realm. The realms stay as they are.
+    pub fn room(&mut self, alloc: Global, realm: usize, event: &Event) -> Result<Room, AllocError>
+        requires here { realm < length self.old.heads.items }
+        requires counts { HasCounts (state_in realm self.old) }
+        ensures ok { IfOk result (Suits (state_in realm self.new) self.new.connections.free self.new.transactions.free event.now) }
+        ensures heads { self.new.heads ≡ self.old.heads }
+        ensures realms { (place : ℕ) → state_in place self.new ≡ state_in place self.old }
     {
-        if seat.epoch != self.heads[realm].epoch {
-            return None;
-        }
-        self.connections.find(
-            realm,
-            &Numbered {
-                number: seat.number,
-            },
-        )
+        let mut work = self.lend(realm, Outcome::NoChange, Making::idle(self.alloc));
+        let room = work.prepare(alloc, event);
+        let _idle = self.take_back(work);
+        room
     }
 
-    /// The connection of this number, which stands at this place.
-    #[tactic(auto, using(tip_table::proofs::Standing::standing))]
-    pub fn connection(&self, realm: usize, number: u32, place: usize) -> &Connection
-        requires { StandsAt self.now.connections realm (has_number number) place }
-        ensures { find (has_number number) (state_at realm self.now).connections ≡ Some result.now }
+    /// One event of a realm, which has what it needs, with what became of the change that it wanted.
+    pub fn step(&mut self, realm: usize, event: Event, outcome: Outcome, making: Making) -> Making
+        requires here { realm < length self.old.heads.items }
+        requires counts { HasCounts (state_in realm self.old) }
+        requires silent { making.answer ≡ silence }
+        requires needs { HasNeeds event (working realm outcome making self.old) }
+        ensures { Does (working realm outcome making self.old) (working realm outcome result self.new) (happened (state_in realm self.old) event outcome) }
     {
-        self.connections.item(place)
+        let mut work = self.lend(realm, outcome, making);
+        work.step(event);
+        self.take_back(work)
     }
 
     /// Whether a line of this seat may be taken.
+    #[tactic(auto, using(crate::proofs::Lending::seating))]
     pub fn may_take(&self, realm: usize, seat: Seat) -> bool
         requires { realm < length self.now.heads.items }
-        ensures { result ≡ may_take_on (seated seat (state_at realm self.now)) }
+        ensures { result ≡ may_take_on (seated seat (state_in realm self.now)) }
     {
-        match self.seated(realm, seat) {
-            Some(place) => self.connection(realm, seat.number, place).may_take(),
+        match seat_place(&self.heads[realm], &self.connections, realm, seat) {
+            Some(place) => self.connections.item(place).may_take(),
             None => false,
         }
     }
 
-    /// How many connections the realm has.
-    pub fn count(&self, realm: usize) -> usize
-        ensures { result ≡ length (state_at realm self.now).connections }
+    /// Whether a line of this seat must wait.
+    #[tactic(auto, using(crate::proofs::Lending::waiting))]
+    pub fn must_wait(&self, realm: usize, seat: Seat) -> bool
+        requires { realm < length self.now.heads.items }
+        ensures { result ≡ must_wait_on (seated seat (state_in realm self.now)) }
     {
-        self.connections.count(realm)
-    }
-
-    /// Makes room for what an event may add.
-    pub fn reserve(&mut self, event: &Event) -> Result<(), AllocError>
-        ensures ok { OnOk result (connections_for event.now ≤ self.new.connections.free) }
-        ensures items { (realm : ℕ) → of self.new.connections realm ≡ of self.old.connections realm }
-        ensures heads { self.new.heads ≡ self.old.heads }
-    {
-        if let Event::Open { .. } = event {
-            self.connections.reserve()?;
+        match seat_place(&self.heads[realm], &self.connections, realm, seat) {
+            Some(place) => !self.connections.item(place).may_take(),
+            None => false,
         }
-        Ok(())
     }
 
-    /// A connection more, in room that is there.
-    #[tactic(auto, using(tip_table::proofs::Standing::standing))]
-    pub fn add(&mut self, realm: usize, connection: Connection)
-        requires { 0 < self.old.connections.free }
-        ensures { Becomes self.old self.new realm (record (state_at realm self.old) { connections = (state_at realm self.old).connections ++ connection ∷ [] }) }
-    {
-        self.connections.add(realm, connection);
-    }
-
-    /// Takes a connection out.
-    #[tactic(auto, using(tip_table::proofs::Standing::standing))]
-    pub fn end(&mut self, realm: usize, number: u32, place: usize) -> Connection
-        requires { StandsAt self.old.connections realm (has_number number) place }
-        ensures taken { find (has_number number) (state_at realm self.old).connections ≡ Some result }
-        ensures left { Becomes self.old self.new realm (record (state_at realm self.old) { connections = without (has_number number) (state_at realm self.old).connections }) }
-    {
-        self.connections.remove(place)
-    }
-
-    /// A connection goes on by the connection table.
-    pub fn go(
+    /// Lends the tables to the work of an event, with an answer to be made.
+    fn lend(
         &mut self,
         realm: usize,
-        number: u32,
-        place: usize,
-        command: CommandName,
-        response: ResponseName,
-    )
-        requires { StandsAt self.old.connections realm (has_number number) place }
-        ensures { Becomes self.old self.new realm (record (state_at realm self.old) { connections = changed (has_number number) (advanced command response) (state_at realm self.old).connections }) }
+        outcome: Outcome,
+        making: Making,
+    ) -> Work<Connection, Transaction, Making>
+        ensures { result ≡ working realm outcome making self.old }
     {
-        let connection = self.connections.item_mut(place);
-        connection.go(command, response);
+        Work {
+            heads: mem::replace(&mut self.heads, Vec::new(self.alloc)),
+            connections: mem::replace(&mut self.connections, Table::new(self.alloc)),
+            transactions: mem::replace(&mut self.transactions, Table::new(self.alloc)),
+            realm,
+            outcome,
+            making,
+        }
     }
 
-    /// A connection is identified.
-    pub fn identify(&mut self, realm: usize, number: u32, place: usize, peer: Option<Address>)
-        requires { StandsAt self.old.connections realm (has_number number) place }
-        ensures { Becomes self.old self.new realm (record (state_at realm self.old) { connections = changed (has_number number) (identified peer) (state_at realm self.old).connections }) }
+    /// Takes the tables back from the work of an event, and hands its answer on.
+    fn take_back(&mut self, work: Work<Connection, Transaction, Making>) -> Making
+        ensures { working work.realm work.outcome result self.new ≡ work }
     {
-        let connection = self.connections.item_mut(place);
-        connection.identify(peer);
+        let Work {
+            heads,
+            connections,
+            transactions,
+            making,
+            ..
+        } = work;
+        self.heads = heads;
+        self.connections = connections;
+        self.transactions = transactions;
+        making
     }
 }

@@ -186,7 +186,7 @@ impl Work<Connection, Transaction, Making> {
 
 /// What a party answers that was asked: one that left a branch active says no.
 #[tactic(auto, using(crate::proofs::Coming::answering))]
-fn answer_of(party: &HeldParty) -> Ballot
+pub(crate) fn answer_of(party: &HeldParty) -> Ballot
     ensures { result ≡ party_answer party.now }
 {
     let members = party.party().members();
@@ -221,35 +221,35 @@ fn refuses(answer: Option<Ballot>) -> bool
 }
 
 /// Whether an answer is a yes.
-fn is_yes(answer: Option<Ballot>) -> bool
+pub(crate) fn is_yes(answer: Option<Ballot>) -> bool
     ensures { result ≡ is_yes answer }
 {
     answer == Some(Ballot::Yes)
 }
 
 /// Whether a party is out for its votes.
-fn is_voting(place: &PartyPlace) -> bool
+pub(crate) fn is_voting(place: &PartyPlace) -> bool
     ensures { result ≡ is_voting place.now }
 {
     matches!(place, PartyPlace::Out(Errand::Vote))
 }
 
 /// Whether a party is out to be told to commit.
-fn is_committing(place: &PartyPlace) -> bool
+pub(crate) fn is_committing(place: &PartyPlace) -> bool
     ensures { result ≡ is_committing place.now }
 {
     matches!(place, PartyPlace::Out(Errand::Commit))
 }
 
 /// Whether a party is out to be told to abort.
-fn is_aborting(place: &PartyPlace) -> bool
+pub(crate) fn is_aborting(place: &PartyPlace) -> bool
     ensures { result ≡ is_aborting place.now }
 {
     matches!(place, PartyPlace::Out(Errand::Abort))
 }
 
 /// Whether the outcome is to commit.
-fn is_committed(phase: Phase) -> bool
+pub(crate) fn is_committed(phase: Phase) -> bool
     ensures { result ≡ is_committed phase }
 {
     matches!(phase, Phase::Committed)

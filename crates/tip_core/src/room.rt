@@ -1,14 +1,16 @@
 //! Room for one event.
 ghost use Rattle.std.specs.Prelude.{◌≡◌, IfOk, ◌≤◌};
 ghost use Rattle.std.specs.Option.{option_copied};
+ghost use Rattle.tip_machine.specs.Runs.{unstored_outcome};
 
 use crate::making::Making;
+use crate::transaction_room::TransactionRoom;
 use std::alloc::{AllocError, Global};
 use std::marker::Model;
-use tip_machine::Change;
+use tip_machine::{Change, Outcome};
 
-/// All the memory that one event needs, and the change of the stored rows that it wants. It belongs to the state and the
-/// event that it was made for.
+/// All the memory that one event needs, and the change of its row that it wants. It belongs to the state and the event that it
+/// was made for.
 #[derive(Drop)]
 pub struct Room {
     making: Making,
@@ -18,11 +20,11 @@ pub struct Room {
 impl Model for Room {
     ghost use Rattle.std.specs.Prelude.{◌≡◌};
     ghost use Rattle.tip_machine.specs.Answers.{silence};
-    ghost use Rattle.tip_core.specs.Hosted.{Granted};
+    ghost use Rattle.tip_core.specs.Needs.{Granted};
 
     ghost Value = { Granted };
 
-    ghost view = { λ r. record { lines = r.making.free; change = r.change } };
+    ghost view = { λ r. record { lines = r.making.free; transaction = r.making.room; change = r.change } };
 
     ghost invariant = { λ r. r.making.answer ≡ silence };
 }
@@ -30,30 +32,48 @@ impl Model for Room {
 impl Room {
     ghost use Rattle.tip_machine.specs.Answers.{silence};
 
-    /// Room for so many lines and closings, for an event that wants this change.
-    pub fn new(alloc: Global, lines: usize, change: Option<Change>) -> Result<Room, AllocError>
+    /// Room for so many lines and closings, for a transaction if it is given, for an event that wants this change.
+    pub fn new(
+        alloc: Global,
+        lines: usize,
+        transaction: Option<TransactionRoom>,
+        change: Option<Change>,
+    ) -> Result<Room, AllocError>
         ensures lines { IfOk result (λ room. lines ≤ room.lines) }
+        ensures transaction { IfOk result (λ room. room.transaction ≡ transaction) }
         ensures change { IfOk result (λ room. room.change ≡ change) }
     {
         Ok(Room {
-            making: Making::new(alloc, lines, None)?,
+            making: Making::new(alloc, lines, transaction)?,
             change,
         })
     }
 
-    /// The change of the stored rows that the event wants. Its outcome is handed to `Core::apply`.
+    /// The change of its row that the event wants. Its outcome is handed to `Core::apply`.
     pub fn wants(&self) -> Option<&Change>
         ensures { option_copied result ≡ self.now.change }
     {
         self.change.as_ref()
     }
 
-    /// The answer to be made, with its room.
-    pub fn into_making(self) -> Making
-        ensures answer { result.answer ≡ silence }
-        ensures lines { result.free ≡ self.lines }
+    /// The outcome where no rows are stored: a change that is wanted is refused.
+    pub fn unstored(&self) -> Outcome
+        ensures { result ≡ unstored_outcome self.now.change }
     {
-        let Room { making, .. } = self;
-        making
+        match self.change {
+            Some(_) => Outcome::Refused,
+            None => Outcome::NoChange,
+        }
+    }
+
+    /// The answer to be made, with its room, and the change.
+    pub fn into_parts(self) -> (Making, Option<Change>)
+        ensures answer { result.0.answer ≡ silence }
+        ensures lines { result.0.free ≡ self.lines }
+        ensures transaction { result.0.room ≡ self.transaction }
+        ensures change { result.1 ≡ self.change }
+    {
+        let Room { making, change } = self;
+        (making, change)
     }
 }

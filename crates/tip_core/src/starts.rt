@@ -1,8 +1,9 @@
 //! The realms that are to start.
 ghost use Rattle.std.specs.Prelude.{◌≡◌, ◌++◌, ◌∷◌, [], true, false, length, OnOk, OnErr, IsErrOf};
-ghost use Rattle.std.specs.List.{list_all};
+ghost use Rattle.std.specs.List.{All, list_all};
+ghost use Rattle.tip_core.specs.Hosted.{HasEpoch};
 ghost use Rattle.tip_machine.specs.Heads.{have_names, is_other};
-ghost use Rattle.tip_core.specs.declared.starts.StartFault.TheVariants.{SameName};
+ghost use Rattle.tip_core.specs.declared.starts.StartFault.TheVariants.{NoEpoch, SameName};
 
 use std::alloc::{AllocFailed, Global};
 use std::marker::Model;
@@ -14,6 +15,8 @@ use tip_machine::Start;
 pub enum StartFault {
     #[error("a realm of this name is there already")]
     SameName,
+    #[error("a realm starts in epoch 1 or later")]
+    NoEpoch,
     #[error("out of memory")]
     Memory,
 }
@@ -36,14 +39,16 @@ pub struct Starts {
 
 impl Model for Starts {
     ghost use Rattle.std.specs.Prelude.{◌≡◌, true, List};
+    ghost use Rattle.std.specs.List.{All};
     ghost use Rattle.tip_machine.specs.Heads.{have_names};
     ghost use Rattle.tip_machine.specs.declared.head.Start.{Start};
+    ghost use Rattle.tip_core.specs.Hosted.{HasEpoch};
 
     ghost Value = { List Start };
 
     ghost view = { λ s. s.items.items };
 
-    ghost invariant = { λ s. have_names s.items.items ≡ true };
+    ghost invariant = { λ s. (have_names s.items.items ≡ true) × All HasEpoch s.items.items };
 }
 
 impl Starts {
@@ -56,14 +61,19 @@ impl Starts {
         }
     }
 
-    /// One realm more, unless one of its name is there.
-    #[tactic(auto, using(crate::proofs::Naming::named_more))]
+    /// One realm more, unless its epoch is 0, which no start has, or one of its name is there.
+    #[tactic(auto, using(crate::proofs::Naming::adding))]
     pub fn add(&mut self, start: Start) -> Result<(), StartFault>
         ensures ok { OnOk result (self.new ≡ self.old ++ start ∷ []) }
         ensures new { OnOk result (list_all (is_other start.name) self.old ≡ true) }
         ensures taken { IsErrOf result SameName → list_all (is_other start.name) self.old ≡ false }
+        ensures epoch { OnOk result (HasEpoch start) }
+        ensures no_epoch { IsErrOf result NoEpoch → start.epoch ≡ 0 }
         ensures err { OnErr result (self.new ≡ self.old) }
     {
+        if start.epoch == 0 {
+            return Err(StartFault::NoEpoch);
+        }
         if !is_new(&self.items, start.name.as_str()) {
             return Err(StartFault::SameName);
         }
@@ -74,6 +84,7 @@ impl Starts {
     pub fn as_slice(&self) -> &[Start]
         ensures same { result.now ≡ self.now }
         ensures named { have_names self.now ≡ true }
+        ensures epochs { All HasEpoch self.now }
     {
         &self.items
     }
@@ -82,6 +93,7 @@ impl Starts {
     pub fn into_vec(self) -> Vec<Start>
         ensures same { result.items ≡ self }
         ensures named { have_names self ≡ true }
+        ensures epochs { All HasEpoch self }
     {
         self.items
     }

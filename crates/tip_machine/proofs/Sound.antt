@@ -14,6 +14,7 @@ use Rattle.tip_machine.specs.Requests.{added, opened, dial, lost, line, ask_push
 use Rattle.tip_machine.specs.Order.{ordered}
 use Rattle.tip_machine.specs.Given.{are_numbered}
 use Rattle.tip_machine.specs.Invariants.{IsSound, are_keyed, are_known_once}
+use Rattle.tip_machine.specs.Invariants.Bounds.{are_bounded}
 use Rattle.tip_machine.specs.Invariants.Links.{have_roles, is_connected}
 use Rattle.tip_machine.specs.Invariants.Parties.{are_out}
 use Rattle.tip_machine.specs.Invariants.Phases.{is_transaction}
@@ -27,8 +28,8 @@ use Rattle.tip_machine.proofs.Each.{each}
 -- the invariants as one test
 is_sound : World → Bool
 is_sound world =
-    are_numbered world.state && (are_keyed world.state && (have_roles world.state && (list_all is_connected world.state.connections && (list_all (is_transaction world.state) world.state.transactions
-    && (are_out world.state world.errands && (are_known_once world.state && are_stored world.state world.rows))))))
+    are_numbered world.state && (are_bounded world.state && (are_keyed world.state && (have_roles world.state && (list_all is_connected world.state.connections && (list_all (is_transaction world.state) world.state.transactions
+    && (are_out world.state world.errands && (are_known_once world.state && are_stored world.state world.rows)))))))
 
 sound_world : (world : World) → is_sound world ≡ true → IsSound world
 unfolding is_sound
@@ -40,7 +41,8 @@ sound_world world is =
     let e = and_parts _ _ d.1 in
     let f = and_parts _ _ e.1 in
     let g = and_parts _ _ f.1 in
-    record { numbered = a.0; keyed = b.0; roles = c.0; connections = d.0; transactions = e.0; out = f.0; known_once = g.0; stored = g.1 }
+    let h = and_parts _ _ g.1 in
+    record { numbered = a.0; bounded = b.0; keyed = c.0; roles = d.0; connections = e.0; transactions = f.0; out = g.0; known_once = h.0; stored = h.1 }
 
 stays_sound : World → List Line → Bool
 stays_sound world [] = is_sound world

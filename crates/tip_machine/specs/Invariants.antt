@@ -1,5 +1,6 @@
 -- THE INVARIANTS of what a realm reaches (ours): what every rule may rely on, and leaves. They compute, so that the worked
 -- examples try them out in each of their states.
+pub mod Bounds
 pub mod Links
 pub mod Parties
 pub mod Phases
@@ -9,6 +10,7 @@ use Rattle.std.specs.List.{list_all}
 use Rattle.tip_rows.specs.Keys.{is_same}
 use Rattle.tip_machine.specs.Types.{Transaction}
 use Rattle.tip_machine.specs.Given.{are_numbered, was_given}
+use Rattle.tip_machine.specs.Invariants.Bounds.{are_bounded}
 use Rattle.tip_machine.specs.Invariants.Links.{are_distinct, have_roles, is_connected}
 use Rattle.tip_machine.specs.Moves.{World}
 use Rattle.tip_machine.specs.Invariants.Parties.{are_out}
@@ -37,6 +39,7 @@ are_known_once state = are_distinct (λ this that. came_twice this that.origin) 
 -- ALL OF THEM, of a realm with its rows and the parties that are out
 pub record IsSound (world : World) : Type 0 where
   pub numbered : are_numbered world.state ≡ true
+  pub bounded : are_bounded world.state ≡ true
   pub keyed : are_keyed world.state ≡ true
   pub roles : have_roles world.state ≡ true
   pub connections : list_all is_connected world.state.connections ≡ true

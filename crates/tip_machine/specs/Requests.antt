@@ -67,7 +67,7 @@ lost (Some connection) work = fail connection work
 abbrev pub hear : Serving → Side → Heard → Connection → Work → Attempt
 hear serving Secondary (ACommand command) connection work = commanded serving command connection work
 hear serving Primary (ACommand Error) connection work = Attempt.Done (closed connection work)
-hear serving Primary (AResponse response) connection work = answered_by connection.awaited response connection work
+hear serving Primary (AResponse response) connection work = if serving.dials then answered_by connection.awaited response connection work else Attempt.Done (wrong connection work)
 hear serving side other connection work = Attempt.Done (wrong connection work)
 
 -- a line for a connection, if it is there; one that comes out of turn is not heard, and may come again (section 12)
@@ -94,9 +94,9 @@ push_part (Some transaction) (Some address) number work =
 push_part found peer number work = refuse NotActive work
 
 -- on a connection that is there and free (ours)
-unfoldable pub ask_push : Option Connection → List ℕ → Work → Work
-ask_push None id work = refuse Stale work
-ask_push (Some connection) id work = if is_free connection then push_part (identified_by id work.state) connection.peer connection.number work else refuse Busy work
+unfoldable pub ask_push : Bool → Option Connection → List ℕ → Work → Work
+ask_push serves None id work = refuse Stale work
+ask_push serves (Some connection) id work = if serves && is_free connection then push_part (identified_by id work.state) connection.peer connection.number work else refuse Busy work
 
 -- a transaction of the other side is pulled here, unless it is here already (section 13, PULL)
 abbrev pub pull_new : List ℕ → Connection → Work → Work
@@ -111,9 +111,9 @@ pull_if None superior connection work = pull_new superior connection work
 pull_if (Some known) superior connection work = refuse Known work
 
 -- on a connection that is there and free (ours)
-unfoldable pub ask_pull : Option Connection → List ℕ → Work → Work
-ask_pull None superior work = refuse Stale work
-ask_pull (Some connection) superior work = if is_free connection then pull_if (find (is_known connection.peer superior) work.state.transactions) superior connection work else refuse Busy work
+unfoldable pub ask_pull : Bool → Option Connection → List ℕ → Work → Work
+ask_pull serves None superior work = refuse Stale work
+ask_pull serves (Some connection) superior work = if serves && is_free connection then pull_if (find (is_known connection.peer superior) work.state.transactions) superior connection work else refuse Busy work
 
 -- what is left of a committed transaction is tried again: its party, or the removal of its row (ours)
 abbrev pub resume_in : PartyPlace → Transaction → Work → Attempt

@@ -7,17 +7,18 @@ use Rattle.tip_line.specs.declared.command.CommandName.TheVariants.{Identify, Be
 pub record Serving : Type 0 where
   -- a command that is not served is answered ERROR, and the connection is closed
   pub commands : CommandName → Bool
-  -- where connections are not dialled yet, a realm has none free to dial: Full
+  -- Where connections are not dialled, we are the primary of none: a realm has none free to dial (Full), to push or to pull on
+  -- (Busy), and a response is a wrong line
   pub dials : Bool
 
 abbrev pub is_served : CommandName → Bool
 is_served Identify = true
-is_served Begin = false
+is_served Begin = true
 is_served Push = false
 is_served Pull = false
 is_served Prepare = false
-is_served Commit = false
-is_served Abort = false
+is_served Commit = true
+is_served Abort = true
 is_served Query = true
 is_served Reconnect = false
 is_served Multiplex = true

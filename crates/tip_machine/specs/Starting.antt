@@ -11,6 +11,8 @@ use Rattle.tip_rows.specs.Logs.{is_rising, last_epoch}
 use Rattle.tip_rows.specs.Rows.{IsRow, branches_of}
 use Rattle.tip_rows.specs.declared.row.Row.{Row}
 use Rattle.tip_machine.specs.Heads.{are_allowed, is_within}
+use Rattle.tip_machine.specs.Invariants.{are_known_once}
+use Rattle.tip_machine.specs.Invariants.Bounds.{is_spelled}
 use Rattle.tip_machine.specs.Moves.{World, loaded}
 use Rattle.tip_machine.specs.Recovery.{restarted}
 use Rattle.tip_machine.specs.declared.head.Head.{Head}
@@ -34,6 +36,7 @@ is_starting head =
 pub record AreRowsBefore (epoch : ℕ) (rows : List (Key × Row)) : Type 0 where
   pub rising : is_rising rows ≡ true
   pub keys : All (λ stored. IsKey stored.0) rows
+  pub spelled : list_all (λ stored. is_spelled stored.0) rows ≡ true
   pub earlier : list_all (λ stored. nat_lt stored.0.epoch epoch) rows ≡ true
   pub whole : All (λ stored. IsRow stored.1) rows
 
@@ -48,4 +51,6 @@ pub record IsStart (world : World) : Type 0 where
   pub boxes : Key → List Badge
   pub adopted : are_adopted boxes world.rows ≡ true
   pub state : world.state ≡ restarted world.state.head (loaded boxes world.rows)
+  -- no two rows in doubt are of one transaction of one superior
+  pub known_once : are_known_once world.state ≡ true
   pub errands : world.errands ≡ []

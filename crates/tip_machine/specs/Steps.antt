@@ -38,8 +38,8 @@ attempt serving (Line seat heard) work = line serving (seated seat work.state) h
 attempt serving (Voted party) work = voted (owner party work.state) party work
 attempt serving (Settled party) work = settled (owner party work.state) party work
 attempt serving (Lost seat) work = Attempt.Done (lost (seated seat work.state) work)
-attempt serving (AskPush seat id) work = Attempt.Done (ask_push (seated seat work.state) id work)
-attempt serving (AskPull seat superior) work = Attempt.Done (ask_pull (seated seat work.state) superior work)
+attempt serving (AskPush seat id) work = Attempt.Done (ask_push serving.dials (seated seat work.state) id work)
+attempt serving (AskPull seat superior) work = Attempt.Done (ask_pull serving.dials (seated seat work.state) superior work)
 attempt serving (Resume id) work = resume (identified_by id work.state) work
 
 -- the work, by what became of the change; an outcome that says nothing of it counts as a refusal (ours)

@@ -1,6 +1,6 @@
 -- One open transaction: its names, its parties, what their answers decide, and what is stored of it.
-use Rattle.std.specs.Prelude.{ℕ, zero, suc, ◌+◌, ◌==◌, ◌&&◌, Bool, true, false, List, [], ◌∷◌, ◌++◌, map, drop, Option, Some, None, is_some, is_none, unwrap_or, filter, slice_get, if◌then◌else◌}
-use Rattle.std.specs.List.{list_any, list_all}
+use Rattle.std.specs.Prelude.{ℕ, zero, suc, ◌+◌, ◌==◌, ◌&&◌, Bool, true, false, List, [], ◌∷◌, ◌++◌, map, drop, Option, Some, None, is_some, is_none, filter, slice_get, if◌then◌else◌}
+use Rattle.std.specs.List.{flat_map, list_any, list_all}
 use Rattle.std.specs.Str.{bytes_eq}
 use Rattle.tip_branch.specs.declared.branch.Badge.{Badge}
 use Rattle.tip_branch.specs.declared.member.Member.{Member}
@@ -186,9 +186,14 @@ is_done transaction = is_spent transaction.place && list_all (λ s. s.1.acknowle
 abbrev pub promised : Transaction → List (ℕ × List ℕ)
 promised transaction = filter (λ branch. list_any (λ member. is_ready member && (member.number == branch.0)) (members_at transaction.place)) transaction.branches
 
--- the subordinates that promised to commit: where each is, and the identifier that it gave
+-- where a subordinate is, and the identifier that it gave
+abbrev pub pair_of : Option (List ℕ) → Option (List ℕ) → List (List ℕ × List ℕ)
+pair_of (Some address) (Some id) = (address, id) ∷ []
+pair_of address id = []
+
+-- the subordinates that promised to commit, of those that gave an identifier: others can't be reached again
 abbrev pub pairs : Transaction → List (List ℕ × List ℕ)
-pairs transaction = map (λ s. (unwrap_or s.1.address [], unwrap_or s.1.id [])) (subordinates transaction)
+pairs transaction = flat_map (λ s. pair_of s.1.address s.1.id) (subordinates transaction)
 
 -- the row of a transaction in doubt, whose superior is there (section 10; the form is ours)
 abbrev pub row_in_doubt : List ℕ → List ℕ → Transaction → Row

@@ -1,4 +1,4 @@
-//! Laws of the machine, each carried by a function that does nothing. All but the last hold whatever is served.
+//! Laws of the machine, each carried by a function that does nothing. They hold whatever is served.
 ghost use Rattle.std.specs.Prelude.{◌≡◌, ◌≤◌, ◌<◌, [], ℕ, List, Option, IsSome, Some, None, map, true, false};
 ghost use Rattle.std.specs.List.{All};
 ghost use Rattle.tip_branch.specs.Notes.{ComesBack, PartyNotes};
@@ -13,12 +13,11 @@ ghost use Rattle.tip_machine.specs.Commands.{pull, query, reconnect};
 ghost use Rattle.tip_machine.specs.Counts.{HasCounts};
 ghost use Rattle.tip_machine.specs.Failing.{closed};
 ghost use Rattle.tip_machine.specs.Given.{are_numbered, was_given};
-ghost use Rattle.tip_machine.specs.Invariants.{IsSound};
 ghost use Rattle.tip_machine.specs.Moves.{Move, World, fresh, led_to};
 ghost use Rattle.tip_machine.specs.Requests.{push_part, resume};
 ghost use Rattle.tip_machine.specs.Responses.{pursue};
 ghost use Rattle.tip_machine.specs.Returns.{Back, back_of, can_answer, is_done};
-ghost use Rattle.tip_machine.specs.Served.{Serving, today};
+ghost use Rattle.tip_machine.specs.Served.{Serving};
 ghost use Rattle.tip_machine.specs.Starting.{IsStart, is_starting};
 ghost use Rattle.tip_machine.specs.States.{State, Work, connection_of, identified_by, started, transaction_of};
 ghost use Rattle.tip_machine.specs.Steps.{entered, step_serving, wants_serving, ChangesTheEntriesAlone, IsForgotten, IsNext, IsOfKey, SendsOne, TellsOfOne, TouchesOne};
@@ -117,9 +116,4 @@ pub fn an_aborted_transaction_is_as_one_that_never_was()
 #[tactic(auto, using(crate::proofs::Begun::fresh_starts))]
 pub fn a_realm_without_rows_starts()
     ensures { (head : Head) → is_starting head ≡ true → IsStart (fresh head) }
-{}
-
-/// The steps that are served today keep the invariants: they hold wherever a realm comes that had stored nothing.
-pub fn what_is_served_keeps_the_invariants()
-    ensures { (head : Head) (moves : List Move) → IsSound (led_to today (fresh head) moves) }
 {}

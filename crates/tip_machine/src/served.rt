@@ -10,16 +10,15 @@ pub fn is_served(command: CommandName) -> bool
 {
     match command {
         CommandName::Identify
+        | CommandName::Begin
+        | CommandName::Commit
+        | CommandName::Abort
         | CommandName::Query
         | CommandName::Multiplex
         | CommandName::Tls
         | CommandName::Error => true,
-        CommandName::Begin
-        | CommandName::Push
-        | CommandName::Pull
-        | CommandName::Prepare
-        | CommandName::Commit
-        | CommandName::Abort
-        | CommandName::Reconnect => false,
+        CommandName::Push | CommandName::Pull | CommandName::Prepare | CommandName::Reconnect => {
+            false
+        }
     }
 }

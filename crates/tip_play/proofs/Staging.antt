@@ -1,6 +1,6 @@
 -- Declared realms, their start, and what a line makes of a stage.
 use Rattle.std.proofs.Common.{◌≡◌, ◌≢◌, ◌<◌, ◌≤◌, ◌++◌, ◌∷◌, [], ℕ, suc, zero, List, true, false, ◌==◌, nat_lt, Some, None, option_map, length, arith, refl, sym, ap, ◌∙◌, subst}
-use Rattle.std.specs.Prelude.{slice_get}
+use Rattle.std.specs.Prelude.{slice_get, Err}
 use Rattle.std.specs.List.{list_all, flat_map}
 use Rattle.std.proofs.lemmas.Bool.{false≢true}
 use Rattle.std.proofs.lemmas.Bool.Decides.{nat_tests}
@@ -16,7 +16,9 @@ use Rattle.tip_script.specs.Moves.{move_by}
 use Rattle.tip_play.specs.Printing.{start_text}
 use Rattle.tip_play.specs.Scenes.{Acting, Scene, moved}
 use Rattle.tip_script.specs.Scripts.{Move, move_of}
-use Rattle.tip_play.specs.Stages.{APlaying, AreActors, Declared, IsDeclared, IsStage}
+use Rattle.tip_play.specs.declared.fault.LineFault.{LineFault}
+use Rattle.tip_play.specs.declared.fault.LineFault.TheVariants as fault
+use Rattle.tip_play.specs.Stages.{APlaying, ActsSo, AreActors, Declared, IsDeclared, IsStage, Moves}
 use Rattle.tip_play.specs.Standing.{AreReadings, IsActing, IsScene, IsMoved}
 use Rattle.tip_play.specs.Transcripts.{Stage, Declaring, Playing, Acted, acted, acted_by, acts, acts_if, acting_of, scene_of, starts_text, declared, is_count, start_of}
 use Rattle.tip_script.specs.declared.instruction.Instruction.{Instruction}
@@ -104,6 +106,14 @@ pub plays_first : (playing' : APlaying) (starts : List Start) (printed between p
 plays_first playing' starts printed between printed' i other text m =
     let first = starts_first starts i other in
     (Playing m.scene, ap (λ (a : Acted). a.stage) first ∙ ap (option_map Playing) m.is, m.stands, m.text ∙ ap (λ t. t ++ (moved (move_by i) (scene_of starts)).printed) text ∙ append_assoc printed (starts_text starts) (moved (move_by i) (scene_of starts)).printed ∙ ap (λ (a : Acted). printed ++ a.printed) (sym first))
+
+-- the same of a line that fails once the realms have started
+pub fails_first : (core : Hosted) (actors : List Actor) (starts : List Start) (printed between printed' : List ℕ) (i : Instruction) → ((name : _) (address : _) (branches : ℕ) (limits : Limits) → i ≢ instruction.Realm name address branches limits) → between ≡ printed ++ starts_text starts → (fault : LineFault) → Moves core actors between printed' (moved (move_by i) (scene_of starts)) (Err fault) →
+    ActsSo printed printed' (acts (Declaring starts) (move_by i)) (Err fault)
+fails_first core actors starts printed between printed' i other text fault.NotUnderstood m =
+    let first = starts_first starts i other in
+    (ap (λ (a : Acted). a.stage) first ∙ ap (option_map Playing) m.0, m.1 ∙ ap (λ t. t ++ (moved (move_by i) (scene_of starts)).printed) text ∙ append_assoc printed (starts_text starts) (moved (move_by i) (scene_of starts)).printed ∙ ap (λ (a : Acted). printed ++ a.printed) (sym first))
+fails_first core actors starts printed between printed' i other text fault.Memory m = tt
 
 -- a line that is not empty does what it says
 pub acts_as_said : (now : Stage) (line : List ℕ) (move : Move) → false ≡ (length line == 0) → move_of line ≡ Some move → acted now line ≡ acts now move

@@ -18,6 +18,7 @@ status_of Memory = 1
 -- a name that is there already makes a bad line
 abbrev pub start_fault_of : StartFault → LineFault
 start_fault_of starts.SameName = lines.NotUnderstood
+start_fault_of starts.NoEpoch = lines.NotUnderstood
 start_fault_of starts.Memory = lines.Memory
 
 -- a word that is none makes a bad line; want of memory stays what it is

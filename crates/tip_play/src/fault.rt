@@ -55,7 +55,7 @@ impl From<StartFault> for LineFault {
 
     fn from(fault: StartFault) -> LineFault {
         match fault {
-            StartFault::SameName => LineFault::NotUnderstood,
+            StartFault::SameName | StartFault::NoEpoch => LineFault::NotUnderstood,
             StartFault::Memory => LineFault::Memory,
         }
     }

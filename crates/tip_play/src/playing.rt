@@ -18,7 +18,7 @@ use std::alloc::{AllocError, Global};
 use tip_branch::HeldFresh;
 use tip_core::Core;
 use tip_line::Realm;
-use tip_machine::{Answer, Event, Outcome, Seat};
+use tip_machine::{Answer, Event, Seat};
 use tip_script::Octets;
 
 /// A realm, and who reads what comes on its connections.
@@ -168,12 +168,14 @@ impl Playing<Core, HeldFresh> {
     }
 }
 
-/// One event of one realm.
+/// One event of one realm. No rows are stored: a change that is wanted is refused.
+#[tactic(auto, using(tip_core::proofs::Stepping::unstored))]
 fn step(core: &mut Core, alloc: Global, realm: usize, event: Event) -> Result<Answer, AllocError>
     ensures { IfOk result (λ answer. Steps core.old core.new realm event NoChange answer) }
 {
     let room = core.room(alloc, realm, &event)?;
-    Ok(core.apply(realm, event, room, Outcome::NoChange))
+    let outcome = room.unstored();
+    Ok(core.apply(realm, event, room, outcome).into_answer())
 }
 
 /// Takes the lines that have come on a connection, until there is none or the connection is closed.

@@ -5,11 +5,10 @@ use Rattle.std.specs.Option.{option_map_or}
 use Rattle.tip_conn.specs.declared.state.Side.{Side}
 use Rattle.tip_conn.specs.declared.state.Side.TheVariants.{Primary, Secondary}
 use Rattle.tip_conn.specs.declared.state.State.{State as ConnectionState}
-use Rattle.tip_conn.specs.declared.state.State.TheVariants.{Initial, Idle}
+use Rattle.tip_conn.specs.declared.state.State.TheVariants.{Initial, Idle, Begun, Enlisted, Prepared, Error}
 use Rattle.tip_line.specs.declared.command.CommandName.{CommandName}
 use Rattle.tip_rows.specs.Keys.{is_same}
 use Rattle.tip_machine.specs.Types.{Connection}
-use Rattle.tip_machine.specs.Alone.{is_early}
 use Rattle.tip_machine.specs.Connections.{first_side}
 use Rattle.tip_machine.specs.States.{State, transaction_of}
 use Rattle.tip_machine.specs.declared.connection.Awaited.{Awaited}
@@ -44,6 +43,15 @@ abbrev pub is_same_side : Side → Side → Bool
 is_same_side Primary Primary = true
 is_same_side Secondary Secondary = true
 is_same_side this that = false
+
+-- the states before a transaction (section 9)
+abbrev pub is_early : ConnectionState → Bool
+is_early Initial = true
+is_early Idle = true
+is_early Begun = false
+is_early Enlisted = false
+is_early Prepared = false
+is_early Error = false
 
 -- before a transaction, a connection has its original sides (section 4)
 abbrev pub has_its_side : Connection → Bool

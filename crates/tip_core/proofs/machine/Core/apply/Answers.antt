@@ -1,17 +1,44 @@
-use Rattle.std.proofs.Common.{rules}
+use Rattle.std.proofs.Common.{◌≡◌, ◌∙◌, List, ap, map, rules, subst, sym}
+use Rattle.tip_machine.specs.Order.{in_turn}
 use Rattle.tip_core.proofs.Naming.{still_named}
-use Rattle.tip_core.proofs.Stepping.{alone, counted, hosted, steps}
+use Rattle.tip_core.proofs.Stepping.{counted, hosted, needs, nowhere_steps, steps, there, turned_down}
+use Rattle.tip_core.specs.Hosted.{IsRoomFor}
+use Rattle.tip_core.specs.Turns.{turn_in}
+use Rattle.tip_core.specs.Works.{state_in}
+use Rattle.tip_core.specs.declared.turns.Turn.{Turn}
 use Rattle.tip_core.proofs.machine.Core.apply.Goals as goal
+
+pub returns-then-realm-len-clause-steps : goal.returns-then-realm-len-clause-steps
+returns-then-realm-len-clause-steps g c = rw (← c.self.view_is) (nowhere_steps c.self.inside.realms c.self.inside.turns.capacity c.args.realm c.args.event c.args.outcome c.finish-answer.result (search rules) (turned_down c.self.inside.turns.turns c.args.event c.turn_down.new.self.answer c.finish-answer.result c.turn_down.ensures.answer c.finish-answer.ensures))
+
+pub returns-then-realm-len-clause-named : goal.returns-then-realm-len-clause-named
+returns-then-realm-len-clause-named g c = rw (← c.self.view_is) c.self.invariant.1
+
+pub note-requires : goal.note-requires
+note-requires g c =
+    let room = subst (λ h. IsRoomFor h c.args.realm c.args.event c.args.room) (sym c.self.view_is) c.requires.room in
+    room.turns (state_in c.args.realm c.self.inside.realms) (there c.self.inside.realms c.self.inside.turns.capacity c.args.realm (search rules))
+
+pub step-made-requires-clause-needs : goal.step-made-requires-clause-needs
+step-made-requires-clause-needs g c =
+    let room = subst (λ h. IsRoomFor h c.args.realm c.args.event c.args.room) (sym c.self.view_is) c.requires.room in
+    needs c.self.inside.realms c.args.realm c.args.outcome c.into_parts-making.result.0 c.args.event c.args.room (room.suits (state_in c.args.realm c.self.inside.realms) (there c.self.inside.realms c.self.inside.turns.capacity c.args.realm (search rules))) c.into_parts-making.ensures.lines c.into_parts-making.ensures.transaction
+
+pub returns-clause-steps : goal.returns-clause-steps
+returns-clause-steps g c = rw (← c.self.view_is) (steps c.self.inside.realms c.step-made.new.self c.args.realm c.args.event c.args.outcome c.into_parts-making.result.0 c.step-made.result (search rules) c.step-made.ensures c.self.inside.turns.capacity c.note.new.self.capacity c.finish-answer-2.result
+    (c.finish-answer-2.ensures ∙ ap (λ (turns : List Turn). record c.step-made.result.answer { sent = in_turn (turn_in turns) c.step-made.result.answer.sent }) c.note.ensures.turns))
 
 pub invariant_of-self : goal.invariant_of-self
 invariant_of-self g c = (
-  counted c.self.inside.realms c.step.new.self c.args.realm c.args.event c.args.outcome c.step.new.making c.self.invariant.0 c.step.ensures,
-  alone c.self.inside.realms c.step.new.self c.args.realm c.args.event c.args.outcome c.step.new.making c.self.invariant.1 c.step.ensures,
-  still_named (hosted c.self.inside.realms) (hosted c.step.new.self) c.args.realm c.args.event c.args.outcome c.step.new.making.answer (steps c.self.inside.realms c.step.new.self c.args.realm c.args.event c.args.outcome c.step.new.making (search rules) c.step.ensures) c.self.invariant.2,
+  counted c.self.inside.realms c.step-made.new.self c.args.realm c.args.event c.args.outcome c.into_parts-making.result.0 c.step-made.result (search rules) c.step-made.ensures c.self.invariant.0,
+  still_named (hosted c.self.inside.realms c.self.inside.turns.capacity) (hosted c.step-made.new.self c.note.new.self.capacity) c.args.realm c.args.event c.args.outcome c.finish-answer-2.result
+      (steps c.self.inside.realms c.step-made.new.self c.args.realm c.args.event c.args.outcome c.into_parts-making.result.0 c.step-made.result (search rules) c.step-made.ensures c.self.inside.turns.capacity c.note.new.self.capacity c.finish-answer-2.result
+      (c.finish-answer-2.ensures ∙ ap (λ (turns : List Turn). record c.step-made.result.answer { sent = in_turn (turn_in turns) c.step-made.result.answer.sent }) c.note.ensures.turns))
+      c.self.invariant.1,
 )
 
-pub returns-then-realm-len-clause-named : goal.returns-then-realm-len-clause-named
-returns-then-realm-len-clause-named g c = rw (← c.self.view_is) c.self.invariant.2
-
 pub returns-clause-named : goal.returns-clause-named
-returns-clause-named g c = still_named (hosted c.self.inside.realms) (hosted c.step.new.self) c.args.realm c.args.event c.args.outcome c.step.new.making.answer (steps c.self.inside.realms c.step.new.self c.args.realm c.args.event c.args.outcome c.step.new.making (search rules) c.step.ensures) c.self.invariant.2
+returns-clause-named g c = still_named (hosted c.self.inside.realms c.self.inside.turns.capacity) (hosted c.step-made.new.self c.note.new.self.capacity) c.args.realm c.args.event c.args.outcome c.finish-answer-2.result
+    (steps c.self.inside.realms c.step-made.new.self c.args.realm c.args.event c.args.outcome c.into_parts-making.result.0 c.step-made.result (search rules) c.step-made.ensures c.self.inside.turns.capacity c.note.new.self.capacity c.finish-answer-2.result
+    (c.finish-answer-2.ensures ∙ ap (λ (turns : List Turn). record c.step-made.result.answer { sent = in_turn (turn_in turns) c.step-made.result.answer.sent }) c.note.ensures.turns))
+    c.self.invariant.1

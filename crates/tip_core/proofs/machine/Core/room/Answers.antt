@@ -1,27 +1,21 @@
-use Rattle.std.proofs.Common.{◌∙◌, refl, sym, subst}
-use Rattle.tip_machine.specs.Alone.{AreAlone}
+use Rattle.std.proofs.Common.{◌≡◌, ◌≤◌, ◌<◌, ◌∙◌, ap, arith, List, length, rules, sym, subst}
+use Rattle.std.proofs.lemmas.Result.{IfOk-weaker}
+use Rattle.tip_machine.specs.States.{State}
+use Rattle.tip_machine.specs.declared.head.Head.{Head}
+use Rattle.tip_core.specs.Works.{state_in}
 use Rattle.tip_core.proofs.Naming.{named_alike}
-use Rattle.tip_core.proofs.Stepping.{hosted, wants_here}
+use Rattle.tip_core.proofs.Stepping.{alike, hosted, room_for_it, still_counted}
 use Rattle.tip_core.proofs.machine.Core.room.Goals as goal
-
-pub returns-clause-ok : goal.returns-clause-ok
-returns-clause-ok g c = record {
-  lines = c.in_ok-room.ensures.lines;
-  connections = c.in_ok-reserve.ensures.ok;
-  change = λ state here. c.in_ok-room.ensures.change ∙ sym (wants_here c.reserve.new.self c.args.realm state c.args.event.now (λ r. subst AreAlone (sym (c.in_ok-reserve.ensures.items r)) (c.self.invariant.1 r)) here);
-  nothing = λ none. c.in_ok-room.ensures.change;
-}
-
-pub invariant_of-self : goal.invariant_of-self
-invariant_of-self g c = (
-  λ r. rw c.reserve.ensures.heads (c.self.invariant.0 r),
-  λ r. rw (c.reserve.ensures.items r) (c.self.invariant.1 r),
-  named_alike (hosted c.self.inside.realms) (hosted c.reserve.new.self) (λ place. rw (c.reserve.ensures.items place, c.reserve.ensures.heads) refl) c.self.invariant.2,
-)
 
 pub invariant_of-self-2 : goal.invariant_of-self-2
 invariant_of-self-2 g c = (
-  λ r. rw c.reserve.ensures.heads (c.self.invariant.0 r),
-  λ r. rw (c.reserve.ensures.items r) (c.self.invariant.1 r),
-  named_alike (hosted c.self.inside.realms) (hosted c.reserve.new.self) (λ place. rw (c.reserve.ensures.items place, c.reserve.ensures.heads) refl) c.self.invariant.2,
+  still_counted c.self.inside.realms c.room.new.self c.room.ensures.heads c.room.ensures.realms c.self.invariant.0,
+  named_alike (hosted c.self.inside.realms c.self.inside.turns.capacity) (hosted c.room.new.self c.reserve.new.self.capacity) (alike c.self.inside.realms c.room.new.self c.room.ensures.heads c.room.ensures.realms c.self.inside.turns.capacity c.reserve.new.self.capacity) c.self.invariant.1,
 )
+
+pub returns-clause-ok : goal.returns-clause-ok
+returns-clause-ok g c =
+    let here : c.args.realm < length c.self.inside.realms.heads.items = search rules in
+    let inside : c.args.realm < length c.room.new.self.heads.items = subst (λ (hs : List Head). c.args.realm < length hs) (sym (ap (λ h. h.items) c.room.ensures.heads)) here in
+    let enough : length (state_in c.args.realm c.room.new.self).connections ≤ c.reserve.new.self.capacity = subst (λ (s : State). length s.connections ≤ c.reserve.new.self.capacity) (sym (c.room.ensures.realms c.args.realm)) (omega (arith, c.in_ok-reserve.ensures.ok, c.count.ensures)) in
+    IfOk-weaker c.room.result _ _ (λ room suits. room_for_it c.room.new.self c.reserve.new.self.capacity c.args.realm c.args.event.now room inside enough suits) c.room.ensures.ok

@@ -1,19 +1,25 @@
 -- Realms at their start.
-use Rattle.std.proofs.Common.{◌∙◌, ap, map}
+use Rattle.std.proofs.Common.{◌≡◌, ◌∙◌, ap, map, sym, subst}
+use Rattle.std.specs.List.{All}
 use Rattle.tip_machine.specs.Heads.{have_names, starting}
+use Rattle.tip_core.specs.Hosted.{HasEpoch}
 use Rattle.tip_core.proofs.Naming.{heads_named}
-use Rattle.tip_core.proofs.Stepping.{new_realm, starting_counted}
+use Rattle.tip_core.proofs.Stepping.{new_counts, new_realm}
 use Rattle.tip_core.proofs.machine.Core.start.Goals as goal
 
 pub invariant_of-result : goal.invariant_of-result
-invariant_of-result g c = (
-  λ realm. rw c.in_ok-heads_of.ensures (starting_counted c.into_vec.result.items realm),
-  λ realm. rw (c.new.ensures realm) tt,
-  heads_named c.into_vec.result.items c.in_ok-heads_of.field-0.items c.new.result (ap have_names c.into_vec.ensures.same ∙ c.into_vec.ensures.named) c.in_ok-heads_of.ensures c.new.ensures,
-)
+invariant_of-result g c =
+    let heads : c.of.result.heads.items ≡ map starting c.args.starts = rw c.of.ensures.heads (c.in_ok-heads_of.ensures ∙ ap (map starting) c.into_vec.ensures.same) in (
+      new_counts c.args.starts c.of.result heads c.of.ensures.connections c.of.ensures.transactions c.into_vec.ensures.epochs,
+      heads_named c.args.starts c.of.result c.new.result.capacity c.into_vec.ensures.named heads c.of.ensures.connections c.of.ensures.transactions,
+    )
 
 pub returns-clause-realms : goal.returns-clause-realms
-returns-clause-realms g c = λ place. rw (c.in_ok-heads_of.ensures ∙ ap (map starting) c.into_vec.ensures.same) (new_realm c.args.starts c.new.result place (c.new.ensures place))
+returns-clause-realms g c =
+    let heads : c.of.result.heads.items ≡ map starting c.args.starts = rw c.of.ensures.heads (c.in_ok-heads_of.ensures ∙ ap (map starting) c.into_vec.ensures.same) in
+    λ place. new_realm c.args.starts c.of.result heads c.of.ensures.connections c.of.ensures.transactions c.new.result.capacity place
 
 pub returns-clause-named : goal.returns-clause-named
-returns-clause-named g c = heads_named c.into_vec.result.items c.in_ok-heads_of.field-0.items c.new.result (ap have_names c.into_vec.ensures.same ∙ c.into_vec.ensures.named) c.in_ok-heads_of.ensures c.new.ensures
+returns-clause-named g c =
+    let heads : c.of.result.heads.items ≡ map starting c.args.starts = rw c.of.ensures.heads (c.in_ok-heads_of.ensures ∙ ap (map starting) c.into_vec.ensures.same) in
+    heads_named c.args.starts c.of.result c.new.result.capacity c.into_vec.ensures.named heads c.of.ensures.connections c.of.ensures.transactions

@@ -1,0 +1,124 @@
+-- What each event comes to: how the transactions of a sound world go on.
+use Rattle.std.proofs.Common.{◌≡◌, Bool, true, ℕ, ◌+◌, List, Option, Some, None, refl, inl}
+use Rattle.std.specs.Prelude.{◌&&◌, length}
+use Rattle.tip_conn.specs.declared.state.Admit.{Admit}
+use Rattle.tip_conn.specs.declared.state.Admit.TheVariants.{Serve, Wrong}
+use Rattle.tip_conn.specs.Table.{admit_of}
+use Rattle.tip_conn.specs.declared.state.Side.{Side}
+use Rattle.tip_conn.specs.declared.state.Side.TheVariants.{Primary, Secondary}
+use Rattle.tip_branch.specs.Notes.{PartyNotes}
+use Rattle.tip_branch.specs.declared.branch.Badge.{Badge}
+use Rattle.tip_branch.specs.declared.member.Errand.{Errand}
+use Rattle.tip_branch.specs.declared.member.Errand.TheVariants as errand
+use Rattle.tip_line.specs.Command.{name_of}
+use Rattle.tip_line.specs.declared.command.Command.{Command}
+use Rattle.tip_line.specs.declared.command.Command.TheVariants as commands
+use Rattle.tip_line.specs.declared.refusal.Refusal.TheVariants.{Busy, Full, Stale}
+use Rattle.tip_line.specs.declared.response.Response.{Response}
+use Rattle.tip_machine.specs.Changes.{refuse, tell}
+use Rattle.tip_machine.specs.Commands.{commanded, serve, serve_if}
+use Rattle.tip_machine.specs.Connections.{accepted, dialled, may_take}
+use Rattle.tip_machine.specs.Failing.{wrong}
+use Rattle.tip_machine.specs.Honest.{brings_no_party}
+use Rattle.tip_machine.specs.Invariants.Bounds.{is_spelled}
+use Rattle.tip_machine.specs.Requests.{added, ask_pull, ask_push, dial, hand_back, hear, line, lost, opened}
+use Rattle.tip_machine.specs.Responses.{answered_by}
+use Rattle.tip_machine.specs.Returns.{Back, back_from, back_of, event_of}
+use Rattle.tip_machine.specs.Served.{Serving}
+use Rattle.tip_machine.specs.States.{Attempt, Work, connection_of, has_place, identified_by, seated}
+use Rattle.tip_machine.specs.Steps.{attempt}
+use Rattle.tip_machine.specs.Transactions.{has_id, next_key}
+use Rattle.tip_machine.specs.Types.{Connection, Event}
+use Rattle.tip_machine.specs.declared.answer.Asked.TheVariants as asked
+use Rattle.tip_machine.specs.declared.answer.Item.TheVariants.{Ask}
+use Rattle.tip_machine.specs.declared.connection.Awaited.{Awaited}
+use Rattle.tip_machine.specs.declared.connection.Purpose.{Purpose}
+use Rattle.tip_machine.specs.declared.event.Event.TheVariants.{AskPull, AskPush, Dial, Line, Lost, Open, Resume, Settled, Voted}
+use Rattle.tip_machine.specs.declared.event.Heard.{Heard}
+use Rattle.tip_machine.specs.declared.event.Heard.TheVariants.{Command as ACommand, Malformed, Response as AResponse}
+use Rattle.tip_machine.proofs.Walks.{either_attempt, seated_there}
+use Rattle.tip_agreement.proofs.Answered.{ask_pull_goes, ask_push_goes, responds_goes, resume_goes}
+use Rattle.tip_agreement.proofs.Around.{Whole}
+use Rattle.tip_agreement.proofs.Commanded.{EndsGo, beside_goes, either_goes, fail_goes, goes_wrong, hangs_up, ready, serves_goes}
+use Rattle.tip_agreement.proofs.Homecoming.{BackGoes, settles_back, votes_back}
+use Rattle.tip_agreement.proofs.Returned.{IsAwaited}
+use Rattle.tip_agreement.proofs.Sound.{found_by}
+
+-- a connection's next transaction has a key that fits
+abbrev pub IsNextSpelled : Work → Type 0
+IsNextSpelled w = (c : Connection) → connection_of c.number w.state ≡ Some c → is_spelled (next_key w.state.head c) ≡ true
+
+module _ (w : Work) (whole : Whole w.state) (spelled : IsNextSpelled w) where
+  aside : (u : Work) → u.state.head.epoch ≡ w.state.head.epoch → u.state.head.name ≡ w.state.head.name → u.state.transactions ≡ w.state.transactions → u.answer.work ≡ w.answer.work → EndsGo w (Attempt.Done u)
+  aside u epoch name transactions work = inl (beside_goes w u (record { epoch = epoch; name = name; transactions = transactions; work = work }))
+
+  opens : (boxes : List Badge) → EndsGo w (Attempt.Done (opened boxes w))
+  unfolding opened added
+  opens boxes = either_goes w (has_place (length boxes) w.state) (added (accepted boxes) w) (hand_back boxes (refuse Full w)) (aside (added (accepted boxes) w) refl refl refl refl) (aside (hand_back boxes (refuse Full w)) refl refl refl refl)
+
+  dials : (serves : Bool) (address : List ℕ) (purpose : Purpose) (boxes : List Badge) → EndsGo w (Attempt.Done (dial serves address purpose boxes w))
+  unfolding dial added
+  dials serves address purpose boxes = either_goes w (serves && has_place (length boxes) w.state) (tell (w.state.head.given + 1) (Ask (asked.Identify w.state.head.address address)) (added (dialled address purpose boxes) w)) (hand_back boxes (refuse Full w)) (aside (tell (w.state.head.given + 1) (Ask (asked.Identify w.state.head.address address)) (added (dialled address purpose boxes) w)) refl refl refl refl) (aside (hand_back boxes (refuse Full w)) refl refl refl refl)
+
+  -- Lines
+
+  module _ (c : Connection) (there : connection_of c.number w.state ≡ Some c) where
+    serves_if : (serving : Serving) (admit : Admit) (command : Command) → EndsGo w (serve_if serving admit command c w)
+    serves_if serving Serve command = either_attempt (EndsGo w) (serving.commands (name_of command)) (serve command c w) (Attempt.Done (wrong c w)) (serves_goes c w whole (spelled c there) command) (goes_wrong c w whole)
+    serves_if serving Wrong command = goes_wrong c w whole
+
+    commands_go : (serving : Serving) (command : Command) → EndsGo w (commanded serving command c w)
+    unfolding commanded
+    commands_go serving command = serves_if serving (admit_of c.state c.side (name_of command)) command
+
+    answers_go : c.side ≡ Primary → (awaited : Option Awaited) (response : Response) → c.awaited ≡ awaited → EndsGo w (answered_by awaited response c w)
+    answers_go side None response waits = aside w refl refl refl refl
+    answers_go side (Some a) response waits = responds_goes c w whole there side a response waits
+
+    hears : (serving : Serving) (side : Side) (heard : Heard) → c.side ≡ side → EndsGo w (hear serving side heard c w)
+    hears serving Secondary (ACommand command) side = commands_go serving command
+    hears serving Primary (ACommand commands.Error) side = hangs_up c w whole
+    hears serving Primary (AResponse response) side = either_attempt (EndsGo w) serving.dials (answered_by c.awaited response c w) (Attempt.Done (wrong c w)) (answers_go side c.awaited response refl) (goes_wrong c w whole)
+    hears serving Secondary (AResponse response) side = goes_wrong c w whole
+    hears serving Secondary Malformed side = goes_wrong c w whole
+    hears serving Primary Malformed side = goes_wrong c w whole
+    hears serving Primary (ACommand command) side = goes_wrong c w whole
+
+  lines : (serving : Serving) (found : Option Connection) (heard : Heard) → ((c : Connection) → found ≡ Some c → connection_of c.number w.state ≡ Some c) → EndsGo w (line serving found heard w)
+  unfolding line
+  lines serving None heard there = aside (refuse Stale w) refl refl refl refl
+  lines serving (Some c) heard there = either_attempt (EndsGo w) (may_take c) (hear serving c.side heard c w) (Attempt.Done (refuse Busy w)) (hears c (there c refl) serving c.side heard refl) (aside (refuse Busy w) refl refl refl refl)
+
+  loses : (found : Option Connection) → EndsGo w (Attempt.Done (lost found w))
+  unfolding lost
+  loses None = aside (refuse Stale w) refl refl refl refl
+  loses (Some c) = inl (fail_goes c w whole.keys (ready c w whole))
+
+  asks_push : (serves : Bool) (found : Option Connection) (id : List ℕ) → EndsGo w (Attempt.Done (ask_push serves found id w))
+  unfolding ask_push
+  asks_push serves None id = aside (refuse Stale w) refl refl refl refl
+  asks_push serves (Some c) id = ask_push_goes c w whole serves id
+
+  asks_pull : (serves : Bool) (found : Option Connection) (superior : List ℕ) → ((c : Connection) → found ≡ Some c → connection_of c.number w.state ≡ Some c) → EndsGo w (Attempt.Done (ask_pull serves found superior w))
+  unfolding ask_pull
+  asks_pull serves None superior there = aside (refuse Stale w) refl refl refl refl
+  asks_pull serves (Some c) superior there = ask_pull_goes c w whole (spelled c (there c refl)) serves superior
+
+  pub event_goes : (serving : Serving) (event : Event) → brings_no_party event ≡ true → EndsGo w (attempt serving event w)
+  event_goes serving (Open boxes) is = opens boxes
+  event_goes serving (Dial address purpose boxes) is = dials serving.dials address purpose boxes
+  event_goes serving (Line seat heard) is = lines serving (seated seat w.state) heard (seated_there seat w.state)
+  event_goes serving (Lost seat) is = loses (seated seat w.state)
+  event_goes serving (AskPush seat id) is = asks_push serving.dials (seated seat w.state) id
+  event_goes serving (AskPull seat superior) is = asks_pull serving.dials (seated seat w.state) superior (seated_there seat w.state)
+  event_goes serving (Resume id) is = resume_goes w whole (identified_by id w.state) (λ t is. found_by (has_id w.state.head.name id) w.state t whole is)
+  event_goes serving (Voted party) is = absurd (cc)
+  event_goes serving (Settled party) is = absurd (cc)
+
+  pub back_goes : (serving : Serving) (party : PartyNotes) (back : Back) → IsAwaited party w.state → BackGoes party (back_of party back) w (attempt serving (event_of party back) w)
+  back_goes serving party back awaited = step party.errand refl where
+    step : (e : Errand) → party.errand ≡ e → BackGoes party (back_of party back) w (attempt serving (back_from e (back_of party back)) w)
+    step errand.Vote is = votes_back party back w whole awaited is
+    step errand.Commit is = settles_back party back w whole awaited
+    step errand.Abort is = settles_back party back w whole awaited
+    step errand.Idle is = settles_back party back w whole awaited

@@ -1,0 +1,413 @@
+-- What an event wants is what reading alone foresees.
+use Rattle.std.proofs.Common.{arith, ◌≡◌, ◌++◌, ◌+◌, ◌==◌, ◌&&◌, Bool, true, false, cond, ℕ, List, [], ◌∷◌, Option, Some, None, map, refl, ap, sym, subst, ◌∙◌}
+use Rattle.std.specs.Prelude.{drop, filter, find, if◌then◌else◌}
+use Rattle.std.specs.List.{flat_map, list_all}
+use Rattle.std.specs.Option.{IfSome, option_and_then}
+use Rattle.std.proofs.lemmas.Bool.Decides.{nat_tests}
+use Rattle.std.proofs.lemmas.Option.{none-some, same_Some}
+use Rattle.std.specs.Str.{bytes_eq}
+use Rattle.tip_branch.specs.Notes.{PartyNotes}
+use Rattle.tip_branch.specs.declared.member.Errand.{Errand}
+use Rattle.tip_branch.specs.declared.member.Errand.TheVariants as errand
+use Rattle.tip_conn.specs.Table.{admit_of}
+use Rattle.tip_conn.specs.declared.state.Admit.{Admit}
+use Rattle.tip_conn.specs.declared.state.Admit.TheVariants.{Serve, Wrong}
+use Rattle.tip_conn.specs.declared.state.Side.{Side}
+use Rattle.tip_conn.specs.declared.state.Side.TheVariants.{Primary, Secondary}
+use Rattle.tip_line.specs.Command.{name_of}
+use Rattle.tip_line.specs.declared.command.Command.{Command as ACommand}
+use Rattle.tip_line.specs.declared.command.Command.TheVariants as commands
+use Rattle.tip_line.specs.declared.command.CommandName.{CommandName}
+use Rattle.tip_line.specs.declared.command.CommandName.TheVariants as command
+use Rattle.tip_line.specs.declared.refusal.Refusal.TheVariants.{Busy, NotActive}
+use Rattle.tip_rows.proofs.OrderLemmas.{same_key}
+use Rattle.tip_rows.specs.Keys.{Key, is_same}
+use Rattle.tip_rows.specs.declared.row.Row.TheVariants as row
+use Rattle.tip_table.specs.Lists.{changed}
+use Rattle.tip_txn.specs.Parts.{answered, is_yes}
+use Rattle.tip_txn.specs.declared.answer.Decision.{Decision}
+use Rattle.tip_txn.specs.declared.answer.Decision.TheVariants as decision
+use Rattle.tip_txn.specs.declared.answer.Phase.{Phase}
+use Rattle.tip_txn.specs.declared.answer.Phase.TheVariants.{Active, Asking, Prepared, Committed, Aborted}
+use Rattle.tip_txn.specs.declared.part.Participant.{Participant}
+use Rattle.tip_machine.proofs.Walks.{found_changed, found_passes, on_found, seated_there, there_by_key}
+use Rattle.tip_machine.specs.Answers.{identifier}
+use Rattle.tip_machine.specs.Changes.{alter, attempt_on, change, end, refuse}
+use Rattle.tip_machine.specs.Commands.{commanded, decide_abort, decide_commit, obey, serve_if, superior_role}
+use Rattle.tip_machine.specs.Connections.{asks_for, has_number, is_superior_of, may_take, owing}
+use Rattle.tip_machine.specs.Proceeding.{agree, ask, asked_for_votes, conclude, dispatch, dispatched, enter, errand_in, finish, give_out, let_go, owed_to_superior, proceed, proceed_in}
+use Rattle.tip_machine.specs.Reactions.{commits, react}
+use Rattle.tip_machine.specs.Requests.{hear, line, owner, resume, resume_in, settled, settled_for, voted, voted_for}
+use Rattle.tip_machine.specs.Served.{today}
+use Rattle.tip_machine.specs.States.{Attempt, State, Work, connection_of, identified_by, seated, transaction_of}
+use Rattle.tip_machine.specs.Steps.{attempt, entered, is_open, wanted, wants}
+use Rattle.tip_machine.specs.Transactions.{decision_of, entering, has_id, has_key, has_ready, is_committed, is_done, is_spent, noting, pair_of, party_answer, standing_at, subordinates, willing_from}
+use Rattle.tip_machine.specs.Types.{Connection, Event, PartyPlace, Transaction}
+use Rattle.tip_machine.specs.declared.event.Event.TheVariants.{AskPull, AskPush, Dial, Line, Lost, Open, Resume, Settled, Voted}
+use Rattle.tip_machine.specs.declared.event.Change.{Change}
+use Rattle.tip_machine.specs.declared.event.Change.TheVariants.{Put, Remove}
+use Rattle.tip_machine.specs.declared.event.Heard.{Heard}
+use Rattle.tip_machine.specs.declared.event.Heard.TheVariants.{Command, Malformed, Response}
+use Rattle.tip_machine.specs.declared.event.Seat.{Seat}
+use Rattle.tip_machine.specs.declared.connection.Role.{Role}
+use Rattle.tip_machine.specs.declared.connection.Role.TheVariants.{Subordinate, Superior}
+use Rattle.tip_machine.specs.declared.transaction.Origin.{Origin}
+use Rattle.tip_machine.specs.declared.transaction.Origin.TheVariants as origin
+use Rattle.tip_machine.specs.declared.transaction.PartyPlace.TheVariants.{Here, Out, Spent}
+use Rattle.tip_core.proofs.Outcomes.{acknowledged_all}
+use Rattle.tip_core.proofs.Proceeding.{dispatch_some}
+use Rattle.tip_core.specs.Wanting.{abort_for, abort_wanted, agreed_change, asked, away, back_at, command_wanted, commit_for, commit_wanted, committed_of, concluded, finished, foreseen, in_doubt_of, is_admitted, is_over, line_wanted, of_superior, outlook, owed_then, pair_at, pairs_of, promised_of, resume_wanted, resumed_at, settled_wanted, vote_wanted, wished, wished_in}
+
+-- The rows
+
+pairs_from : (part : ℕ) (parts : List Participant) → flat_map (λ s. pair_of s.1.address s.1.id) (willing_from part parts) ≡ pairs_of parts
+pairs_from part [] = refl
+pairs_from part (p ∷ parts) = step (is_yes p.answer) (pairs_from (part + 1) parts) where
+  step : (yes : Bool) → flat_map (λ s. pair_of s.1.address s.1.id) (willing_from (part + 1) parts) ≡ pairs_of parts →
+      flat_map (λ s. pair_of s.1.address s.1.id) (cond yes ((part, p) ∷ willing_from (part + 1) parts) (willing_from (part + 1) parts)) ≡ flat_map pair_at (cond yes (p ∷ filter (λ part. is_yes part.answer) parts) (filter (λ part. is_yes part.answer) parts))
+  step true rest = ap (λ pairs. pair_of p.address p.id ++ pairs) rest
+  step false rest = rest
+
+over_done : (t : Transaction) → is_done t ≡ is_over (outlook t)
+over_done t = ap (λ b. is_spent t.place && b) (acknowledged_all 1 (drop 1 t.parts))
+
+-- What follows
+
+finish_wants : (t : Transaction) (w : Work) → wanted (finish t w) ≡ finished (outlook t)
+unfolding finish
+finish_wants t w = step (is_done t) ∙ ap (λ b. cond b (Some (Remove t.key)) None) (over_done t) where
+  step : (b : Bool) → wanted (cond b (Attempt.Asks (Remove t.key) (end t.key w) w) (Attempt.Done w)) ≡ cond b (Some (Remove t.key)) None
+  step true = refl
+  step false = refl
+
+module _ (t : Transaction) (w : Work) where
+  agree_wants : (owed : Option CommandName) (from : Origin) → wanted (agree owed from t w) ≡ agreed_change owed from (outlook t)
+  agree_wants None from = refl
+  agree_wants (Some command.Identify) from = refl
+  agree_wants (Some command.Begin) from = refl
+  agree_wants (Some command.Push) from = refl
+  agree_wants (Some command.Pull) from = refl
+  agree_wants (Some command.Prepare) origin.Root = refl
+  agree_wants (Some command.Prepare) (origin.Subordinate None superior) = refl
+  agree_wants (Some command.Prepare) (origin.Subordinate (Some address) superior) = ap (λ pairs. Some (Put t.key (row.Prepared address superior (promised_of (outlook t)) pairs))) (pairs_from 1 (drop 1 t.parts))
+  agree_wants (Some command.Commit) from = ap (λ pairs. Some (Put t.key (row.Committed (promised_of (outlook t)) pairs))) (pairs_from 1 (drop 1 t.parts))
+  agree_wants (Some command.Abort) from = refl
+  agree_wants (Some command.Query) from = refl
+  agree_wants (Some command.Reconnect) from = refl
+  agree_wants (Some command.Multiplex) from = refl
+  agree_wants (Some command.Tls) from = refl
+  agree_wants (Some command.Error) from = refl
+
+  conclude_wants : (d : Decision) → wanted (conclude d t w) ≡ concluded d (owed_to_superior t.key w.state) (outlook t)
+  conclude_wants decision.Wait = refl
+  conclude_wants decision.Commit = agree_wants (owed_to_superior t.key w.state) t.origin
+  conclude_wants decision.Abort = refl
+  conclude_wants decision.ReadOnly = refl
+
+  phase_wants : (phase : Phase) → wanted (proceed_in phase t w) ≡ wished_in phase (owed_to_superior t.key w.state) (outlook t)
+  phase_wants Active = conclude_wants (decision_of t)
+  phase_wants Asking = conclude_wants (decision_of t)
+  phase_wants Prepared = refl
+  phase_wants Committed = finish_wants t (react commits t.key w)
+  phase_wants Aborted = refl
+
+proceed_wants : (key : Key) (w : Work) (t : Transaction) → transaction_of key w.state ≡ Some t → wanted (proceed key w) ≡ wished (owed_to_superior t.key w.state) (outlook t)
+unfolding proceed
+proceed_wants key w t found = ap (λ o. wanted (attempt_on o (λ t. proceed_in t.phase t) w)) found ∙ phase_wants t w t.phase
+
+-- a transaction that is there by its own key is there when it is altered
+module _ (t : Transaction) (f : Transaction → Transaction) (keyed : (u : Transaction) → (f u).key ≡ u.key) where
+  altered_there : (w : Work) → transaction_of t.key w.state ≡ Some t → transaction_of t.key (alter t.key f w).state ≡ Some (f t)
+  altered_there w found = found_changed t.key f w.state.transactions t found (ap (is_same t.key) (keyed t) ∙ found_passes (has_key t.key) w.state.transactions t found)
+
+-- Asking
+
+ask_wants : (t : Transaction) (w : Work) → transaction_of t.key w.state ≡ Some t → wanted (ask t w) ≡ wished (owed_to_superior t.key w.state) (outlook (asked t))
+unfolding ask
+ask_wants t w found = step t.place refl where
+  there : transaction_of t.key (enter Asking t.key w).state ≡ Some (entering Asking t)
+  there = altered_there t (entering Asking) (λ u. refl) w found
+
+  step : (place : PartyPlace) → t.place ≡ place → wanted (proceed t.key (asked_for_votes place t.key (enter Asking t.key w))) ≡ wished (owed_to_superior t.key w.state) (outlook (record t { phase = Asking; place = away place }))
+  step (Here party) is = proceed_wants t.key (give_out errand.Vote party t.key (enter Asking t.key w)) (standing_at (Out errand.Vote) (entering Asking t)) (altered_there (entering Asking t) (standing_at (Out errand.Vote)) (λ u. refl) (enter Asking t.key w) there)
+  step (Out errand) is = proceed_wants t.key (enter Asking t.key w) (entering Asking t) there ∙ ap (λ p. wished (owed_to_superior t.key w.state) (outlook (record t { phase = Asking; place = p }))) is
+  step Spent is = proceed_wants t.key (enter Asking t.key w) (entering Asking t) there ∙ ap (λ p. wished (owed_to_superior t.key w.state) (outlook (record t { phase = Asking; place = p }))) is
+
+same_self : (key : Key) → is_same key key ≡ true
+same_self key = grind (arith, nat_tests)
+
+-- What is owed once a command came
+
+not_both : (b : Bool) → b ≡ true → b ≡ false → {T : Type 0} → T
+not_both true is not = absurd (cc)
+not_both false is not = absurd (cc)
+
+first_owed : (command : CommandName) (number : ℕ) (key : Key) (cs : List Connection) (c : Connection) → find (has_number number) cs ≡ Some c → is_superior_of key c ≡ true →
+    option_and_then (λ d. d.owed) (find (is_superior_of key) (changed (has_number number) (owing command) cs)) ≡ option_and_then (λ d. if has_number number d then Some command else d.owed) (find (is_superior_of key) cs)
+first_owed command number key [] c is superior = absurd (none-some c is)
+first_owed command number key (x ∷ xs) c is superior = at (has_number number x) refl (is_superior_of key x) refl is (λ later. first_owed command number key xs c later superior) where
+  at : (there : Bool) → has_number number x ≡ there → (on : Bool) → is_superior_of key x ≡ on → cond there (Some x) (find (has_number number) xs) ≡ Some c →
+      (find (has_number number) xs ≡ Some c → option_and_then (λ d. d.owed) (find (is_superior_of key) (changed (has_number number) (owing command) xs)) ≡ option_and_then (λ d. if has_number number d then Some command else d.owed) (find (is_superior_of key) xs)) →
+      option_and_then (λ d. d.owed) (find (is_superior_of key) (cond there (owing command x ∷ xs) (x ∷ changed (has_number number) (owing command) xs))) ≡ option_and_then (λ d. if has_number number d then Some command else d.owed) (cond on (Some x) (find (is_superior_of key) xs))
+  at true numbered true on here later = rw (on, numbered) refl
+  at true numbered false off here later = not_both (is_superior_of key x) (ap (is_superior_of key) (same_Some x c here) ∙ superior) off
+  at false other true on here later = rw (on, other) refl
+  at false other false off here later = rw off (later here)
+
+-- Commands
+
+module _ (w : Work) (c : Connection) (there : connection_of c.number w.state ≡ Some c) where
+  owed_now : (command : CommandName) (key : Key) (t : Transaction) → c.role ≡ Some (Superior key) → transaction_of key w.state ≡ Some t → owed_to_superior t.key (change c.number (owing command) w).state ≡ owed_then command c.number t.key w.state
+  owed_now command key t on found =
+      let same : key ≡ t.key = on_found (λ k. key ≡ k) key w.state.transactions t found refl in
+      first_owed command c.number t.key w.state.connections c there (ap (asks_for t.key) on ∙ ap (is_same t.key) same ∙ same_self t.key)
+
+  commit_wants : (key : Key) (t : Transaction) → c.role ≡ Some (Superior key) → transaction_of key w.state ≡ Some t → wanted (decide_commit t.phase c t (change c.number (owing command.Commit) w)) ≡ commit_for c.number w.state t
+  commit_wants key t on found = step t.phase where
+    step : (phase : Phase) → wanted (decide_commit phase c t (change c.number (owing command.Commit) w)) ≡ commit_wanted phase (owed_then command.Commit c.number t.key w.state) t
+    step Active = ask_wants t (change c.number (owing command.Commit) w) (there_by_key key w.state.transactions t found) ∙ ap (λ owed. wished owed (outlook (asked t))) (owed_now command.Commit key t on found)
+    step Asking = refl
+    step Prepared = ap (λ pairs. Some (Put t.key (row.Committed (promised_of (outlook t)) pairs))) (pairs_from 1 (drop 1 t.parts))
+    step Committed = refl
+    step Aborted = refl
+
+  abort_wants : (t : Transaction) (v : Work) → wanted (decide_abort t.phase c t v) ≡ abort_for t
+  abort_wants t v = step t.phase where
+    step : (phase : Phase) → wanted (decide_abort phase c t v) ≡ abort_wanted phase t
+    step Active = refl
+    step Asking = refl
+    step Prepared = refl
+    step Committed = refl
+    step Aborted = refl
+
+  -- a rule of the transaction whose superior is on the connection
+  module _ (name : CommandName) (rule : Transaction → Work → Attempt) (wants : Transaction → Option Change)
+      (each : (key : Key) (t : Transaction) → c.role ≡ Some (Superior key) → transaction_of key w.state ≡ Some t → wanted (rule t (change c.number (owing name) w)) ≡ wants t) where
+    obey_wants : wanted (obey name rule c w) ≡ of_superior wants c w.state
+    obey_wants = at c.role refl where
+      found_at : (key : Key) → c.role ≡ Some (Superior key) → (found : Option Transaction) → transaction_of key w.state ≡ found → wanted (attempt_on found rule (change c.number (owing name) w)) ≡ option_and_then wants found
+      found_at key on None is = refl
+      found_at key on (Some t) is = each key t on is
+
+      at : (role : Option Role) → c.role ≡ role → wanted (attempt_on (option_and_then (λ key. transaction_of key w.state) (superior_role role)) rule (change c.number (owing name) w)) ≡ option_and_then (λ key. option_and_then wants (transaction_of key w.state)) (superior_role role)
+      at None on = refl
+      at (Some (Superior key)) on = found_at key on (transaction_of key w.state) refl
+      at (Some (Subordinate key part)) on = refl
+
+  served_wants : (line : ACommand) → wanted (serve_if today Serve line c w) ≡ command_wanted line c w.state
+  served_wants (commands.Identify lowest highest primary secondary) = refl
+  served_wants commands.Begin = refl
+  served_wants (commands.Push superior) = refl
+  served_wants (commands.Pull superior subordinate) = refl
+  served_wants commands.Prepare = refl
+  served_wants commands.Commit = obey_wants command.Commit (λ t. decide_commit t.phase c t) (commit_for c.number w.state) commit_wants
+  served_wants commands.Abort = obey_wants command.Abort (λ t. decide_abort t.phase c t) abort_for (λ key t on found. abort_wants t (change c.number (owing command.Abort) w))
+  served_wants (commands.Query superior) = refl
+  served_wants (commands.Reconnect subordinate) = refl
+  served_wants (commands.Multiplex protocol) = refl
+  served_wants commands.Tls = refl
+  served_wants commands.Error = refl
+
+  admitted_wants : (admit : Admit) (line : ACommand) → wanted (serve_if today admit line c w) ≡ cond (is_admitted admit) (command_wanted line c w.state) None
+  admitted_wants Serve line = served_wants line
+  admitted_wants Wrong line = refl
+
+  primary_wants : (line : ACommand) → wanted (hear today Primary (Command line) c w) ≡ None
+  primary_wants (commands.Identify lowest highest primary secondary) = refl
+  primary_wants commands.Begin = refl
+  primary_wants (commands.Push superior) = refl
+  primary_wants (commands.Pull superior subordinate) = refl
+  primary_wants commands.Prepare = refl
+  primary_wants commands.Commit = refl
+  primary_wants commands.Abort = refl
+  primary_wants (commands.Query superior) = refl
+  primary_wants (commands.Reconnect subordinate) = refl
+  primary_wants (commands.Multiplex protocol) = refl
+  primary_wants commands.Tls = refl
+  primary_wants commands.Error = refl
+
+  hear_wants : (side : Side) → c.side ≡ side → (line : ACommand) → wanted (hear today side (Command line) c w) ≡ cond (is_admitted (admit_of c.state side (name_of line))) (command_wanted line c w.state) None
+  unfolding commanded
+  hear_wants Primary is line = primary_wants line
+  hear_wants Secondary is line = ap (λ s. wanted (serve_if today (admit_of c.state s (name_of line)) line c w)) is ∙ admitted_wants (admit_of c.state Secondary (name_of line)) line
+
+  taken_wants : (line : ACommand) → wanted (cond (may_take c) (hear today c.side (Command line) c w) (Attempt.Done (refuse Busy w))) ≡ line_wanted (Some c) line w.state
+  taken_wants line = step (may_take c) where
+    step : (b : Bool) → wanted (cond b (hear today c.side (Command line) c w) (Attempt.Done (refuse Busy w))) ≡ cond (b && is_admitted (admit_of c.state c.side (name_of line))) (command_wanted line c w.state) None
+    step true = hear_wants c.side refl line
+    step false = refl
+
+-- what is no command wants nothing
+quiet_line : (side : Side) (c : Connection) (w : Work) → (wanted (hear today side Malformed c w) ≡ None)
+quiet_line Primary c w = refl
+quiet_line Secondary c w = refl
+
+module _ (w : Work) where
+  line_wants : (found : Option Connection) → ((c : Connection) → found ≡ Some c → connection_of c.number w.state ≡ Some c) → (line' : ACommand) → wanted (line today found (Command line') w) ≡ line_wanted found line' w.state
+  unfolding line
+  line_wants None there line' = refl
+  line_wants (Some c) there line' = taken_wants w c (there c refl) line'
+
+  other_line : (found : Option Connection) (heard : Heard) → ((c : Connection) (side : Side) → wanted (hear today side heard c w) ≡ None) → wanted (line today found heard w) ≡ None
+  unfolding line
+  other_line None heard quiet = refl
+  other_line (Some c) heard quiet = step (may_take c) where
+    step : (b : Bool) → wanted (cond b (hear today c.side heard c w) (Attempt.Done (refuse Busy w))) ≡ None
+    step true = quiet c c.side
+    step false = refl
+
+-- Parties that come back
+
+-- the first transaction of an identifier is the first of its key
+by_id : (realm id : List ℕ) (ts : List Transaction) (t : Transaction) → find (has_id realm id) ts ≡ Some t → find (has_key t.key) ts ≡ Some t
+by_id realm id [] t is = absurd (none-some t is)
+by_id realm id (x ∷ xs) t is = step (has_id realm id x) refl (has_key t.key x) refl is (λ later. by_id realm id xs t later) where
+  step : (named : Bool) → has_id realm id x ≡ named → (keyed : Bool) → has_key t.key x ≡ keyed → cond named (Some x) (find (has_id realm id) xs) ≡ Some t → (find (has_id realm id) xs ≡ Some t → find (has_key t.key) xs ≡ Some t) → cond keyed (Some x) (find (has_key t.key) xs) ≡ Some t
+  step true named true keyed here later = here
+  step true named false keyed here later = not_both (has_key t.key x) (ap (λ (u : Transaction). is_same t.key u.key) (same_Some x t here) ∙ same_self t.key) keyed
+  step false unnamed true keyed there later = not_both (has_id realm id x) (ap (λ k. bytes_eq id (identifier realm k)) (sym (same_key t.key x.key keyed)) ∙ found_passes (has_id realm id) xs t there) unnamed
+  step false unnamed false keyed there later = later there
+
+owned_there : (party : PartyNotes) (state : State) (t : Transaction) → owner party state ≡ Some t → transaction_of t.key state ≡ Some t
+owned_there party state t is = step (party.epoch == state.head.epoch) is where
+  step : (b : Bool) → cond b (identified_by party.id state) None ≡ Some t → transaction_of t.key state ≡ Some t
+  step true found = by_id state.head.name party.id state.transactions t found
+  step false found = absurd (none-some t found)
+
+module _ (party : PartyNotes) (w : Work) (t : Transaction) (found : transaction_of t.key w.state ≡ Some t) where
+  back_there : transaction_of t.key (alter t.key (standing_at (Here party)) w).state ≡ Some (standing_at (Here party) t)
+  back_there = altered_there t (standing_at (Here party)) (λ u. refl) w found
+
+  vote_wants : (place : PartyPlace) → wanted (voted_for place party t w) ≡ vote_wanted place party t w.state
+  vote_wants (Here other) = refl
+  vote_wants (Out errand.Idle) = refl
+  vote_wants (Out errand.Vote) = proceed_wants t.key _ (noting 0 (answered (party_answer party)) (standing_at (Here party) t)) (altered_there (standing_at (Here party) t) (noting 0 (answered (party_answer party))) (λ u. refl) (alter t.key (standing_at (Here party)) w) back_there)
+  vote_wants (Out errand.Commit) = refl
+  vote_wants (Out errand.Abort) = refl
+  vote_wants Spent = refl
+
+  told_wants : (ready : Bool) → has_ready party ≡ ready → wanted (proceed t.key (cond ready (alter t.key (standing_at (Here party)) w) (dispatch t.key (alter t.key (standing_at (Here party)) w)))) ≡ wished (owed_to_superior t.key w.state) (outlook (standing_at (cond ready (Here party) Spent) t))
+  told_wants true is = proceed_wants t.key (alter t.key (standing_at (Here party)) w) (standing_at (Here party) t) back_there
+  told_wants false is =
+      ap (λ v. wanted (proceed t.key v)) (dispatch_some t.key (alter t.key (standing_at (Here party)) w) (standing_at (Here party) t) back_there
+      ∙ ap (λ b. cond b (give_out (errand_in t.phase) party t.key (alter t.key (standing_at (Here party)) w)) (let_go party t.key (alter t.key (standing_at (Here party)) w))) is)
+      ∙ proceed_wants t.key (let_go party t.key (alter t.key (standing_at (Here party)) w)) (standing_at Spent t) (altered_there (standing_at (Here party) t) (standing_at Spent) (λ u. refl) (alter t.key (standing_at (Here party)) w) back_there)
+
+  settled_wants : (place : PartyPlace) → wanted (settled_for place party t w) ≡ settled_wanted place party t w.state
+  settled_wants (Here other) = refl
+  settled_wants (Out errand.Idle) = refl
+  settled_wants (Out errand.Vote) = refl
+  settled_wants (Out errand.Commit) = told_wants (has_ready party) refl
+  settled_wants (Out errand.Abort) = proceed_wants t.key (alter t.key (standing_at (Here party)) w) (standing_at (Here party) t) back_there
+  settled_wants Spent = refl
+
+module _ (party : PartyNotes) (w : Work) where
+  voted_wants : (found : Option Transaction) → owner party w.state ≡ found → wanted (voted found party w) ≡ option_and_then (λ t. vote_wanted t.place party t w.state) found
+  unfolding voted
+  voted_wants None is = refl
+  voted_wants (Some t) is = vote_wants party w t (owned_there party w.state t is) t.place
+
+  settled_all : (found : Option Transaction) → owner party w.state ≡ found → wanted (settled found party w) ≡ option_and_then (λ t. settled_wanted t.place party t w.state) found
+  unfolding settled
+  settled_all None is = refl
+  settled_all (Some t) is = settled_wants party w t (owned_there party w.state t is) t.place
+
+-- What is tried again
+
+resumes : (found : Option Transaction) (w : Work) → wanted (resume found w) ≡ option_and_then resume_wanted found
+unfolding resume
+resumes None w = refl
+resumes (Some t) w = step (is_committed t.phase) where
+  over : (done : Bool) → is_done t ≡ done → wanted (cond done (finish t w) (Attempt.Done (refuse Busy w))) ≡ finished (outlook t)
+  over true is = finish_wants t w
+  over false is = sym (ap (λ b. cond b (Some (Remove t.key)) None) (sym (over_done t) ∙ is))
+
+  at : (place : PartyPlace) → wanted (resume_in place t w) ≡ resumed_at place t
+  at (Here party) = refl
+  at (Out errand) = refl
+  at Spent = over (is_done t) refl
+
+  step : (b : Bool) → wanted (cond b (resume_in t.place t w) (Attempt.Done (refuse NotActive w))) ≡ cond b (resumed_at t.place t) None
+  step true = at t.place
+  step false = refl
+
+-- Any event
+
+attempt_wants : (event : Event) (w : Work) → wanted (attempt today event w) ≡ foreseen event w.state
+attempt_wants (Open boxes) w = refl
+attempt_wants (Dial address purpose boxes) w = refl
+attempt_wants (Line seat (Command line)) w = line_wants w (seated seat w.state) (seated_there seat w.state) line
+attempt_wants (Line seat (Response response)) w = other_line w (seated seat w.state) (Response response) (λ c. quiet c) where
+  quiet : (c : Connection) (side : Side) → wanted (hear today side (Response response) c w) ≡ None
+  quiet c Primary = refl
+  quiet c Secondary = refl
+attempt_wants (Line seat Malformed) w = other_line w (seated seat w.state) Malformed (λ c side. quiet_line side c w)
+attempt_wants (Voted party) w = voted_wants party w (owner party w.state) refl
+attempt_wants (Settled party) w = settled_all party w (owner party w.state) refl
+attempt_wants (Lost seat) w = refl
+attempt_wants (AskPush seat id) w = refl
+attempt_wants (AskPull seat superior) w = refl
+attempt_wants (Resume id) w = resumes (identified_by id w.state) w
+
+-- reading sees neither entries nor the answer
+module _ (state : State) where
+  command_before : (line : ACommand) (c : Connection) → command_wanted line c (entered state).state ≡ command_wanted line c state
+  command_before (commands.Identify lowest highest primary secondary) c = refl
+  command_before commands.Begin c = refl
+  command_before (commands.Push superior) c = refl
+  command_before (commands.Pull superior subordinate) c = refl
+  command_before commands.Prepare c = refl
+  command_before commands.Commit c = refl
+  command_before commands.Abort c = refl
+  command_before (commands.Query superior) c = refl
+  command_before (commands.Reconnect subordinate) c = refl
+  command_before (commands.Multiplex protocol) c = refl
+  command_before commands.Tls c = refl
+  command_before commands.Error c = refl
+
+  line_before : (found : Option Connection) (line : ACommand) → line_wanted found line (entered state).state ≡ line_wanted found line state
+  line_before None line = refl
+  line_before (Some c) line = ap (λ change. cond (may_take c && is_admitted (admit_of c.state c.side (name_of line))) change None) (command_before line c)
+
+  vote_before : (place : PartyPlace) (party : PartyNotes) (t : Transaction) → vote_wanted place party t (entered state).state ≡ vote_wanted place party t state
+  vote_before (Here other) party t = refl
+  vote_before (Out errand.Idle) party t = refl
+  vote_before (Out errand.Vote) party t = refl
+  vote_before (Out errand.Commit) party t = refl
+  vote_before (Out errand.Abort) party t = refl
+  vote_before Spent party t = refl
+
+  settled_before : (place : PartyPlace) (party : PartyNotes) (t : Transaction) → settled_wanted place party t (entered state).state ≡ settled_wanted place party t state
+  settled_before (Here other) party t = refl
+  settled_before (Out errand.Idle) party t = refl
+  settled_before (Out errand.Vote) party t = refl
+  settled_before (Out errand.Commit) party t = refl
+  settled_before (Out errand.Abort) party t = refl
+  settled_before Spent party t = refl
+
+  seen_before : (event : Event) → foreseen event (entered state).state ≡ foreseen event state
+  seen_before (Open boxes) = refl
+  seen_before (Dial address purpose boxes) = refl
+  seen_before (Line seat (Command line)) = line_before (seated seat state) line
+  seen_before (Line seat (Response response)) = refl
+  seen_before (Line seat Malformed) = refl
+  seen_before (Voted party) = by (owner party state) where
+    by : (found : Option Transaction) → option_and_then (λ t. vote_wanted t.place party t (entered state).state) found ≡ option_and_then (λ t. vote_wanted t.place party t state) found
+    by None = refl
+    by (Some t) = vote_before t.place party t
+  seen_before (Settled party) = by (owner party state) where
+    by : (found : Option Transaction) → option_and_then (λ t. settled_wanted t.place party t (entered state).state) found ≡ option_and_then (λ t. settled_wanted t.place party t state) found
+    by None = refl
+    by (Some t) = settled_before t.place party t
+  seen_before (Lost seat) = refl
+  seen_before (AskPush seat id) = refl
+  seen_before (AskPull seat superior) = refl
+  seen_before (Resume id) = refl
+
+pub wants_here : (state : State) (event : Event) → is_open state ≡ true → wants state event ≡ foreseen event state
+wants_here state event is = ap (λ b. cond b (wanted (attempt today event (entered state))) None) is ∙ attempt_wants event (entered state) ∙ seen_before state event
+
+pub wants_frozen : (state : State) (event : Event) → is_open state ≡ false → wants state event ≡ None
+wants_frozen state event is = ap (λ b. cond b (wanted (attempt today event (entered state))) None) is
+
+pub ruleset wanting = (wants_here, wants_frozen)

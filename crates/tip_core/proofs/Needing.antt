@@ -1,0 +1,77 @@
+-- What an event needs is counted on the tables.
+use Rattle.std.proofs.Common.{◌≡◌, ◌<◌, ◌+◌, ℕ, Bool, true, false, cond, Option, Some, None, refl, ap, arith, subst, sym, ◌∙◌}
+use Rattle.std.specs.Prelude.{find, nat_lt, option_map}
+use Rattle.std.specs.Option.{option_and_then, option_map_or}
+use Rattle.std.proofs.lemmas.Bool.Decides.{nat_tests}
+use Rattle.tip_branch.specs.Notes.{PartyNotes}
+use Rattle.tip_rows.specs.Keys.{Key}
+use Rattle.tip_table.specs.Kept.{StandsAt, item_at, of}
+use Rattle.tip_machine.specs.Connections.{has_number}
+use Rattle.tip_machine.specs.Counts.{HasCounts}
+use Rattle.tip_machine.specs.Requests.{owner}
+use Rattle.tip_machine.specs.States.{State, connection_of, has_room, transaction_of}
+use Rattle.tip_machine.specs.Steps.{is_open}
+use Rattle.tip_machine.specs.Transactions.{has_key, next_key}
+use Rattle.tip_machine.specs.Types.{Connection, Event, Transaction, seen}
+use Rattle.tip_core.proofs.Beginnings.{standing_number}
+use Rattle.tip_core.proofs.Openings.{first_found}
+use Rattle.tip_core.proofs.Outcomes.{key_is}
+use Rattle.tip_core.proofs.Works.{find-seen}
+use Rattle.tip_machine.proofs.Counting.{entered_below}
+use Rattle.tip_machine.proofs.Walks.{found-number}
+use Rattle.tip_core.specs.Needs.{begins_on, room_needed, room_on}
+use Rattle.tip_core.specs.Rooms.{TransactionRoom, room_for}
+use Rattle.tip_core.specs.Works.{Held, HeldTransaction, is_keyed, lines_as, lines_at, lines_for, lines_of, work_of}
+
+pub lines_there : (held : Held) (number place : ℕ) (item : Connection) → StandsAt held.connections held.realm (has_number number) place → item_at held.connections place ≡ Some item → (lines : ℕ) → lines ≡ lines_as item.role (work_of held).state → lines ≡ lines_at number (work_of held).state
+lines_there held number place item here is lines same = same ∙ sym (ap (λ o. option_map_or (λ c. lines_as c.role (work_of held).state) o 0) (standing_number held number place item here is))
+
+-- where the transaction of a key stands, it is open
+keyed_there : (held : Held) (key : Key) (place : ℕ) → StandsAt held.transactions held.realm (is_keyed key) place → (t : Transaction) × (transaction_of key (work_of held).state ≡ Some t)
+keyed_there held key place here = step (find (is_keyed key) (of held.transactions held.realm)) refl where
+  step : (found : Option HeldTransaction) → find (is_keyed key) (of held.transactions held.realm) ≡ found → (t : Transaction) × (transaction_of key (work_of held).state ≡ Some t)
+  step None none = absurd (first_found (is_keyed key) (of held.transactions held.realm) here.at here.first none)
+  step (Some item) is = (seen item, find-seen seen (has_key key) (of held.transactions held.realm) ∙ ap (option_map seen) is)
+
+pub lines_with_owner : (held : Held) (party : PartyNotes) (key : Key) (place : ℕ) → StandsAt held.transactions held.realm (is_keyed key) place → owner party (work_of held).state ≡ transaction_of key (work_of held).state → (lines : ℕ) → lines ≡ lines_for key (work_of held).state → lines ≡ lines_of (owner party (work_of held).state) (work_of held).state
+lines_with_owner held party key place here same lines is =
+    let found = keyed_there held key place here in
+    is ∙ ap (λ k. lines_for k (work_of held).state) (key_is held key found.0 found.1) ∙ sym (ap (λ o. lines_of o (work_of held).state) (same ∙ found.1))
+
+-- A transaction that may begin
+
+module _ (held : Held) (counts : HasCounts (work_of held).state) (number place : ℕ) (item : Connection) (here : connection_of number (work_of held).state ≡ Some item) where
+  pub numbered_there : 0 < number
+  numbered_there = subst (λ n. 0 < n) (found-number number (work_of held).state.connections item here) (entered_below number (work_of held).state item counts here).1
+
+  pub made_there : is_open (work_of held).state ≡ true → item.made < (work_of held).state.head.limits.entries
+  made_there open_is =
+      let below = (entered_below number (work_of held).state item counts here).0 in
+      let less : (work_of held).state.head.entries < (work_of held).state.head.limits.entries = grind (arith, nat_tests, open_is) in
+      omega (arith, below, less)
+
+module _ (held : Held) (event : Event) (number : ℕ) (begins : begins_on event ≡ Some number) where
+  pub needed_nowhere : connection_of number (work_of held).state ≡ None → None ≡ room_needed event (work_of held).state
+  needed_nowhere none = sym (ap (λ o. option_and_then (λ n. room_on n (work_of held).state) o) begins ∙ ap (λ o. option_and_then (λ c. cond (has_room c (work_of held).state) (Some (room_for (work_of held).state.head (next_key (work_of held).state.head c))) None) o) none)
+
+  module _ (item : Connection) (here : connection_of number (work_of held).state ≡ Some item) where
+    needed_so : (room : Bool) → has_room item (work_of held).state ≡ room → room_needed event (work_of held).state ≡ cond room (Some (room_for (work_of held).state.head (next_key (work_of held).state.head item))) None
+    needed_so room is =
+        ap (λ o. option_and_then (λ n. room_on n (work_of held).state) o) begins
+        ∙ ap (λ o. option_and_then (λ c. cond (has_room c (work_of held).state) (Some (room_for (work_of held).state.head (next_key (work_of held).state.head c))) None) o) here
+        ∙ ap (λ b. cond b (Some (room_for (work_of held).state.head (next_key (work_of held).state.head item))) None) is
+
+    pub needed_full : has_room item (work_of held).state ≡ false → None ≡ room_needed event (work_of held).state
+    needed_full is = sym (needed_so false is)
+
+    pub needed_there : has_room item (work_of held).state ≡ true → (key : Key) → key ≡ record { epoch = (work_of held).state.head.epoch; connection = number; number = item.made + 1 } → (room : TransactionRoom) → room ≡ room_for (work_of held).state.head key → Some room ≡ room_needed event (work_of held).state
+    needed_there is key next room made =
+        ap Some (made ∙ ap (room_for (work_of held).state.head) (next ∙ ap (λ n. record { epoch = (work_of held).state.head.epoch; connection = n; number = item.made + 1 }) (sym (found-number number (work_of held).state.connections item here))))
+        ∙ sym (needed_so true is)
+
+pub needed_none : (held : Held) (event : Event) → begins_on event ≡ None → None ≡ room_needed event (work_of held).state
+needed_none held event none = sym (ap (λ o. option_and_then (λ n. room_on n (work_of held).state) o) none)
+
+pub ruleset beginning = (numbered_there, made_there, needed_nowhere, needed_full, needed_there, needed_none)
+
+pub ruleset counting = (lines_with_owner)

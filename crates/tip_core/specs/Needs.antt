@@ -1,0 +1,89 @@
+-- What an event needs, made before it happens, and what it comes to where it has that.
+use Rattle.std.specs.Prelude.{ℕ, ◌≡◌, ◌+◌, ◌<◌, ◌≤◌, Bool, true, false, Option, Some, None, is_some, length, if◌then◌else◌}
+use Rattle.std.specs.Option.{option_and_then}
+use Rattle.tip_line.specs.declared.command.Command.{Command as ACommand}
+use Rattle.tip_line.specs.declared.command.Command.TheVariants as commands
+use Rattle.tip_machine.specs.Connections.{has_number}
+use Rattle.tip_machine.specs.Requests.{owner}
+use Rattle.tip_machine.specs.Served.{today}
+use Rattle.tip_machine.specs.States.{State, Work, connection_of, has_room}
+use Rattle.tip_machine.specs.Steps.{attempt, chosen, entered, frozen, is_open, wants}
+use Rattle.tip_machine.specs.Transactions.{next_key}
+use Rattle.tip_machine.specs.Types.{Event}
+use Rattle.tip_machine.specs.declared.event.Change.{Change}
+use Rattle.tip_machine.specs.declared.event.Event.TheVariants.{Line, Lost, Open, Settled, Voted}
+use Rattle.tip_machine.specs.declared.event.Heard.{Heard}
+use Rattle.tip_machine.specs.declared.event.Heard.TheVariants.{Command}
+use Rattle.tip_machine.specs.declared.event.Outcome.{Outcome}
+use Rattle.tip_core.specs.Rooms.{TransactionRoom, room_for}
+use Rattle.tip_core.specs.Works.{Held, IsIdle, MayMake, lines_at, lines_of, work_of}
+
+-- how many lines and closings an answer may have: one for each connection on the transaction, and two on the event's own
+abbrev pub lines_needed : Event → State → ℕ
+lines_needed (Line seat heard) state = lines_at seat.number state + 2
+lines_needed (Voted party) state = lines_of (owner party state) state
+lines_needed (Settled party) state = lines_of (owner party state) state
+lines_needed (Lost seat) state = lines_at seat.number state
+lines_needed other state = 0
+
+-- how many connections an event may add
+abbrev pub connections_for : Event → ℕ
+connections_for (Open boxes) = 1
+connections_for other = 0
+
+-- is it BEGIN?
+abbrev pub begins : Heard → Bool
+begins (Command commands.Begin) = true
+begins other = false
+
+-- the number of the connection on which an event may begin a transaction
+abbrev pub begins_on : Event → Option ℕ
+begins_on (Line seat heard) = if begins heard then Some seat.number else None
+begins_on other = None
+
+-- how many transactions an event may add
+abbrev pub transactions_for : Event → ℕ
+transactions_for event = if is_some (begins_on event) then 1 else 0
+
+-- room for the transaction that an event may begin
+abbrev pub room_on : ℕ → State → Option TransactionRoom
+room_on number state = option_and_then (λ connection. if has_room connection state then Some (room_for state.head (next_key state.head connection)) else None) (connection_of number state)
+
+abbrev pub room_needed : Event → State → Option TransactionRoom
+room_needed event state = option_and_then (λ number. room_on number state) (begins_on event)
+
+-- what a Room has
+pub record Granted : Type 0 where
+  -- for so many lines and closings
+  pub lines : ℕ
+  pub transaction : Option TransactionRoom
+  -- the change of its row that the event wants
+  pub change : Option Change
+
+-- this is room for the event in this state, with so many places free in the tables
+pub record Suits (state : State) (free_connections free_transactions : ℕ) (event : Event) (room : Granted) : Type 0 where
+  pub lines : lines_needed event state ≤ room.lines
+  pub connections : connections_for event ≤ free_connections
+  pub transactions : transactions_for event ≤ free_transactions
+  pub transaction : is_open state ≡ true → room.transaction ≡ room_needed event state
+  pub change : room.change ≡ wants state event
+
+-- the work of an event has what it needs
+pub record HasNeeds (event : Event) (held : Held) : Type 0 where
+  pub lines : lines_needed event (work_of held).state ≤ held.making.free
+  pub connections : connections_for event ≤ held.connections.free
+  pub transactions : transactions_for event ≤ held.transactions.free
+  pub transaction : is_open (work_of held).state ≡ true → held.making.room ≡ room_needed event (work_of held).state
+
+-- the same once the event has its entry
+pub record IsReady (event : Event) (held : Held) : Type 0 where
+  pub here : held.realm < length held.heads.items
+  pub counted : (work_of held).state.head.given < (work_of held).state.head.entries
+  pub lines : lines_needed event (work_of held).state ≤ held.making.free
+  pub connections : connections_for event ≤ held.connections.free
+  pub able : (number : ℕ) → begins_on event ≡ Some number → MayMake number held
+  pub idle : IsIdle held.making.answer
+
+-- what an event comes to, before its lines are put in order
+abbrev pub happened : State → Event → Outcome → Work
+happened state event outcome = if is_open state then chosen (attempt today event (entered state)) outcome else frozen event state

@@ -1,0 +1,178 @@
+//! What an event needs, made before it happens: lines, places in the tables, a transaction that begins, and the change of its row.
+ghost use Rattle.std.specs.Prelude.{◌≡◌, ◌<◌, ◌≤◌, ℕ, length, true, IfOk, OnOk};
+ghost use Rattle.tip_table.specs.Kept.{of};
+ghost use Rattle.tip_machine.specs.Counts.{HasCounts};
+ghost use Rattle.tip_machine.specs.Steps.{is_open, wants};
+ghost use Rattle.tip_machine.specs.Requests.{owner};
+ghost use Rattle.tip_core.specs.Needs.{Suits, begins_on, connections_for, lines_needed, room_needed, transactions_for};
+ghost use Rattle.tip_core.specs.Works.{lines_as, lines_at, lines_for, lines_of, work_of};
+
+use crate::making::Making;
+use crate::query::{Numbered, OnKey};
+use crate::room::Room;
+use crate::transaction_room::TransactionRoom;
+use crate::work::Work;
+use std::alloc::{AllocError, Global};
+use tip_branch::HeldParty;
+use tip_line::Command;
+use tip_machine::{Change, Connection, Event, Heard, Role, Transaction};
+use tip_rows::Key;
+
+impl Work<Connection, Transaction, Making> {
+    /// Room for an event of the realm at hand. The realms stay as they are.
+    pub fn prepare(&mut self, alloc: Global, event: &Event) -> Result<Room, AllocError>
+        requires here { self.old.realm < length self.old.heads.items }
+        requires counts { HasCounts (work_of self.old).state }
+        ensures ok { IfOk result (Suits (work_of self.new).state self.new.connections.free self.new.transactions.free event.now) }
+        ensures connections { (realm : ℕ) → of self.new.connections realm ≡ of self.old.connections realm }
+        ensures transactions { (realm : ℕ) → of self.new.transactions realm ≡ of self.old.transactions realm }
+        ensures rest { self.new ≡ record self.old { connections = self.new.connections; transactions = self.new.transactions } }
+    {
+        self.reserve(event)?;
+        let lines = self.lines_needed(event)?;
+        let transaction = self.room_to_begin(alloc, event)?;
+        let change = self.wants(alloc, event)?;
+        Room::new(alloc, lines, transaction, change)
+    }
+
+    /// Makes a place for a connection or a transaction, where the event may add one.
+    fn reserve(&mut self, event: &Event) -> Result<(), AllocError>
+        ensures places { OnOk result (connections_for event.now ≤ self.new.connections.free) }
+        ensures open { OnOk result (transactions_for event.now ≤ self.new.transactions.free) }
+        ensures connections { (realm : ℕ) → of self.new.connections realm ≡ of self.old.connections realm }
+        ensures transactions { (realm : ℕ) → of self.new.transactions realm ≡ of self.old.transactions realm }
+        ensures rest { self.new ≡ record self.old { connections = self.new.connections; transactions = self.new.transactions } }
+    {
+        if let Event::Open { .. } = event {
+            return self.connections.reserve();
+        }
+        if begins_on(event).is_some() {
+            return self.transactions.reserve();
+        }
+        Ok(())
+    }
+
+    /// The change of its row that the event wants: none in a realm that takes no entry.
+    #[tactic(auto, using(crate::proofs::Foreseeing::wanting))]
+    fn wants(&self, alloc: Global, event: &Event) -> Result<Option<Change>, AllocError>
+        requires { self.now.realm < length self.now.heads.items }
+        ensures { IfOk result (λ change. change ≡ wants (work_of self.now).state event.now) }
+    {
+        if self.is_open() {
+            self.foresee(alloc, event)
+        } else {
+            Ok(None)
+        }
+    }
+
+    /// Room for the transaction that the event may begin, where its realm takes an entry.
+    #[tactic(auto, using(crate::proofs::Needing::beginning))]
+    fn room_to_begin(
+        &self,
+        alloc: Global,
+        event: &Event,
+    ) -> Result<Option<TransactionRoom>, AllocError>
+        requires here { self.now.realm < length self.now.heads.items }
+        requires counts { HasCounts (work_of self.now).state }
+        ensures { is_open (work_of self.now).state ≡ true → IfOk result (λ room. room ≡ room_needed event.now (work_of self.now).state) }
+    {
+        if !self.is_open() {
+            return Ok(None);
+        }
+        let Some(number) = begins_on(event) else {
+            return Ok(None);
+        };
+        let Some(place) = self.connections.find(self.realm, &Numbered { number }) else {
+            return Ok(None);
+        };
+        let connection = self.connection(number, place);
+        if !self.has_room(connection.boxes.len()) {
+            return Ok(None);
+        }
+        let key = self.next_key(number, connection.made);
+        Ok(Some(self.room_for(alloc, key)?))
+    }
+
+    /// How many lines and closings the answer may need: one for each connection on the transaction, and two on the event's own.
+    /// An error is that no memory has room for so many.
+    fn lines_needed(&self, event: &Event) -> Result<usize, AllocError>
+        requires { self.now.realm < length self.now.heads.items }
+        ensures { IfOk result (λ lines. lines ≡ lines_needed event.now (work_of self.now).state) }
+    {
+        match event {
+            Event::Line { seat, heard: _ } => {
+                self.lines_at(seat.number).checked_add(2).ok_or(AllocError)
+            }
+            Event::Voted(party) => Ok(self.lines_of(party)),
+            Event::Settled(party) => Ok(self.lines_of(party)),
+            Event::Lost { seat } => Ok(self.lines_at(seat.number)),
+            Event::Open { .. }
+            | Event::Dial { .. }
+            | Event::AskPush { .. }
+            | Event::AskPull { .. }
+            | Event::Resume { .. } => Ok(0),
+        }
+    }
+
+    /// How many connections are on the transaction that gave a party out.
+    #[tactic(auto, using(crate::proofs::Needing::counting))]
+    fn lines_of(&self, party: &HeldParty) -> usize
+        requires { self.now.realm < length self.now.heads.items }
+        ensures { result ≡ lines_of (owner party.now (work_of self.now).state) (work_of self.now).state }
+    {
+        match self.owner(party) {
+            Some((key, _)) => self.lines_for(key),
+            None => 0,
+        }
+    }
+
+    /// How many connections are on the transaction that the connection of a number is on.
+    fn lines_at(&self, number: u32) -> usize
+        ensures { result ≡ lines_at number (work_of self.now).state }
+    {
+        match self.connections.find(self.realm, &Numbered { number }) {
+            Some(place) => self.lines_as(self.connections.item(place).role),
+            None => 0,
+        }
+    }
+
+    /// How many connections are on the transaction that one of this role is on.
+    fn lines_as(&self, role: Option<Role>) -> usize
+        ensures { result ≡ lines_as role (work_of self.now).state }
+    {
+        match role {
+            Some(role) => self.lines_with(role),
+            None => 0,
+        }
+    }
+
+    /// The same of a connection that is on one.
+    fn lines_with(&self, role: Role) -> usize
+        ensures { result ≡ lines_as (Some role) (work_of self.now).state }
+    {
+        match role {
+            Role::Superior(key) => self.lines_for(key),
+            Role::Subordinate { key, part: _ } => self.lines_for(key),
+        }
+    }
+
+    /// How many connections are on the transaction of a key.
+    fn lines_for(&self, key: Key) -> usize
+        ensures { result ≡ lines_for key (work_of self.now).state }
+    {
+        self.connections.count_passing(self.realm, &OnKey { key })
+    }
+}
+
+/// The number of the connection on which the event may begin a transaction.
+fn begins_on(event: &Event) -> Option<u32>
+    ensures { result ≡ begins_on event.now }
+{
+    match event {
+        Event::Line {
+            seat,
+            heard: Heard::Command(Command::Begin),
+        } => Some(seat.number),
+        _ => None,
+    }
+}

@@ -1,0 +1,91 @@
+//! What a row says of a transaction's parties (RFC 2371, section 10).
+ghost use Rattle.std.specs.Prelude.{◌≡◌, ◌++◌, ◌==◌, ◌&&◌, [], ◌∷◌, filter, IfOk, OnOk};
+ghost use Rattle.std.specs.List.{list_any};
+ghost use Rattle.tip_branch.specs.Members.{is_ready};
+ghost use Rattle.tip_core.specs.Wanting.{has_promised, pairs_of};
+
+use crate::returning::is_yes;
+use std::alloc::{AllocError, Global};
+use tip_branch::Member;
+use tip_line::{Address, Id};
+use tip_rows::{Branches, Label, Subordinates};
+use tip_txn::Participant;
+
+/// The branches whose members promised to commit.
+#[tactic(auto, using(crate::proofs::Outlooks::still_branches))]
+pub(crate) fn promised(
+    alloc: Global,
+    branches: &Branches,
+    members: &[Member],
+) -> Result<Branches, AllocError>
+    ensures { IfOk result (λ kept. kept ≡ filter (has_promised members.now) branches.now) }
+{
+    match Branches::new(kept(alloc, branches.as_slice(), members)?) {
+        Ok(branches) => Ok(branches),
+        Err(_) => unreachable!(),
+    }
+}
+
+/// The same as a list.
+#[tactic(auto, using(crate::proofs::Outlooks::filtering))]
+fn kept(
+    alloc: Global,
+    branches: &[(u8, Label)],
+    members: &[Member],
+) -> Result<Vec<(u8, Label)>, AllocError>
+    ensures { IfOk result (λ kept. kept.items ≡ filter (has_promised members.now) branches.now) }
+{
+    let mut kept = Vec::new(alloc);
+    for branch in branches {
+        keep(&mut kept, branch, members)?;
+    }
+    Ok(kept)
+}
+
+/// Adds a branch, if its member promised to commit.
+fn keep(
+    kept: &mut Vec<(u8, Label)>,
+    branch: &(u8, Label),
+    members: &[Member],
+) -> Result<(), AllocError>
+    ensures { OnOk result (kept.new.items ≡ kept.old.items ++ filter (has_promised members.now) (branch.now ∷ [])) }
+{
+    let (number, label) = branch;
+    if has_promised(members, *number) {
+        kept.push((*number, label.copy()?))?;
+    }
+    Ok(())
+}
+
+/// Whether a branch of this number promised to commit.
+fn has_promised(members: &[Member], number: u8) -> bool
+    ensures { result ≡ list_any (λ member. is_ready member && (member.number == number)) members.now }
+{
+    members
+        .iter()
+        .any(|member| member.is_ready() && member.number == number)
+}
+
+/// The subordinates that said yes, of those that gave an identifier.
+#[tactic(auto, using(crate::proofs::Outlooks::filtering))]
+pub(crate) fn pairs(alloc: Global, others: &[Participant]) -> Result<Subordinates, AllocError>
+    ensures { IfOk result (λ pairs. pairs ≡ pairs_of others.now) }
+{
+    let mut pairs = Vec::new(alloc);
+    for other in others {
+        add_pair(&mut pairs, other)?;
+    }
+    Ok(Subordinates::new(pairs))
+}
+
+/// Adds a subordinate, if it said yes and gave an identifier.
+fn add_pair(pairs: &mut Vec<(Address, Id)>, other: &Participant) -> Result<(), AllocError>
+    ensures { OnOk result (pairs.new.items ≡ pairs.old.items ++ pairs_of (other.now ∷ [])) }
+{
+    if let (Some(address), Some(id)) = (&other.address, &other.id)
+        && is_yes(other.answer)
+    {
+        pairs.push((address.copy()?, id.copy()?))?;
+    }
+    Ok(())
+}

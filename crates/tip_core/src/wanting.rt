@@ -1,0 +1,279 @@
+//! The change of its row that an event wants, by reading alone, so that its outcome can be had before the event happens.
+ghost use Rattle.std.specs.Prelude.{◌≡◌, ◌<◌, Some, length, IfOk};
+ghost use Rattle.tip_branch.specs.Notes.{PartyNotes};
+ghost use Rattle.tip_conn.specs.Table.{admit_of};
+ghost use Rattle.tip_line.specs.Command.{name_of};
+ghost use Rattle.tip_line.specs.declared.command.Command.TheVariants.{Commit};
+ghost use Rattle.tip_table.specs.Kept.{StandsAt};
+ghost use Rattle.tip_txn.specs.Parts.{answered};
+ghost use Rattle.tip_machine.specs.Proceeding.{owed_to_superior};
+ghost use Rattle.tip_machine.specs.States.{seated, transaction_of};
+ghost use Rattle.tip_machine.specs.Transactions.{noting, standing_at};
+ghost use Rattle.tip_machine.specs.Types.{seen, Transaction as ATransaction};
+ghost use Rattle.tip_machine.specs.declared.transaction.PartyPlace.TheVariants.{Here, Spent};
+ghost use Rattle.tip_machine.specs.declared.event.Event.TheVariants.{Line, Resume, Settled, Voted};
+ghost use Rattle.tip_core.specs.Wanting.{abort_for, command_wanted, foreseen, is_admitted, line_wanted, of_superior, outlook, owed_then, resume_wanted, wished};
+ghost use Rattle.tip_core.specs.Works.{is_keyed, work_of};
+
+use crate::commands::superior_role;
+use crate::making::Making;
+use crate::outlook::Outlook;
+use crate::query::SuperiorOf;
+use crate::returning::{answer_of, is_aborting, is_committed, is_committing, is_voting};
+use crate::work::{Work, has_ready};
+use std::alloc::{AllocError, Global};
+use tip_branch::{HeldParty, Member};
+use tip_conn::{Admit, admit};
+use tip_line::{Command, CommandName, Id};
+use tip_machine::{Change, Connection, Event, Heard, PartyPlace, Seat, Transaction};
+use tip_rows::Key;
+use tip_txn::{Ballot, Phase};
+
+impl Work<Connection, Transaction, Making> {
+    /// What the event wants, once it has its entry.
+    pub fn foresee(&self, alloc: Global, event: &Event) -> Result<Option<Change>, AllocError>
+        requires { self.now.realm < length self.now.heads.items }
+        ensures { IfOk result (λ change. change ≡ foreseen event.now (work_of self.now).state) }
+    {
+        match event {
+            Event::Line { seat, heard } => self.wanted_by_line(alloc, *seat, heard),
+            Event::Voted(party) => self.wanted_by_vote(alloc, party),
+            Event::Settled(party) => self.wanted_by_settled(alloc, party),
+            Event::Resume { id } => Ok(self.wanted_by_resume(id)),
+            Event::Open { .. }
+            | Event::Dial { .. }
+            | Event::Lost { .. }
+            | Event::AskPush { .. }
+            | Event::AskPull { .. } => Ok(None),
+        }
+    }
+
+    /// What a line wants: a command, where it may be taken and is valid.
+    fn wanted_by_line(
+        &self,
+        alloc: Global,
+        seat: Seat,
+        heard: &Heard,
+    ) -> Result<Option<Change>, AllocError>
+        requires { self.now.realm < length self.now.heads.items }
+        ensures { IfOk result (λ change. change ≡ foreseen (Line seat heard.now) (work_of self.now).state) }
+    {
+        match heard {
+            Heard::Command(command) => self.wanted_on(alloc, seat, command),
+            Heard::Response(_) | Heard::Malformed => Ok(None),
+        }
+    }
+
+    /// What a command wants that comes for a connection.
+    fn wanted_on(
+        &self,
+        alloc: Global,
+        seat: Seat,
+        command: &Command,
+    ) -> Result<Option<Change>, AllocError>
+        requires { self.now.realm < length self.now.heads.items }
+        ensures { IfOk result (λ change. change ≡ line_wanted (seated seat (work_of self.now).state) command.now (work_of self.now).state) }
+    {
+        let Some(place) = self.seated(seat) else {
+            return Ok(None);
+        };
+        let connection = self.connection(seat.number, place);
+        if connection.may_take() && is_admitted(connection, command) {
+            self.wanted_by_command(alloc, connection, command)
+        } else {
+            Ok(None)
+        }
+    }
+
+    /// What a command wants that is valid on a connection.
+    fn wanted_by_command(
+        &self,
+        alloc: Global,
+        connection: &Connection,
+        command: &Command,
+    ) -> Result<Option<Change>, AllocError>
+        ensures { IfOk result (λ change. change ≡ command_wanted command.now connection.now (work_of self.now).state) }
+    {
+        match command {
+            Command::Commit => self.wanted_by_commit(alloc, connection),
+            Command::Abort => Ok(self.wanted_by_abort(connection)),
+            _ => Ok(None),
+        }
+    }
+
+    /// What the superior's COMMIT wants: the row that all agree on, or the committed one of a transaction in doubt.
+    fn wanted_by_commit(
+        &self,
+        alloc: Global,
+        connection: &Connection,
+    ) -> Result<Option<Change>, AllocError>
+        ensures { IfOk result (λ change. change ≡ command_wanted Commit connection.now (work_of self.now).state) }
+    {
+        let Some(key) = superior_role(connection.role) else {
+            return Ok(None);
+        };
+        let Some(place) = self.transaction(key) else {
+            return Ok(None);
+        };
+        let transaction = self.at(key, place);
+        match transaction.txn.phase() {
+            Phase::Active => {
+                let owed = self.owed_then(CommandName::Commit, connection.number, key);
+                Outlook::asked(transaction).wished(alloc, owed)
+            }
+            Phase::Prepared => Ok(Some(Outlook::of(transaction).committing(alloc)?)),
+            Phase::Asking | Phase::Committed | Phase::Aborted => Ok(None),
+        }
+    }
+
+    /// What will be owed to a transaction's superior, once this command came on the connection of a number.
+    #[tactic(auto, using(crate::proofs::Outlooks::owed_later))]
+    fn owed_then(&self, command: CommandName, number: u32, key: Key) -> Option<CommandName>
+        ensures { result ≡ owed_then command number key (work_of self.now).state }
+    {
+        let place = self.connections.find(self.realm, &SuperiorOf { key })?;
+        let connection = self.connections.item(place);
+        if connection.number == number {
+            return Some(command);
+        }
+        connection.owed
+    }
+
+    /// What the superior's ABORT wants: that the row of a transaction in doubt is removed.
+    fn wanted_by_abort(&self, connection: &Connection) -> Option<Change>
+        ensures { result ≡ of_superior abort_for connection.now (work_of self.now).state }
+    {
+        let key = superior_role(connection.role)?;
+        let place = self.transaction(key)?;
+        let transaction = self.at(key, place);
+        match transaction.txn.phase() {
+            Phase::Prepared => Some(Change::Remove {
+                key: transaction.key,
+            }),
+            Phase::Active | Phase::Asking | Phase::Committed | Phase::Aborted => None,
+        }
+    }
+
+    /// What a vote wants: the row that all agree on.
+    #[tactic(auto, using(crate::proofs::Outlooks::voting_ahead))]
+    fn wanted_by_vote(&self, alloc: Global, party: &HeldParty) -> Result<Option<Change>, AllocError>
+        requires { self.now.realm < length self.now.heads.items }
+        ensures { IfOk result (λ change. change ≡ foreseen (Voted party.now) (work_of self.now).state) }
+    {
+        let Some((key, place)) = self.owner(party) else {
+            return Ok(None);
+        };
+        if is_voting(&self.at(key, place).place) {
+            self.wanted_once_voted(alloc, key, place, answer_of(party), party.party().members())
+        } else {
+            Ok(None)
+        }
+    }
+
+    /// The same, of the transaction that gave the party out.
+    fn wanted_once_voted(
+        &self,
+        alloc: Global,
+        key: Key,
+        place: usize,
+        answer: Ballot,
+        members: &[Member],
+    ) -> Result<Option<Change>, AllocError>
+        requires { StandsAt self.now.transactions self.now.realm (is_keyed key) place }
+        ensures { (t : ATransaction) (party : PartyNotes) → transaction_of key (work_of self.now).state ≡ Some t → members.now ≡ party.members →
+            IfOk result (λ change. change ≡ wished (owed_to_superior key (work_of self.now).state) (outlook (noting 0 (answered answer) (standing_at (Here party) t)))) }
+    {
+        let transaction = self.at(key, place);
+        Outlook::voted(transaction, answer, members).wished(alloc, self.owed_to_superior(key))
+    }
+
+    /// What a party wants that was told the outcome: that the row is removed, where all have acknowledged.
+    #[tactic(auto, using(crate::proofs::Outlooks::settling_ahead))]
+    fn wanted_by_settled(
+        &self,
+        alloc: Global,
+        party: &HeldParty,
+    ) -> Result<Option<Change>, AllocError>
+        requires { self.now.realm < length self.now.heads.items }
+        ensures { IfOk result (λ change. change ≡ foreseen (Settled party.now) (work_of self.now).state) }
+    {
+        let Some((key, place)) = self.owner(party) else {
+            return Ok(None);
+        };
+        let at = &self.at(key, place).place;
+        if is_aborting(at) {
+            return self.wanted_once_back(alloc, key, place, party.party().members());
+        }
+        if !is_committing(at) {
+            return Ok(None);
+        }
+        if has_ready(party) {
+            self.wanted_once_back(alloc, key, place, party.party().members())
+        } else {
+            self.wanted_once_spent(alloc, key, place)
+        }
+    }
+
+    /// The same, where the party is with its transaction then.
+    fn wanted_once_back(
+        &self,
+        alloc: Global,
+        key: Key,
+        place: usize,
+        members: &[Member],
+    ) -> Result<Option<Change>, AllocError>
+        requires { StandsAt self.now.transactions self.now.realm (is_keyed key) place }
+        ensures { (t : ATransaction) (party : PartyNotes) → transaction_of key (work_of self.now).state ≡ Some t → members.now ≡ party.members →
+            IfOk result (λ change. change ≡ wished (owed_to_superior key (work_of self.now).state) (outlook (standing_at (Here party) t))) }
+    {
+        let transaction = self.at(key, place);
+        Outlook::back(transaction, members).wished(alloc, self.owed_to_superior(key))
+    }
+
+    /// The same, where the party is let go then.
+    fn wanted_once_spent(
+        &self,
+        alloc: Global,
+        key: Key,
+        place: usize,
+    ) -> Result<Option<Change>, AllocError>
+        requires { StandsAt self.now.transactions self.now.realm (is_keyed key) place }
+        ensures { (t : ATransaction) → transaction_of key (work_of self.now).state ≡ Some t →
+            IfOk result (λ change. change ≡ wished (owed_to_superior key (work_of self.now).state) (outlook (standing_at Spent t))) }
+    {
+        let transaction = self.at(key, place);
+        Outlook::spent(transaction).wished(alloc, self.owed_to_superior(key))
+    }
+
+    /// What it wants that a transaction is tried again: that its row is removed, where only this is left.
+    fn wanted_by_resume(&self, id: &Id) -> Option<Change>
+        requires { self.now.realm < length self.now.heads.items }
+        ensures { result ≡ foreseen (Resume id.now) (work_of self.now).state }
+    {
+        let (key, place) = self.identified(id)?;
+        wanted_again(self.at(key, place))
+    }
+}
+
+/// The same of the transaction that is meant.
+fn wanted_again(transaction: &Transaction) -> Option<Change>
+    ensures { result ≡ resume_wanted (seen transaction.now) }
+{
+    if !is_committed(transaction.txn.phase()) {
+        return None;
+    }
+    match &transaction.place {
+        PartyPlace::Spent => Outlook::of(transaction).finished(),
+        PartyPlace::Here(_) | PartyPlace::Out(_) => None,
+    }
+}
+
+/// Whether a command is valid on a connection.
+fn is_admitted(connection: &Connection, command: &Command) -> bool
+    ensures { result ≡ is_admitted (admit_of connection.now.state connection.now.side (name_of command.now)) }
+{
+    match admit(connection.state, connection.side, command) {
+        Admit::Serve => true,
+        Admit::Wrong => false,
+    }
+}
