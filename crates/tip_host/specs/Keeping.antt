@@ -1,0 +1,39 @@
+-- What an event does to the rows in the store.
+use Rattle.std.specs.Prelude.{◌≡◌, ◌≢◌, ◌⊎◌, ℕ, List, Bool, IsTrue, true, false, ◌&&◌, Option, Some, None, if◌then◌else◌}
+use Rattle.std.specs.Str.{bytes_eq}
+use Rattle.tip_rows.specs.Logs.{Log, IsSettled, counted, with_row, without_row}
+use Rattle.tip_machine.specs.declared.event.Change.{Change}
+use Rattle.tip_machine.specs.declared.event.Change.TheVariants.{Put, Remove}
+use Rattle.tip_machine.specs.declared.event.Outcome.{Outcome}
+use Rattle.tip_machine.specs.declared.event.Outcome.TheVariants.{NoChange, Stored, Refused}
+
+-- the log with a change of a realm's rows
+abbrev pub with_change : List ℕ → Change → Log → Log
+with_change realm (Put key row) log = with_row realm key row log
+with_change realm (Remove key) log = without_row realm key log
+
+-- the log after an event that may have wanted a change
+abbrev pub log_after : List ℕ → Option Change → Outcome → Log → Log
+log_after realm (Some change) Stored log = with_change realm change log
+log_after realm change outcome log = log
+
+abbrev pub is_refusal : Outcome → Bool
+is_refusal NoChange = false
+is_refusal Stored = false
+is_refusal Refused = true
+
+abbrev pub is_change : Option Change → Bool
+is_change None = false
+is_change (Some change) = true
+
+-- WHAT BECAME OF THE CHANGE that an event of this realm wanted, if any: the outcome says whether the store has made it. At most
+-- one change is made, a refusal is counted, and a stop leaves what it might have left before, or the rows with the change.
+pub record Keeps {S : Type 0} (stands may_leave : S → Log → Type 0) (is_true : S → Type 0) (faults : S → ℕ) (is_due : S → List ℕ → Bool) (realm : List ℕ) (change : Option Change) (outcome : Outcome) (old new : S) : Type 0 where
+  pub rows : (log : Log) → stands old log → stands new (log_after realm change outcome log)
+  pub counts : faults new ≡ counted (is_refusal outcome) (faults old)
+  pub truth : is_true new → is_true old
+  pub stop : (log : Log) → stands old log → is_true new → (left : Log) → may_leave new left → may_leave old left ⊎ (left ≡ log_after realm change Stored log)
+  pub settled : is_true new → outcome ≡ Stored → IsSettled stands may_leave new
+  -- a refusal that was asked for comes at the realm's next change
+  pub due : IsTrue (is_due old realm) → outcome ≢ Stored
+  pub spent : (other : List ℕ) → is_due new other ≡ (if is_change change && bytes_eq realm other then false else is_due old other)

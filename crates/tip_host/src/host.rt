@@ -1,0 +1,90 @@
+//! The core of all realms over a store of their rows.
+ghost use Rattle.std.specs.Prelude.{◌≡◌, ℕ, None, Some, true, false, IfOk, IfErr};
+ghost use Rattle.tip_branch.specs.Always.{Always};
+ghost use Rattle.tip_core.specs.Hosted.{realm as realm_at, HaveNames, Steps};
+ghost use Rattle.tip_machine.specs.States.{State};
+ghost use Rattle.tip_machine.specs.Steps.{fits, wants};
+ghost use Rattle.tip_host.specs.Keeping.{Keeps};
+
+use crate::keeping::keep;
+use std::alloc::Global;
+use thiserror::Error;
+use tip_core::{Core, Happened};
+use tip_machine::{Event, Outcome};
+use tip_rows::RowLog;
+
+/// Why an event did not happen.
+#[derive(Clone, Copy, Debug, PartialEq, Eq, Error)]
+pub enum HostFault {
+    #[error("the host is stopped")]
+    Stopped,
+    #[error("out of memory")]
+    Memory,
+}
+
+/// All realms, each by its place in the order of declaration, and the store of their rows.
+#[derive(Drop)]
+pub struct Host<S, C = Core> {
+    pub store: S,
+    pub core: C,
+    pub is_stopped: bool,
+}
+
+impl<S: RowLog> Host<S, Core> {
+    /// These realms over this store.
+    pub fn new(store: S, core: Core) -> Host<S, Core>
+        requires { Always }
+        ensures store { result.store ≡ store }
+        ensures core { result.core ≡ core }
+        ensures stopped { result.is_stopped ≡ false }
+    {
+        Host {
+            store,
+            core,
+            is_stopped: false,
+        }
+    }
+
+    /// One event of one realm: the change that it wants is asked of the store, at most one; then its realm goes on by what
+    /// became of it. A fault hands the event back, and nothing has happened.
+    pub fn step(
+        &mut self,
+        alloc: Global,
+        realm: usize,
+        event: Event,
+    ) -> Result<Happened, (HostFault, Event)>
+        requires { Always }
+        ensures steps { IfOk result (λ happened. Steps self.old.core self.new.core realm event happened.outcome happened.answer) }
+        ensures wanted { IfOk result (λ happened. (state : State) → realm_at self.old.core realm ≡ Some state → happened.change ≡ wants state event) }
+        ensures absent { IfOk result (λ happened. realm_at self.old.core realm ≡ None → (happened.change ≡ None) × (self.new.store ≡ self.old.store)) }
+        ensures fits { IfOk result (λ happened. fits happened.change happened.outcome ≡ true) }
+        ensures keeps { IfOk result (λ happened. (state : State) → realm_at self.old.core realm ≡ Some state →
+            Keeps S.stands S.may_leave S.is_true S.faults S.is_due state.head.name happened.change happened.outcome self.old.store self.new.store) }
+        ensures back { IfErr result (λ fault. fault.1 ≡ event) }
+        ensures store { IfErr result (λ fault. self.new.store ≡ self.old.store) }
+        ensures realms { IfErr result (λ fault. (place : ℕ) → realm_at self.new.core place ≡ realm_at self.old.core place) }
+        ensures names { IfOk result (λ happened. HaveNames self.new.core) }
+        ensures stopped { self.new.is_stopped ≡ self.old.is_stopped }
+        ensures running { IfOk result (λ happened. self.old.is_stopped ≡ false) }
+    {
+        if self.is_stopped {
+            return Err((HostFault::Stopped, event));
+        }
+        let room = match self.core.room(alloc, realm, &event) {
+            Ok(room) => room,
+            Err(_) => return Err((HostFault::Memory, event)),
+        };
+        let outcome = match self.core.name(realm) {
+            Some(name) => keep(&mut self.store, name, room.wants()),
+            None => Outcome::NoChange,
+        };
+        Ok(self.core.apply(realm, event, room, outcome))
+    }
+
+    /// From now on each step is refused.
+    pub fn stop(&mut self)
+        ensures { self.new ≡ record self.old { is_stopped = true } }
+    {
+        self.is_stopped = true;
+    }
+}
