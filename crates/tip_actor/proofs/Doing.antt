@@ -1,0 +1,140 @@
+-- What a realm at work has done.
+use Rattle.std.proofs.Common.{◌≡◌, ◌∙◌, ◌++◌, ◌∷◌, [], ℕ, Bool, true, false, List, Option, Some, None, refl, ap, sym, subst}
+use Rattle.std.specs.Prelude.{if◌then◌else◌}
+use Rattle.std.specs.Option.{option_to_list}
+use Rattle.std.proofs.lemmas.Bool.{false≢true}
+use Rattle.tip_branch.specs.Notes.{PartyNotes}
+use Rattle.tip_machine.proofs.Stepping.{step-named}
+use Rattle.tip_machine.specs.Moves.{stepped}
+use Rattle.tip_machine.specs.Outputs.{drops_of, outputs}
+use Rattle.tip_machine.specs.Returns.{event_of}
+use Rattle.tip_machine.specs.Served.{today}
+use Rattle.tip_machine.specs.Steps.{step, wants}
+use Rattle.tip_machine.specs.Types.{Answer, Event}
+use Rattle.tip_transcript.specs.Printing.{idle_text, shown_text}
+use Rattle.tip_actor.specs.Acting.{Acting, Done, Reading, after_sent, answer_in, drops_from, goes_for, happens, outcome_in, quiet, still_due, with_opened}
+use Rattle.tip_actor.specs.Promises.{answers_of, are_foretold}
+use Rattle.tip_actor.specs.Standing.{Actor, AreReadings, Happened, Host, IsActing, IsDone, IsServed, Leaves, Serves, Tells}
+
+-- nothing has happened to the other realms
+pub stays : (host : Host) (place : ℕ) (name : List ℕ) → Leaves host host place name
+stays host place name = record { realms = λ other differ. refl; due = λ other differ. refl; known = λ other. refl }
+
+pub leaves_on : (first second third : Host) (place : ℕ) (name : List ℕ) → Leaves first second place name → Leaves second third place name → Leaves first third place name
+leaves_on first second third place name before then_ = record {
+  realms = λ other differ. then_.realms other differ ∙ before.realms other differ;
+  due = λ other differ. then_.due other differ ∙ before.due other differ;
+  known = λ other. then_.known other ∙ before.known other;
+}
+
+-- One event
+
+shown_is : (event : Event) (acting : Acting) → (stepped today event (outcome_in acting event) acting.world).shown ≡ outputs event (wants acting.world.state event) (outcome_in acting event) (answer_in acting event)
+unfolding stepped
+shown_is event acting = refl
+
+state_is : (event : Event) (acting : Acting) → (stepped today event (outcome_in acting event) acting.world).world.state ≡ (step acting.world.state event (outcome_in acting event)).state
+unfolding stepped
+state_is event acting = refl
+
+errands_are : (event : Event) (acting : Acting) → (stepped today event (outcome_in acting event) acting.world).world.errands ≡ acting.world.errands ++ option_to_list (answer_in acting event).work
+unfolding stepped
+errands_are event acting = refl
+
+pub has_happened : (host host' : Host) (place : ℕ) (actor actor' : Actor) (event : Event) (happened : Happened) (printed printed' : List ℕ) (acting : Acting) → IsActing host place actor acting →
+    (IsServed host place acting.world.state actor.is_due → Serves host host' place acting.world.state actor.is_due event happened) →
+    printed' ≡ printed ++ shown_text actor.name (outputs event happened.change happened.outcome happened.answer) →
+    actor'.name ≡ actor.name → actor'.is_due ≡ still_due actor.is_due happened.change →
+    ((readings : List Reading) → AreReadings actor.readers.items readings → AreReadings actor'.readers.items (with_opened happened.answer.opened (after_sent happened.answer.sent readings))) →
+    actor'.errands.items ≡ actor.errands.items ++ option_to_list happened.answer.work →
+    IsDone host host' place actor actor' printed printed' (happens event acting)
+has_happened host host' place actor actor' event happened printed printed' acting is serves text name due readings errands =
+    let went = subst (λ d. Serves host host' place acting.world.state d event happened) is.due (serves (subst (IsServed host place acting.world.state) (sym is.due) is.served)) in
+    record {
+      own = record {
+        served = subst (λ s. IsServed host' place s (still_due acting.due (wants acting.world.state event))) (sym (state_is event acting)) went.served;
+        named = ap (λ (s : _). s.head.name) (state_is event acting) ∙ step-named today acting.world.state event (outcome_in acting event) ∙ is.named;
+        name = name ∙ is.name;
+        errands = errands ∙ ap (λ l. l ++ option_to_list happened.answer.work) is.errands ∙ ap (λ (a : Answer). acting.world.errands ++ option_to_list a.work) went.answer ∙ sym (errands_are event acting);
+        due = due ∙ ap (λ d. still_due d happened.change) is.due ∙ ap (still_due acting.due) went.change;
+        readings = subst (λ (a : Answer). AreReadings actor'.readers.items (with_opened a.opened (after_sent a.sent acting.readings))) went.answer (readings acting.readings is.readings);
+      };
+      leaves = subst (Leaves host host' place) (is.named ∙ sym is.name) went.leaves;
+      name = name;
+      text = text ∙ ap (λ n. printed ++ shown_text n (outputs event happened.change happened.outcome happened.answer)) is.name ∙ ap (λ c. printed ++ shown_text acting.name (outputs event c happened.outcome happened.answer)) went.change ∙ ap (λ o. printed ++ shown_text acting.name (outputs event (wants acting.world.state event) o happened.answer)) went.outcome ∙ ap (λ a. printed ++ shown_text acting.name (outputs event (wants acting.world.state event) (outcome_in acting event) a)) went.answer ∙ ap (λ o. printed ++ shown_text acting.name o) (sym (shown_is event acting));
+    }
+
+-- Errands
+
+pub idle : (host : Host) (place : ℕ) (actor : Actor) (printed printed' : List ℕ) (acting : Acting) → IsActing host place actor acting → printed' ≡ printed ++ idle_text actor.name → IsDone host host place actor actor printed printed' (record { printed = idle_text acting.name; acting = acting })
+idle host place actor printed printed' acting is text = record { own = is; leaves = stays host place actor.name; name = refl; text = text ∙ ap (λ n. printed ++ idle_text n) is.name }
+
+-- without the oldest errand
+abbrev pub popped : Acting → List PartyNotes → Acting
+popped acting errands = record acting { world = record acting.world { errands = errands } }
+
+pub pops : (host : Host) (place : ℕ) (actor actor' : Actor) (acting : Acting) (errands : List PartyNotes) → IsActing host place actor acting → actor'.name ≡ actor.name → actor'.is_due ≡ actor.is_due → actor'.readers ≡ actor.readers → actor'.errands.items ≡ errands → IsActing host place actor' (popped acting errands)
+pops host place actor actor' acting errands is name due readers left = record {
+  served = is.served;
+  named = is.named;
+  name = name ∙ is.name;
+  errands = left;
+  due = due ∙ is.due;
+  readings = subst (λ r. AreReadings r.items acting.readings) (sym readers) is.readings;
+}
+
+none_out : (acting : Acting) → acting.world.errands ≡ [] → drops_from acting.world.errands acting ≡ record { printed = idle_text acting.name; acting = acting }
+none_out acting none = ap (λ l. drops_from l acting) none
+
+pub has_dropped : (host : Host) (place : ℕ) (actor actor' : Actor) (printed printed' : List ℕ) (acting : Acting) (party : PartyNotes) (errands : List PartyNotes) → IsActing host place actor acting → actor.errands.items ≡ party ∷ errands → actor'.name ≡ actor.name → actor'.is_due ≡ actor.is_due → actor'.readers ≡ actor.readers → actor'.errands.items ≡ errands → printed' ≡ printed ++ shown_text actor.name (drops_of party) → IsDone host host place actor actor' printed printed' (drops_from acting.world.errands acting)
+has_dropped host place actor actor' printed printed' acting party errands is out name due readers left text =
+    subst (λ l. IsDone host host place actor actor' printed printed' (drops_from l acting)) (sym out ∙ is.errands) (record {
+      own = pops host place actor actor' acting errands is name due readers left;
+      leaves = stays host place actor.name;
+      name = name;
+      text = text ∙ ap (λ n. printed ++ shown_text n (drops_of party)) is.name;
+    })
+
+pub has_none_to_drop : (host : Host) (place : ℕ) (actor actor' : Actor) (printed printed' : List ℕ) (acting : Acting) → IsActing host place actor acting → actor.errands.items ≡ [] → actor'.name ≡ actor.name → actor'.is_due ≡ actor.is_due → actor'.readers ≡ actor.readers → actor'.errands.items ≡ [] → printed' ≡ printed ++ idle_text actor.name → IsDone host host place actor actor' printed printed' (drops_from acting.world.errands acting)
+has_none_to_drop host place actor actor' printed printed' acting is out name due readers left text =
+    subst (λ l. IsDone host host place actor actor' printed printed' (drops_from l acting)) (sym out ∙ is.errands) (record {
+      own = subst (λ l. IsActing host place actor' (popped acting l)) (sym out ∙ is.errands) (pops host place actor actor' acting [] is name due readers left);
+      leaves = stays host place actor.name;
+      name = name;
+      text = text ∙ ap (λ n. printed ++ idle_text n) is.name;
+    })
+
+-- the oldest errand is done
+goes_by : (party : PartyNotes) (errands : List PartyNotes) (acting : Acting) (told : Bool) (event : Event) → are_foretold party ≡ told → Some event ≡ (if told then Some (event_of party (answers_of party)) else None) → goes_for (party ∷ errands) acting ≡ Some (happens event (popped acting errands))
+goes_by party errands acting true event told is = rw told (ap (λ e. option_happens e) (sym is)) where
+  option_happens : Option Event → Option Done
+  option_happens None = None
+  option_happens (Some e) = Some (happens e (popped acting errands))
+goes_by party errands acting false event told is = absurd (cc)
+
+pub has_gone : (host host' : Host) (place : ℕ) (actor mid actor' : Actor) (printed printed' : List ℕ) (acting : Acting) (party : PartyNotes) (errands : List PartyNotes) (event : Event) → IsActing host place actor acting → actor.errands.items ≡ party ∷ errands → mid.name ≡ actor.name → mid.is_due ≡ actor.is_due → mid.readers ≡ actor.readers → mid.errands.items ≡ errands →
+    Some event ≡ (if are_foretold party then Some (event_of party (answers_of party)) else None) → ((a : Acting) → IsActing host place mid a → IsDone host host' place mid actor' printed printed' (happens event a)) →
+    Tells host host' place actor actor' printed printed' true (goes_for acting.world.errands acting)
+has_gone host host' place actor mid actor' printed printed' acting party errands event is out name due readers left is_event acts =
+    let done = acts (popped acting errands) (pops host place actor mid acting errands is name due readers left) in
+    subst (λ l. Tells host host' place actor actor' printed printed' true (goes_for l acting)) (sym out ∙ is.errands)
+    (subst (Tells host host' place actor actor' printed printed' true) (sym (goes_by party errands acting (are_foretold party) event refl is_event))
+    (record { own = done.own; leaves = subst (Leaves host host' place) name done.leaves; name = done.name ∙ name; text = done.text }))
+
+goes_not : (party : PartyNotes) (errands : List PartyNotes) (acting : Acting) (told : Bool) → are_foretold party ≡ told → None ≡ (if told then Some (event_of party (answers_of party)) else None) → goes_for (party ∷ errands) acting ≡ None
+goes_not party errands acting true told is = absurd (cc)
+goes_not party errands acting false told is = rw told refl
+
+pub has_not_gone : (host host' : Host) (place : ℕ) (actor actor' : Actor) (printed : List ℕ) (acting : Acting) (party : PartyNotes) (errands : List PartyNotes) → IsActing host place actor acting → actor.errands.items ≡ party ∷ errands → None ≡ (if are_foretold party then Some (event_of party (answers_of party)) else None) → Tells host host' place actor actor' printed printed false (goes_for acting.world.errands acting)
+has_not_gone host host' place actor actor' printed acting party errands is out none =
+    subst (λ l. Tells host host' place actor actor' printed printed false (goes_for l acting)) (sym out ∙ is.errands)
+    (subst (Tells host host' place actor actor' printed printed false) (sym (goes_not party errands acting (are_foretold party) refl none)) refl)
+
+pub has_none_to_go : (host : Host) (place : ℕ) (actor actor' : Actor) (printed printed' : List ℕ) (acting : Acting) → IsActing host place actor acting → actor.errands.items ≡ [] → actor'.name ≡ actor.name → actor'.is_due ≡ actor.is_due → actor'.readers ≡ actor.readers → actor'.errands.items ≡ [] → printed' ≡ printed ++ idle_text actor.name → Tells host host place actor actor' printed printed' true (goes_for acting.world.errands acting)
+has_none_to_go host place actor actor' printed printed' acting is out name due readers left text =
+    subst (λ l. Tells host host place actor actor' printed printed' true (goes_for l acting)) (sym out ∙ is.errands) (record {
+      own = subst (λ l. IsActing host place actor' (popped acting l)) (sym out ∙ is.errands) (pops host place actor actor' acting [] is name due readers left);
+      leaves = stays host place actor.name;
+      name = name;
+      text = text ∙ ap (λ n. printed ++ idle_text n) is.name;
+    })

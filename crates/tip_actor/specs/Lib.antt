@@ -1,0 +1,3 @@
+pub mod Promises
+pub mod Acting
+pub mod Standing

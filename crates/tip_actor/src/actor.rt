@@ -1,0 +1,158 @@
+//! A realm of a script at work.
+ghost use Rattle.std.specs.Prelude.{◌≡◌, ◌++◌, ℕ, List, [], true, false, OnOk, IfOk, string_bytes, is_some};
+ghost use Rattle.std.specs.Option.{option_to_list};
+ghost use Rattle.tip_machine.specs.States.{State};
+ghost use Rattle.tip_machine.specs.declared.event.Outcome.TheVariants.{Refused};
+ghost use Rattle.tip_actor.specs.Acting.{Acting, Reading, after_sent, answer_in, happens, lost_on, still_due, with_opened};
+ghost use Rattle.tip_actor.specs.Standing.{Acts, AreReadings, IsActing, IsServed, Serves};
+
+use crate::reader::Reader;
+use std::alloc::{AllocError, Global};
+use std::collections::VecDeque;
+use tip_branch::HeldParty;
+use tip_core::Happened;
+use tip_host::Host;
+use tip_line::Realm;
+use tip_machine::{Event, Item, Outcome, Seat, Sent};
+use tip_rows::MemRows;
+use tip_transcript::{print, print_brought};
+
+/// A realm, who reads what comes on its connections, and its parties that are out.
+#[derive(Drop)]
+pub struct Actor<P = HeldParty> {
+    pub name: Realm,
+    /// The reader of connection n is the one at index n - 1.
+    pub readers: Vec<Reader>,
+    /// The oldest first.
+    pub errands: VecDeque<P>,
+    /// The realm's next change of rows is to be refused.
+    pub is_due: bool,
+}
+
+impl Actor<HeldParty> {
+    /// A realm at its start.
+    pub fn new(alloc: Global, name: Realm) -> Actor<HeldParty>
+        ensures name { result.name ≡ name }
+        ensures readers { result.readers.items ≡ [] }
+        ensures errands { result.errands.items ≡ [] }
+        ensures due { result.is_due ≡ false }
+    {
+        Actor {
+            name,
+            readers: Vec::new(alloc),
+            errands: VecDeque::new(alloc),
+            is_due: false,
+        }
+    }
+
+    /// One event of the realm, which has this place in the host; what it shows is printed. It says whether the event was refused.
+    pub fn happen(
+        &mut self,
+        alloc: Global,
+        host: &mut Host<MemRows>,
+        place: usize,
+        event: Event,
+        printed: &mut String,
+    ) -> Result<bool, AllocError>
+        ensures acts { OnOk result (Acts host.old host.new place self.old self.new (string_bytes printed.old) (string_bytes printed.new) (happens event)) }
+        ensures refused { (acting : Acting) → IsActing host.old place self.old acting → IfOk result (λ refused. refused ≡ is_some (answer_in acting event).refusal) }
+    {
+        let mut calls = String::new(alloc);
+        print_brought(&mut calls, self.name.as_str(), &event)?;
+        let happened = step(host, alloc, place, event, self.is_due)?;
+        print(printed, alloc, &self.name, &calls, &happened)?;
+        let is_refused = happened.answer.refusal.is_some();
+        self.learn(happened)?;
+        Ok(is_refused)
+    }
+
+    /// Takes in what an event has come to: a refusal that was due is over, what was read on closed connections is gone, a new
+    /// connection has a reader, and a party is out.
+    fn learn(&mut self, happened: Happened) -> Result<(), AllocError>
+        ensures name { self.new.name ≡ self.old.name }
+        ensures due { OnOk result (self.new.is_due ≡ still_due self.old.is_due happened.change) }
+        ensures readings { (readings : List Reading) → AreReadings self.old.readers.items readings → OnOk result (AreReadings self.new.readers.items (with_opened happened.answer.opened (after_sent happened.answer.sent readings))) }
+        ensures errands { OnOk result (self.new.errands.items ≡ self.old.errands.items ++ option_to_list happened.answer.work) }
+    {
+        self.is_due = self.is_due && happened.change.is_none();
+        self.forget_closed(happened.answer.sent.as_slice());
+        self.give(happened.answer.opened)?;
+        self.send(happened.into_work())
+    }
+
+    /// A party goes out, if one does.
+    fn send(&mut self, work: Option<HeldParty>) -> Result<(), AllocError>
+        ensures same { (self.new.name ≡ self.old.name) × (self.new.readers ≡ self.old.readers) × (self.new.is_due ≡ self.old.is_due) }
+        ensures errands { OnOk result (self.new.errands.items ≡ self.old.errands.items ++ option_to_list work) }
+    {
+        if let Some(party) = work {
+            self.errands.push_back(party)?;
+        }
+        Ok(())
+    }
+
+    /// A reader for the connection of this seat, if one was given.
+    fn give(&mut self, opened: Option<Seat>) -> Result<(), AllocError>
+        ensures same { (self.new.name ≡ self.old.name) × (self.new.errands ≡ self.old.errands) × (self.new.is_due ≡ self.old.is_due) }
+        ensures readings { (readings : List Reading) → AreReadings self.old.readers.items readings → OnOk result (AreReadings self.new.readers.items (with_opened opened readings)) }
+    {
+        if let Some(seat) = opened {
+            self.readers.push(Reader::new(seat))?;
+        }
+        Ok(())
+    }
+
+    /// What was read on connections that are closed is gone.
+    fn forget_closed(&mut self, all: &[Sent])
+        ensures same { (self.new.name ≡ self.old.name) × (self.new.errands ≡ self.old.errands) × (self.new.is_due ≡ self.old.is_due) }
+        ensures readings { (readings : List Reading) → AreReadings self.old.readers.items readings → AreReadings self.new.readers.items (after_sent all.now readings) }
+    {
+        for sent in all {
+            if let Item::Close = sent.item {
+                self.forget(sent.connection);
+            }
+        }
+    }
+
+    /// What was read on a connection is gone.
+    pub fn forget(&mut self, connection: u32)
+        ensures same { (self.new.name ≡ self.old.name) × (self.new.errands ≡ self.old.errands) × (self.new.is_due ≡ self.old.is_due) }
+        ensures readings { (readings : List Reading) → AreReadings self.old.readers.items readings → AreReadings self.new.readers.items (lost_on connection readings) }
+    {
+        if let Some(index) = (connection as usize).checked_sub(1) {
+            if let Some(reader) = self.readers.get_mut(index) {
+                reader.restart();
+            }
+        }
+    }
+}
+
+/// One event of a realm by the host, whose store refuses its change only where that is due: want of memory there ends the script.
+fn step(
+    host: &mut Host<MemRows>,
+    alloc: Global,
+    place: usize,
+    event: Event,
+    is_due: bool,
+) -> Result<Happened, AllocError>
+    ensures { (state : State) → IsServed host.old place state is_due → IfOk result (λ happened. Serves host.old host.new place state is_due event happened) }
+{
+    let happened = match host.step(alloc, place, event) {
+        Ok(happened) => happened,
+        Err(_) => return Err(AllocError),
+    };
+    if is_unforeseen(happened.outcome, is_due) {
+        return Err(AllocError);
+    }
+    Ok(happened)
+}
+
+/// Whether a change was refused though that was not due.
+fn is_unforeseen(outcome: Outcome, is_due: bool) -> bool
+    ensures { result ≡ false → outcome ≡ Refused → is_due ≡ true }
+{
+    match outcome {
+        Outcome::Refused => !is_due,
+        Outcome::NoChange | Outcome::Stored => false,
+    }
+}

@@ -1,0 +1,111 @@
+//! The parties of a realm that are out.
+ghost use Rattle.std.specs.Prelude.{◌≡◌, ◌++◌, ◌&&◌, if◌then◌else◌, Some, None, IfOk, OnOk, string_bytes};
+ghost use Rattle.std.specs.List.{list_all};
+ghost use Rattle.tip_branch.specs.declared.member.Errand.TheVariants as Errand;
+ghost use Rattle.tip_host.specs.Errands.{are_untold};
+ghost use Rattle.tip_machine.specs.Returns.{event_of};
+ghost use Rattle.tip_actor.specs.Acting.{Acting, drops_from, goes_for};
+ghost use Rattle.tip_actor.specs.Promises.{answers_of, are_foretold, is_promised};
+ghost use Rattle.tip_actor.specs.Standing.{IsActing, IsDone, Tells};
+
+use crate::actor::Actor;
+use std::alloc::{AllocError, Global};
+use tip_branch::{Errand, HeldParty, Member, Plan};
+use tip_host::{Host, done};
+use tip_machine::Event;
+use tip_rows::MemRows;
+use tip_transcript::{print_drops, print_idle};
+
+impl Actor<HeldParty> {
+    /// The realm's oldest errand is done, and its party comes back. It says whether that can be told in a script, where each branch
+    /// has promised what it answers.
+    pub fn go(
+        &mut self,
+        alloc: Global,
+        host: &mut Host<MemRows>,
+        place: usize,
+        printed: &mut String,
+    ) -> Result<bool, AllocError>
+        ensures { (acting : Acting) → IsActing host.old place self.old acting → IfOk result (λ told. Tells host.old host.new place self.old self.new (string_bytes printed.old) (string_bytes printed.new) told (goes_for acting.world.errands acting)) }
+    {
+        let Some(party) = self.errands.pop_front() else {
+            print_idle(printed, self.name.as_str())?;
+            return Ok(true);
+        };
+        let Some(event) = foretold(party) else {
+            return Ok(false);
+        };
+        self.happen(alloc, host, place, event, printed)?;
+        Ok(true)
+    }
+
+    /// The realm's oldest errand is lost.
+    pub fn lose(
+        &mut self,
+        host: &Host<MemRows>,
+        place: usize,
+        printed: &mut String,
+    ) -> Result<(), AllocError>
+        ensures { (acting : Acting) → IsActing host.now place self.old acting → OnOk result (IsDone host.now host.now place self.old self.new (string_bytes printed.old) (string_bytes printed.new) (drops_from acting.world.errands acting)) }
+    {
+        match self.errands.pop_front() {
+            Some(party) => print_drops(printed, self.name.as_str(), &party),
+            None => print_idle(printed, self.name.as_str()),
+        }
+    }
+}
+
+/// A party as it comes back from its errand, where all that is answered is promised.
+#[tactic(auto, using(crate::proofs::Promised::foretelling))]
+fn foretold(party: HeldParty) -> Option<Event>
+    ensures { result ≡ (if are_foretold party then Some (event_of party (answers_of party)) else None) }
+{
+    if is_foretold(&party) {
+        Some(done(party))
+    } else {
+        None
+    }
+}
+
+/// Whether nobody was called yet, and all that will be answered is promised.
+fn is_foretold(party: &HeldParty) -> bool
+    ensures { result ≡ are_foretold party.now }
+{
+    let party = party.party();
+    let members = party.members();
+    are_untold(members) && are_promised(party.errand(), members)
+}
+
+/// Whether nobody was called since the errand was given.
+fn are_untold(members: &[Member]) -> bool
+    ensures { result ≡ are_untold members.now }
+{
+    members.iter().all(|member| member.call.is_none())
+}
+
+/// Whether all that will be answered to this errand is promised.
+fn are_promised(errand: Errand, members: &[Member]) -> bool
+    ensures { result ≡ list_all (is_promised errand) members.now }
+{
+    members.iter().all(|member| is_promised(errand, member))
+}
+
+/// Whether what a member answers to this errand is promised.
+fn is_promised(errand: Errand, member: &Member) -> bool
+    ensures { result ≡ is_promised errand member.now }
+{
+    match errand {
+        Errand::Vote => member.standing.badge.plan.vote().is_some(),
+        Errand::Commit => commits_as_promised(member),
+        Errand::Idle | Errand::Abort => true,
+    }
+}
+
+/// Whether what a member answers to a commit is promised.
+fn commits_as_promised(member: &Member) -> bool
+    ensures { result ≡ is_promised Errand.Commit member.now }
+{
+    let plan = member.standing.badge.plan;
+    plan.answer(member.standing.told.commits).is_some()
+        && (plan != Plan::Late || member.vote.is_some())
+}

@@ -1,0 +1,11 @@
+//! A realm of a script at work: who reads its connections, its parties that are out, and what its events print.
+#![tactic(auto)]
+
+mod actor;
+mod errands;
+mod lines;
+mod reader;
+mod scripted;
+
+pub use actor::Actor;
+pub use scripted::Scripted;

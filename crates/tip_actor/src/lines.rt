@@ -1,0 +1,50 @@
+//! Lines that come on the connections of a realm, and wait until they may be taken.
+ghost use Rattle.std.specs.Prelude.{◌≡◌, IfOk, Some};
+ghost use Rattle.tip_core.specs.Hosted.{realm as realm_at};
+ghost use Rattle.tip_machine.specs.States.{State};
+ghost use Rattle.tip_actor.specs.Acting.{Acting, Reading};
+ghost use Rattle.tip_actor.specs.Standing.{Finds, GivesNext, Host as AHost, IsActing, IsReading};
+
+use crate::actor::Actor;
+use crate::reader::Reader;
+use std::alloc::{AllocError, Global};
+use tip_core::Core;
+use tip_machine::Event;
+
+impl Actor {
+    /// The next line that may be taken, of the first connection that has one. It is taken out of its reader.
+    pub fn next_line(
+        &mut self,
+        alloc: Global,
+        core: &Core,
+        place: usize,
+    ) -> Result<Option<Event>, AllocError>
+        ensures { (host : AHost) (acting : Acting) → host.core ≡ core.now → IsActing host place self.old acting → IfOk result (Finds host place self.new acting) }
+    {
+        for index in 0..self.readers.len() {
+            if let Some(event) = next_on(&mut self.readers[index], alloc, core, place)? {
+                return Ok(Some(event));
+            }
+        }
+        Ok(None)
+    }
+}
+
+/// The next line on one connection, if one has come and may be taken.
+fn next_on(
+    reader: &mut Reader,
+    alloc: Global,
+    core: &Core,
+    place: usize,
+) -> Result<Option<Event>, AllocError>
+    ensures { (state : State) (reading : Reading) → realm_at core.now place ≡ Some state → IsReading reader.old reading → IfOk result (GivesNext state reader.new reading) }
+{
+    let seat = reader.seat;
+    if core.must_wait(place, seat) {
+        return Ok(None);
+    }
+    match reader.next(alloc)? {
+        Some(heard) => Ok(Some(Event::Line { seat, heard })),
+        None => Ok(None),
+    }
+}

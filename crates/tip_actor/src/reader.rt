@@ -1,0 +1,120 @@
+//! What comes on the connections of a script.
+ghost use Rattle.std.specs.Prelude.{◌≡◌, ℕ, List, ◌++◌, IfOk, OnOk, if◌then◌else◌};
+ghost use Rattle.tip_script.specs.Moves.{octets_of};
+ghost use Rattle.tip_script.specs.Scripts.{octets_in};
+ghost use Rattle.tip_actor.specs.Standing.{gives, Says};
+ghost use Rattle.tip_line.specs.Reading.{items_of};
+
+use hex::FromHexError;
+use std::alloc::{AllocError, Global};
+use tip_line::{Line, Lines};
+use tip_machine::{Heard, Seat};
+use tip_script::Octets;
+
+/// The reader of a connection. Where its connection has failed, what was read is gone, and the reader takes afresh what
+/// still comes.
+#[derive(Drop)]
+pub struct Reader {
+    pub seat: Seat,
+    stream: Stream,
+}
+
+/// What has come on a connection.
+#[derive(Drop)]
+enum Stream {
+    /// Nothing since the connection was given or failed. No memory is held.
+    Empty,
+    /// What was not yet taken.
+    Lines(Lines),
+    /// A fault, behind which no line is.
+    Over,
+}
+
+impl Reader {
+    pub fn new(seat: Seat) -> Reader
+        ensures seat { result.seat ≡ seat }
+        ensures gives { (more : List ℕ) → gives result more ≡ items_of more }
+    {
+        Reader {
+            seat,
+            stream: Stream::Empty,
+        }
+    }
+
+    /// Octets come.
+    pub fn feed(&mut self, alloc: Global, octets: Octets<'_>) -> Result<(), AllocError>
+        ensures seat { self.new.seat ≡ self.old.seat }
+        ensures gives { OnOk result ((more : List ℕ) → gives self.new more ≡ gives self.old (octets_of octets.entry ++ more)) }
+    {
+        match &mut self.stream {
+            Stream::Empty => {
+                let mut lines = Lines::new(alloc)?;
+                feed_octets(&mut lines, alloc, octets)?;
+                self.stream = Stream::Lines(lines);
+                Ok(())
+            }
+            Stream::Lines(lines) => feed_octets(lines, alloc, octets),
+            Stream::Over => Ok(()),
+        }
+    }
+
+    /// What the next line says, if one has come.
+    pub fn next(&mut self, alloc: Global) -> Result<Option<Heard>, AllocError>
+        ensures seat { self.new.seat ≡ self.old.seat }
+        ensures says { IfOk result (λ heard. Says self.old heard self.new) }
+    {
+        let Stream::Lines(lines) = &mut self.stream else {
+            return Ok(None);
+        };
+        match lines.next() {
+            Some(Line::Text(text)) => Ok(Some(Heard::of(alloc, text)?)),
+            Some(Line::Bad(_)) => {
+                self.stream = Stream::Over;
+                Ok(Some(Heard::Malformed))
+            }
+            None => Ok(None),
+        }
+    }
+
+    /// The connection failed: what was read is gone, and its memory.
+    pub fn restart(&mut self)
+        ensures seat { self.new.seat ≡ self.old.seat }
+        ensures gives { (more : List ℕ) → gives self.new more ≡ items_of more }
+    {
+        self.stream = Stream::Empty;
+    }
+
+    /// The same, where the connection failed.
+    pub fn restart_if(&mut self, failed: bool)
+        ensures seat { self.new.seat ≡ self.old.seat }
+        ensures gives { (more : List ℕ) → gives self.new more ≡ (if failed then items_of more else gives self.old more) }
+    {
+        if failed {
+            self.restart();
+        }
+    }
+}
+
+/// Feeds octets that come.
+fn feed_octets(lines: &mut Lines, alloc: Global, octets: Octets<'_>) -> Result<(), AllocError>
+    ensures { OnOk result (lines.new ≡ lines.old ++ octets_of octets.entry) }
+{
+    match octets {
+        Octets::Text(text) => {
+            lines.feed(text)?;
+            lines.feed(b"\n")
+        }
+        Octets::Hex(digits) => feed_hex(lines, alloc, digits),
+    }
+}
+
+/// Feeds the octets that pairs of hexadecimal digits say; none where these are no pairs of digits.
+fn feed_hex(lines: &mut Lines, alloc: Global, digits: &[u8]) -> Result<(), AllocError>
+    ensures { OnOk result (lines.new ≡ lines.old ++ octets_in digits.now) }
+{
+    match hex::decode(alloc, digits) {
+        Ok(octets) => lines.feed(&octets),
+        Err(FromHexError::OutOfMemory) => Err(AllocError),
+        Err(_) => Ok(()),
+    }
+}
