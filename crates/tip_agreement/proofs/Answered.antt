@@ -17,7 +17,7 @@ use Rattle.tip_txn.specs.Parts.{acknowledged, answered, enlisted, named}
 use Rattle.tip_txn.specs.declared.answer.Ballot.TheVariants as answer
 use Rattle.tip_txn.specs.declared.answer.Phase.TheVariants as phase
 use Rattle.tip_txn.specs.declared.part.Participant.{Participant}
-use Rattle.tip_machine.specs.Changes.{alter, attempt_on, change, on, refuse, send}
+use Rattle.tip_machine.specs.Changes.{alter, attempt_on, change, refuse, send}
 use Rattle.tip_machine.specs.Commands.{make}
 use Rattle.tip_machine.specs.Connections.{advanced, is_free, taking}
 use Rattle.tip_machine.specs.Failing.{closed, wrong}

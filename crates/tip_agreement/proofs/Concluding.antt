@@ -19,7 +19,7 @@ use Rattle.tip_txn.specs.declared.answer.Phase.{Phase}
 use Rattle.tip_txn.specs.declared.answer.Phase.TheVariants.{Active, Asking, Prepared, Committed, Aborted}
 use Rattle.tip_txn.specs.declared.part.Participant.{Participant}
 use Rattle.tip_machine.specs.Changes.{alter, attempt_on, on}
-use Rattle.tip_machine.specs.Failing.{gone, lost_unanswered, missed, part_lost, superior_lost}
+use Rattle.tip_machine.specs.Failing.{lost_unanswered, missed, part_lost, superior_lost}
 use Rattle.tip_machine.specs.Invariants.Parties.{are_unasked, is_its_own}
 use Rattle.tip_machine.specs.Invariants.Phases.{is_part_in, is_party, is_transaction}
 use Rattle.tip_machine.specs.Invariants.Stored.{are_same_pairs, is_stored_as}

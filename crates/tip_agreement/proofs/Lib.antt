@@ -44,7 +44,9 @@ pub mod Resuming
 pub mod Returned
 pub mod Rows
 pub mod Sound
+pub mod Spelling
 pub mod Starts
 pub mod Superiors
 pub mod Voting
 pub mod Waiting
+pub mod Wording

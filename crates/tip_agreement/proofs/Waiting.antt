@@ -26,7 +26,7 @@ use Rattle.tip_machine.specs.declared.event.Change.{Change}
 use Rattle.tip_machine.specs.declared.transaction.PartyPlace.TheVariants.{Here, Out, Spent}
 use Rattle.tip_agreement.proofs.Apart.{all_added, all_more}
 use Rattle.tip_agreement.proofs.Around.{other_found}
-use Rattle.tip_agreement.proofs.Bounded.{AreSpelled, found_by_id, keys_told, spelled_at}
+use Rattle.tip_agreement.proofs.Bounded.{AreSpelled, found_by_id, spelled_at}
 use Rattle.tip_agreement.proofs.Commanded.{Grown}
 use Rattle.tip_agreement.proofs.Found.{apart_more}
 use Rattle.tip_agreement.proofs.Keys.{keys_of}
@@ -35,6 +35,7 @@ use Rattle.tip_agreement.proofs.Onward.{Onward, Sends}
 use Rattle.tip_agreement.proofs.Owned.{key_found}
 use Rattle.tip_agreement.proofs.Returned.{Owns, awaited_at, owns}
 use Rattle.tip_agreement.proofs.Sound.{found_own}
+use Rattle.tip_agreement.proofs.Spelling.{keys_told}
 use Rattle.std.proofs.lemmas.List.{append-nil}
 
 -- The transaction that waits for a party
