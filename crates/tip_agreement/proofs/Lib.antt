@@ -44,6 +44,7 @@ pub mod Resuming
 pub mod Returned
 pub mod Rows
 pub mod Sound
+pub mod Speaking
 pub mod Spelling
 pub mod Starts
 pub mod Superiors

@@ -38,7 +38,7 @@ pub record Less (v w : Word) : Type 0 where
   pub abort : v.abort ≡ true → w.abort ≡ true
   pub awaited : v.awaited ≡ true → w.awaited ≡ true
 
-not_less : (a b : Bool) → (a ≡ true → b ≡ true) → not b ≡ true → not a ≡ true
+pub not_less : (a b : Bool) → (a ≡ true → b ≡ true) → not b ≡ true → not a ≡ true
 not_less true true goes is = is
 not_less true false goes is = absurd (both_ways false refl (goes refl))
 not_less false b goes is = refl
@@ -51,11 +51,11 @@ lost_less (Out errand.Abort) a b goes is = is
 lost_less (Here party) a b goes is = is
 lost_less Spent a b goes is = is
 
-or_less : (a b x y : Bool) → (a ≡ true → x ≡ true) → (b ≡ true → y ≡ true) → a || b ≡ true → x || y ≡ true
+pub or_less : (a b x y : Bool) → (a ≡ true → x ≡ true) → (b ≡ true → y ≡ true) → a || b ≡ true → x || y ≡ true
 or_less true b x y first second is = or_left x y (first refl)
 or_less false b x y first second is = or_right x y (second is)
 
-and_less : (a b x y : Bool) → (a ≡ true → x ≡ true) → (b ≡ true → y ≡ true) → a && b ≡ true → x && y ≡ true
+pub and_less : (a b x y : Bool) → (a ≡ true → x ≡ true) → (b ≡ true → y ≡ true) → a && b ≡ true → x && y ≡ true
 and_less a b x y first second is = let parts = and_parts a b is in and_from x y (first parts.0) (second parts.1)
 
 in_less : (phase : Phase) (place : PartyPlace) (v w : Word) → Less v w → fits_in phase place w ≡ true → fits_in phase place v ≡ true
@@ -68,6 +68,19 @@ in_less Aborted place v w less is = not_less v.commit w.commit less.commit is
 pub fits_less : (found : Option Transaction) (v w : Word) → Less v w → fits found w ≡ true → fits found v ≡ true
 fits_less None v w less is = not_less (v.commit && v.abort) (w.commit && w.abort) (and_less _ _ _ _ less.commit less.abort) is
 fits_less (Some t) v w less is = in_less t.phase t.place v w less is
+
+-- where nothing more is there, less is true
+pub no_second : (a b c : Bool) → b ≡ false → a || b ≡ true → a || c ≡ true
+no_second a b c none = or_less a b a c (λ is. is) (λ is. absurd (both_ways b none is))
+
+pub no_third : (a b c d : Bool) → c ≡ false → a || (b || c) ≡ true → a || (b || d) ≡ true
+no_third a b c d none = or_less a (b || c) a (b || d) (λ is. is) (no_second b c d none)
+
+pub no_third_of_four : (a b c d r : Bool) → c ≡ false → a || (b || (c || r)) ≡ true → a || (b || (d || r)) ≡ true
+no_third_of_four a b c d r none = or_less a (b || (c || r)) a (b || (d || r)) (λ is. is) (or_less b (c || r) b (d || r) (λ is. is) (or_less c r d r (λ is. absurd (both_ways c none is)) (λ is. is)))
+
+pub no_fourth : (a b c r s : Bool) → r ≡ false → a || (b || (c || r)) ≡ true → a || (b || (c || s)) ≡ true
+no_fourth a b c r s none = or_less a (b || (c || r)) a (b || (c || s)) (λ is. is) (no_third b c r s none)
 
 -- ON ITS WORK
 
@@ -98,6 +111,11 @@ abbrev pub Fits : Word → Key → Work → Type 0
 Fits before key w =
     let id = identifier w.state.head.name key in
     fits_so before key w.state.head.name w.state.head.epoch w.state.transactions (are_said is_commit w.state.head.name id w.answer.sent) (are_said is_abort w.state.head.name id w.answer.sent) w.answer.work w.answer.spent ≡ true
+
+abbrev pub word_at : Word → Key → Work → Word
+word_at before key w =
+    let id = identifier w.state.head.name key in
+    word_in before w.state.head.epoch id (are_said is_commit w.state.head.name id w.answer.sent) (are_said is_abort w.state.head.name id w.answer.sent) w.answer.work w.answer.spent
 
 -- no verdict more is said
 abbrev pub Quiet : List Sent → List Sent → Type 0
