@@ -1,7 +1,7 @@
 -- How transactions go on over responses, over requests of the host, and over parties that come back.
 use Rattle.std.proofs.Common.{◌≡◌, Bool, true, false, ℕ, suc, List, Option, Some, None, cond, refl, subst, sym, inl, inr}
 use Rattle.std.specs.Prelude.{◌&&◌, find, length, nat_le, not, take}
-use Rattle.std.proofs.lemmas.Bool.{and_from, not_from_false}
+use Rattle.std.proofs.lemmas.Bool.{and_from, and_parts, not_from_false}
 use Rattle.tip_branch.specs.Notes.{PartyNotes}
 use Rattle.tip_conn.specs.declared.state.Side.TheVariants.{Primary}
 use Rattle.tip_line.specs.declared.command.CommandName.{CommandName}
@@ -23,13 +23,12 @@ use Rattle.tip_machine.specs.Connections.{advanced, is_free, taking}
 use Rattle.tip_machine.specs.Failing.{closed, wrong}
 use Rattle.tip_machine.specs.Invariants.Bounds.{is_spelled}
 use Rattle.tip_machine.specs.Invariants.Links.Link.{Awaits}
-use Rattle.tip_machine.specs.Invariants.Parties.{is_its_own}
 use Rattle.tip_machine.specs.Invariants.Phases.{is_part, is_part_in, is_superior}
 use Rattle.tip_machine.specs.Proceeding.{abort, errand_in, finish, proceed}
 use Rattle.tip_machine.specs.Requests.{ask_pull, ask_push, pull_if, pull_new, push_part, resume, resume_in}
 use Rattle.tip_machine.specs.Responses.{abort_as, ask_superior, go_on, greeted, is_in_doubt, is_owed_commit, note_as, presume_abort, proceed_as, pursue, query_for, reach, reach_by, reconnect_for, responded}
 use Rattle.tip_machine.specs.States.{Attempt, Work, connection_of, has_room, identified_by, transaction_of}
-use Rattle.tip_machine.specs.Transactions.{begun, enlisting, has_id, has_ready, is_active, is_committed, is_decided_at, is_done, is_known, next_key, noting, subordinate_of}
+use Rattle.tip_machine.specs.Transactions.{begun, enlisting, has_id, is_active, is_committed, is_decided_at, is_done, is_known, next_key, noting, subordinate_of, is_prepared}
 use Rattle.tip_machine.specs.Types.{Connection, PartyPlace, Transaction}
 use Rattle.tip_machine.specs.declared.answer.Asked.TheVariants as asked
 use Rattle.tip_machine.specs.declared.connection.Awaited.{Awaited}
@@ -49,9 +48,12 @@ use Rattle.tip_agreement.proofs.Commanded.{Beside, EndsGo, all_go, apart_beside,
 use Rattle.tip_agreement.proofs.Concluding.{Goes, Ready, Unchanged, noted_onward, proceed_onward, ready_of}
 use Rattle.tip_agreement.proofs.Enlisting.{only_active}
 use Rattle.tip_agreement.proofs.Following.{finish_onward, owns_here, stop_onward}
-use Rattle.tip_agreement.proofs.Onward.{CanGo, dispatches}
+use Rattle.tip_agreement.proofs.Speaking.{may_go}
+use Rattle.tip_agreement.proofs.Wording.{Quiet, asks_more, silent}
+use Rattle.tip_agreement.proofs.Onward.{CanGo, MayBeSent, dispatches}
 use Rattle.tip_agreement.proofs.Owned.{key_found}
 use Rattle.tip_agreement.proofs.Pulling.{awaits_now, link_before, pull_rows, pulls}
+use Rattle.tip_agreement.proofs.Reaching.{only_prepared}
 use Rattle.tip_agreement.proofs.Responding.{is_going}
 use Rattle.tip_agreement.proofs.Resuming.{only_committed}
 use Rattle.tip_agreement.proofs.Sound.{found_by}
@@ -60,7 +62,7 @@ use Rattle.tip_agreement.proofs.Sound.{found_by}
 
 module _ (c : Connection) (w : Work) (whole : Whole w.state) (there : connection_of c.number w.state ≡ Some c) (side : c.side ≡ Primary) where
   went_on : (command : CommandName) (response : ResponseName) → Beside w (go_on command response c w)
-  went_on command response = record { epoch = refl; name = refl; transactions = refl; work = refl }
+  went_on command response = record { epoch = refl; name = refl; transactions = refl; work = refl; spent = refl; said = silent w.answer.sent }
 
   goes_on : (command : CommandName) (response : ResponseName) → EndsGo w (Attempt.Done (go_on command response c w))
   goes_on command response = inl (beside_goes w (go_on command response c w) (went_on command response))
@@ -139,10 +141,10 @@ module _ (c : Connection) (w : Work) (whole : Whole w.state) (there : connection
   presumes t found =
       let u = go_on command.Query response.QueriedNotFound c w in
       let is = went_on command.Query response.QueriedNotFound in
-      ends_from w u (presume_abort c t u) is (step u is (is_in_doubt u.state t)) where
-        step : (u : Work) → Beside w u → (b : Bool) → EndsGo u (cond b (Attempt.Asks (Remove t.key) (abort t.key u) (closed c u)) (Attempt.Done u))
-        step u is true = (removes c w whole t u is found, closed_goes c u (apart_beside w u is whole.keys) (ready_beside w u is (ready c w whole)))
-        step u is false = inl (beside_goes u u (record { epoch = refl; name = refl; transactions = refl; work = refl }))
+      ends_from w u (presume_abort c t u) is (step u is (is_in_doubt u.state t) (λ doubt. only_prepared t.phase (and_parts (is_prepared t.phase) _ doubt).0)) where
+        step : (u : Work) → Beside w u → (b : Bool) → (b ≡ true → t.phase ≡ phase.Prepared) → EndsGo u (cond b (Attempt.Asks (Remove t.key) (abort t.key u) (closed c u)) (Attempt.Done u))
+        step u is true doubt = (removes c w whole t u is found (doubt refl), closed_goes c u (apart_beside w u is whole.keys) (ready_beside w u is (ready c w whole)))
+        step u is false doubt = inl (beside_goes u u (record { epoch = refl; name = refl; transactions = refl; work = refl; spent = refl; said = silent u.answer.sent }))
 
   not_found_goes : (key : Key) → EndsGo w (attempt_on (transaction_of key w.state) (presume_abort c) (go_on command.Query response.QueriedNotFound c w))
   not_found_goes key = step (transaction_of key w.state) refl where
@@ -156,18 +158,19 @@ module _ (c : Connection) (w : Work) (whole : Whole w.state) (there : connection
   after = change c.number (advanced command.Identify response.Identified) w
 
   greeted_beside : Beside w after
-  greeted_beside = record { epoch = refl; name = refl; transactions = refl; work = refl }
+  greeted_beside = record { epoch = refl; name = refl; transactions = refl; work = refl; spent = refl; said = silent w.answer.sent }
 
   leaves_it : Goes None w (closed c after)
   leaves_it = goes_from None w after (closed c after) greeted_beside (closed_goes c after (apart_beside w after greeted_beside whole.keys) (ready_beside w after greeted_beside (ready c w whole)))
 
-  only : (u : Work) → u.state.head.epoch ≡ w.state.head.epoch → u.state.head.name ≡ w.state.head.name → u.state.transactions ≡ w.state.transactions → u.answer.work ≡ w.answer.work → Goes None w u
-  only u epoch name transactions work = beside_goes w u (record { epoch = epoch; name = name; transactions = transactions; work = work })
+  -- a question is asked
+  only : (u : Work) → u.state.head.epoch ≡ w.state.head.epoch → u.state.head.name ≡ w.state.head.name → u.state.transactions ≡ w.state.transactions → u.answer.work ≡ w.answer.work → u.answer.spent ≡ w.answer.spent → Quiet w.answer.sent u.answer.sent → Goes None w u
+  only u epoch name transactions work spent said = beside_goes w u (record { epoch = epoch; name = name; transactions = transactions; work = work; spent = spent; said = said })
 
   asks_goes : (from : Origin) (key : Key) → Goes None w (ask_superior from key c after)
   unfolding send
   asks_goes origin.Root key = leaves_it
-  asks_goes (origin.Subordinate address superior) key = only (ask_superior (origin.Subordinate address superior) key c after) refl refl refl refl
+  asks_goes (origin.Subordinate address superior) key = only (ask_superior (origin.Subordinate address superior) key c after) refl refl refl refl refl (asks_more w c.number (asked.Query superior) (λ realm id. refl))
 
   which : (b : Bool) (this that : Work) → Goes None w this → Goes None w that → Goes None w (cond b this that)
   which b this that e f = either (Goes None w) b this that e f
@@ -179,7 +182,7 @@ module _ (c : Connection) (w : Work) (whole : Whole w.state) (there : connection
   by_id_goes : (id : Option (List ℕ)) (m : ℕ) (key : Key) → Goes None w (reach_by id m key c after)
   unfolding send
   by_id_goes None m key = leaves_it
-  by_id_goes (Some id) m key = only (reach_by (Some id) m key c after) refl refl refl refl
+  by_id_goes (Some id) m key = only (reach_by (Some id) m key c after) refl refl refl refl refl (asks_more w c.number (asked.Reconnect id) (λ realm id. refl))
 
   reach_goes : (s : Option (ℕ × Participant)) (key : Key) → Goes None w (reach s key c after)
   reach_goes None key = leaves_it
@@ -222,46 +225,53 @@ module _ (c : Connection) (w : Work) (whole : Whole w.state) (there : connection
 module _ (c : Connection) (w : Work) (whole : Whole w.state) where
   pushes_to : (found : Option Transaction) (peer : Option (List ℕ)) → ((t : Transaction) → found ≡ Some t → transaction_of t.key w.state ≡ Some t) → EndsGo w (Attempt.Done (push_part found peer c.number w))
   unfolding send
-  pushes_to None peer there = aside c w whole (refuse NotActive w) refl refl refl refl
-  pushes_to (Some t) None there = aside c w whole (refuse NotActive w) refl refl refl refl
+  pushes_to None peer there = aside c w whole (refuse NotActive w) refl refl refl refl refl (silent w.answer.sent)
+  pushes_to (Some t) None there = aside c w whole (refuse NotActive w) refl refl refl refl refl (silent w.answer.sent)
   pushes_to (Some t) (Some address) there = step (is_active t.phase) refl where
     step : (b : Bool) → is_active t.phase ≡ b → EndsGo w (Attempt.Done (cond b (change c.number (taking (Subordinate t.key (length t.parts))) (alter t.key (enlisting (enlisted address None)) (send c.number Push (asked.Push t.key) w))) (refuse NotActive w)))
-    step true active = inl (enlists_on c w whole t (enlisted address None) (send c.number Push (asked.Push t.key) w) (there t refl) (only_active t.phase active) (record { epoch = refl; name = refl; transactions = refl; work = refl }))
-    step false not = aside c w whole (refuse NotActive w) refl refl refl refl
+    step true active = inl (enlists_on c w whole t (enlisted address None) (send c.number Push (asked.Push t.key) w) (there t refl) (only_active t.phase active) (record { epoch = refl; name = refl; transactions = refl; work = refl; spent = refl; said = asks_more w c.number (asked.Push t.key) (λ realm id. refl) }))
+    step false not = aside c w whole (refuse NotActive w) refl refl refl refl refl (silent w.answer.sent)
 
   pulls_new : is_spelled (next_key w.state.head c) ≡ true → (superior : List ℕ) → find (is_known c.peer superior) w.state.transactions ≡ None → EndsGo w (Attempt.Done (pull_new superior c w))
   unfolding send make
   pulls_new spelled superior none = either_goes w (has_room c w.state) (send c.number Pull (asked.Pull superior (next_key w.state.head c)) (make (origin.Subordinate c.peer superior) c w)) (refuse Full w)
-      (inr (record { new = begun w.state.head (next_key w.state.head c) (origin.Subordinate c.peer superior) (take (length w.state.head.branches) c.boxes); epoch = refl; name = refl; transactions = refl; work = refl; active = refl; spelled = spelled; unknown = unknown_of c w whole superior none }))
-      (aside c w whole (refuse Full w) refl refl refl refl)
+      (inr (record { new = begun w.state.head (next_key w.state.head c) (origin.Subordinate c.peer superior) (take (length w.state.head.branches) c.boxes); epoch = refl; name = refl; transactions = refl; work = refl; spent = refl; said = asks_more w c.number (asked.Pull superior (next_key w.state.head c)) (λ realm id. refl); active = refl; spelled = spelled; unknown = unknown_of c w whole superior none }))
+      (aside c w whole (refuse Full w) refl refl refl refl refl (silent w.answer.sent))
 
   pulls_if : is_spelled (next_key w.state.head c) ≡ true → (known : Option Transaction) (superior : List ℕ) → find (is_known c.peer superior) w.state.transactions ≡ known → EndsGo w (Attempt.Done (pull_if known superior c w))
   pulls_if spelled None superior is = pulls_new spelled superior is
-  pulls_if spelled (Some t) superior is = aside c w whole (refuse Known w) refl refl refl refl
+  pulls_if spelled (Some t) superior is = aside c w whole (refuse Known w) refl refl refl refl refl (silent w.answer.sent)
 
   pub ask_push_goes : (serves : Bool) (id : List ℕ) → EndsGo w (Attempt.Done (ask_push serves (Some c) id w))
   unfolding ask_push
-  ask_push_goes serves id = either_goes w (serves && is_free c) (push_part (identified_by id w.state) c.peer c.number w) (refuse Busy w) (pushes_to (identified_by id w.state) c.peer (λ t is. found_by (has_id w.state.head.name id) w.state t whole is)) (aside c w whole (refuse Busy w) refl refl refl refl)
+  ask_push_goes serves id = either_goes w (serves && is_free c) (push_part (identified_by id w.state) c.peer c.number w) (refuse Busy w) (pushes_to (identified_by id w.state) c.peer (λ t is. found_by (has_id w.state.head.name id) w.state t whole is)) (aside c w whole (refuse Busy w) refl refl refl refl refl (silent w.answer.sent))
 
   pub ask_pull_goes : is_spelled (next_key w.state.head c) ≡ true → (serves : Bool) (superior : List ℕ) → EndsGo w (Attempt.Done (ask_pull serves (Some c) superior w))
   unfolding ask_pull
-  ask_pull_goes spelled serves superior = either_goes w (serves && is_free c) (pull_if (find (is_known c.peer superior) w.state.transactions) superior c w) (refuse Busy w) (pulls_if spelled (find (is_known c.peer superior) w.state.transactions) superior refl) (aside c w whole (refuse Busy w) refl refl refl refl)
+  ask_pull_goes spelled serves superior = either_goes w (serves && is_free c) (pull_if (find (is_known c.peer superior) w.state.transactions) superior c w) (refuse Busy w) (pulls_if spelled (find (is_known c.peer superior) w.state.transactions) superior refl) (aside c w whole (refuse Busy w) refl refl refl refl refl (silent w.answer.sent))
 
 -- A committed transaction is resumed
 
 module _ (w : Work) (whole : Whole w.state) where
   quiet : EndsGo w (Attempt.Done w)
-  quiet = inl (beside_goes w w (record { epoch = refl; name = refl; transactions = refl; work = refl }))
+  quiet = inl (beside_goes w w (record { epoch = refl; name = refl; transactions = refl; work = refl; spent = refl; said = silent w.answer.sent }))
 
   refused : (why : Refusal) → EndsGo w (Attempt.Done (refuse why w))
-  refused why = inl (beside_goes w (refuse why w) (record { epoch = refl; name = refl; transactions = refl; work = refl }))
+  refused why = inl (beside_goes w (refuse why w) (record { epoch = refl; name = refl; transactions = refl; work = refl; spent = refl; said = silent w.answer.sent }))
 
   module _ (t : Transaction) (found : transaction_of t.key w.state ≡ Some t) (committed : t.phase ≡ phase.Committed) where
     known : Ready t w.state
     known = ready_of w.state t whole found
 
-    told_again : (party : PartyNotes) → t.place ≡ Here party → (is_its_own w.state t (Here party) ≡ true) × (has_ready party ≡ true → CanGo (errand_in t.phase) party)
-    told_again party at = (owns_here w.state t known.own party at, λ ready. subst (λ f. CanGo (errand_in f) party) (sym committed) (and_from _ _ (not_from_false _ (settled_here w.state t whole found (inr committed) party at)) ready))
+    told_again : (party : PartyNotes) → t.place ≡ Here party → MayBeSent w t party
+    told_again party at =
+        let none = settled_here w.state t whole found (inr committed) party at in
+        record {
+          own = owns_here w.state t known.own party at;
+          can = λ ready. subst (λ f. CanGo (errand_in f) party) (sym committed) (and_from _ _ (not_from_false _ none) ready);
+          may = λ ready. subst (λ f. may_go f (errand_in f) ≡ true) (sym committed) refl;
+          lets = λ idle. inr none;
+        }
 
     resumes_in : (place : PartyPlace) → EndsGo w (resume_in place t w)
     resumes_in (Here party) = inl (t.key, (dispatches t.key w t found told_again).onward)

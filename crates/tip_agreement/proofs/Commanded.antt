@@ -47,7 +47,9 @@ use Rattle.tip_agreement.proofs.Concluding.{AllReady, Goes, Ready, ask_onward, m
 use Rattle.tip_agreement.proofs.Enlisting.{only_active}
 use Rattle.tip_agreement.proofs.Following.{AllOnward, AreApart, HasNoneActive, abort_onward, commit_onward, none_stored, owns_here, stop_onward, turned_to}
 use Rattle.tip_agreement.proofs.Keys.{key_self, keys_of}
-use Rattle.tip_agreement.proofs.Onward.{alters, before, beside, of_none, of_remove, row_in, then}
+use Rattle.tip_agreement.proofs.Speaking.{doubt_aborts, doubt_commits}
+use Rattle.tip_agreement.proofs.Wording.{Quiet, closes_more, fits_still, quiet_then, says_more, silent}
+use Rattle.tip_agreement.proofs.Onward.{SaysFitting, alters, before, beside, of_none, of_remove, row_in, then}
 use Rattle.tip_agreement.proofs.Owned.{have_parts, in_phase, own_still, parts_from}
 use Rattle.tip_agreement.proofs.Sound.{found_by}
 
@@ -60,12 +62,17 @@ pub record Beside (w u : Work) : Type 0 where
   pub name : u.state.head.name ≡ w.state.head.name
   pub transactions : u.state.transactions ≡ w.state.transactions
   pub work : u.answer.work ≡ w.answer.work
+  pub spent : u.answer.spent ≡ w.answer.spent
+  pub said : Quiet w.answer.sent u.answer.sent
+
+beside_says : (key : Key) (w u : Work) → Beside w u → SaysFitting key w u
+beside_says key w u is spelled k fine before = fits_still before k w u is.epoch is.name is.transactions is.work is.spent is.said
 
 pub beside_goes : (w u : Work) → Beside w u → Goes None w u
-beside_goes w u is = (no_key, beside no_key w u is.epoch is.name is.transactions is.work)
+beside_goes w u is = (no_key, beside no_key w u is.epoch is.name is.transactions is.work (beside_says no_key w u is))
 
 pub goes_from : (change : Option Change) (w u v : Work) → Beside w u → Goes change u v → Goes change w v
-goes_from change w u v is goes = (goes.0, before goes.0 change w u v (beside goes.0 w u is.epoch is.name is.transactions is.work) goes.1)
+goes_from change w u v is goes = (goes.0, before goes.0 change w u v (beside goes.0 w u is.epoch is.name is.transactions is.work (beside_says goes.0 w u is)) goes.1)
 
 -- a transaction was made, which is not known
 pub record Grown (w v : Work) : Type 0 where
@@ -74,6 +81,8 @@ pub record Grown (w v : Work) : Type 0 where
   pub name : v.state.head.name ≡ w.state.head.name
   pub transactions : v.state.transactions ≡ w.state.transactions ++ new ∷ []
   pub work : v.answer.work ≡ w.answer.work
+  pub spent : v.answer.spent ≡ w.answer.spent
+  pub said : Quiet w.answer.sent v.answer.sent
   pub active : new.phase ≡ Active
   pub spelled : is_spelled new.key ≡ true
   pub unknown : list_any (λ (t : Transaction). is_undecided t.phase && came_twice t new.origin) w.state.transactions ≡ false
@@ -98,6 +107,8 @@ ends_from w u (Attempt.Done v) is (inr grown) = inr (record {
   name = grown.name ∙ is.name;
   transactions = grown.transactions ∙ ap (λ ts. ts ++ grown.new ∷ []) is.transactions;
   work = grown.work ∙ is.work;
+  spent = grown.spent ∙ is.spent;
+  said = quiet_then w.answer.sent u.answer.sent v.answer.sent is.said grown.said;
   active = grown.active;
   spelled = grown.spelled;
   unknown = subst (λ ts. list_any (λ (t : Transaction). is_undecided t.phase && came_twice t grown.new.origin) ts ≡ false) is.transactions grown.unknown;
@@ -116,21 +127,21 @@ ready_beside w u is ready t found = let known = ready t (subst (λ ts. find (has
 pub fail_goes : (c : Connection) (w : Work) → AreApart w → AllReady w.state → Goes None w (fail c w)
 unfolding fail gone
 fail_goes c w apart ready =
-    let is : Beside w (gone c w) = record { epoch = refl; name = refl; transactions = refl; work = refl } in
+    let is : Beside w (gone c w) = record { epoch = refl; name = refl; transactions = refl; work = refl; spent = refl; said = silent w.answer.sent } in
     goes_from None w (gone c w) (missed c.role (gone c w)) is (missed_goes (gone c w) (apart_beside w (gone c w) is apart) (ready_beside w (gone c w) is ready) c.role)
 
 pub closed_goes : (c : Connection) (w : Work) → AreApart w → AllReady w.state → Goes None w (closed c w)
 unfolding closed
 closed_goes c w apart ready =
     let u = tell c.number Close w in
-    let is : Beside w u = record { epoch = refl; name = refl; transactions = refl; work = refl } in
+    let is : Beside w u = record { epoch = refl; name = refl; transactions = refl; work = refl; spent = refl; said = closes_more w c.number } in
     goes_from None w u (fail c u) is (fail_goes c u (apart_beside w u is apart) (ready_beside w u is ready))
 
 pub wrong_goes : (c : Connection) (w : Work) → AreApart w → AllReady w.state → Goes None w (wrong c w)
 unfolding wrong
 wrong_goes c w apart ready =
     let u = tell c.number (Say said.Error) w in
-    let is : Beside w u = record { epoch = refl; name = refl; transactions = refl; work = refl } in
+    let is : Beside w u = record { epoch = refl; name = refl; transactions = refl; work = refl; spent = refl; said = says_more w c.number said.Error } in
     goes_from None w u (closed c u) is (closed_goes c u (apart_beside w u is apart) (ready_beside w u is ready))
 
 pub either_goes : (w : Work) (b : Bool) (this that : Work) → EndsGo w (Attempt.Done this) → EndsGo w (Attempt.Done that) → EndsGo w (Attempt.Done (cond b this that))
@@ -167,10 +178,10 @@ settled_here s t whole found which party at = local t.parts (in_phase t.key t s 
 
 module _ (t : Transaction) (w : Work) (found : transaction_of t.key w.state ≡ Some t) (active : t.phase ≡ Active) (p : Participant) where
   pub enlists : Goes None w (alter t.key (enlisting p) w)
-  enlists = (t.key, alters t.key None (of_none t.key) w (enlisting p) t (λ t. refl) found (turned_to (λ r. r) t (enlisting p t) refl refl (λ is. is) (λ r fits. subst (λ f. is_stored_as f (enlisting p t) r ≡ true) (sym active) (none_stored t.phase (ap is_stoppable active) t r fits))))
+  enlists = (t.key, alters t.key None (of_none t.key) w (enlisting p) t (λ t. refl) found (turned_to (λ r. r) t (enlisting p t) refl refl (λ is. is) (λ r fits. subst (λ f. is_stored_as f (enlisting p t) r ≡ true) (sym active) (none_stored t.phase (ap is_stoppable active) t r fits))) (λ word is. is))
 
 goes_then : (w v u : Work) → Beside v u → Goes None w v → Goes None w u
-goes_then w v u is goes = (goes.0, then goes.0 None w v u goes.1 (beside goes.0 v u is.epoch is.name is.transactions is.work))
+goes_then w v u is goes = (goes.0, then goes.0 None w v u goes.1 (beside goes.0 v u is.epoch is.name is.transactions is.work (beside_says goes.0 v u is)))
 
 -- COMMANDS
 
@@ -181,8 +192,8 @@ module _ (c : Connection) (w : Work) (whole : Whole w.state) where
   found_any : (test : Transaction → Bool) (t : Transaction) → find test w.state.transactions ≡ Some t → transaction_of t.key w.state ≡ Some t
   found_any test t is = found_by test w.state t whole is
 
-  pub aside : (u : Work) → u.state.head.epoch ≡ w.state.head.epoch → u.state.head.name ≡ w.state.head.name → u.state.transactions ≡ w.state.transactions → u.answer.work ≡ w.answer.work → EndsGo w (Attempt.Done u)
-  aside u epoch name transactions work = inl (beside_goes w u (record { epoch = epoch; name = name; transactions = transactions; work = work }))
+  pub aside : (u : Work) → u.state.head.epoch ≡ w.state.head.epoch → u.state.head.name ≡ w.state.head.name → u.state.transactions ≡ w.state.transactions → u.answer.work ≡ w.answer.work → u.answer.spent ≡ w.answer.spent → Quiet w.answer.sent u.answer.sent → EndsGo w (Attempt.Done u)
+  aside u epoch name transactions work spent said = inl (beside_goes w u (record { epoch = epoch; name = name; transactions = transactions; work = work; spent = spent; said = said }))
 
   pub goes_wrong : EndsGo w (Attempt.Done (wrong c w))
   goes_wrong = inl (wrong_goes c w whole.keys ready)
@@ -192,11 +203,11 @@ module _ (c : Connection) (w : Work) (whole : Whole w.state) where
 
   replied : (name : CommandName) (said : Said) → EndsGo w (Attempt.Done (reply c.number name said w))
   unfolding reply
-  replied name said = aside (reply c.number name said w) refl refl refl refl
+  replied name said = aside (reply c.number name said w) refl refl refl refl refl (says_more w c.number said)
 
   identifies : (lowest highest : ℕ) (peer : Option (List ℕ)) → EndsGo w (Attempt.Done (identify lowest highest peer c w))
   unfolding identify
-  identifies lowest highest peer = either_goes w (nat_le lowest 3 && nat_le 3 highest) (change c.number (identified peer) (tell c.number (Say said.Identified) w)) (wrong c w) (aside (change c.number (identified peer) (tell c.number (Say said.Identified) w)) refl refl refl refl) goes_wrong
+  identifies lowest highest peer = either_goes w (nat_le lowest 3 && nat_le 3 highest) (change c.number (identified peer) (tell c.number (Say said.Identified) w)) (wrong c w) (aside (change c.number (identified peer) (tell c.number (Say said.Identified) w)) refl refl refl refl refl (says_more w c.number said.Identified)) goes_wrong
 
   none_root : (ts : List Transaction) → list_any (λ (t : Transaction). is_undecided t.phase && came_twice t origin.Root) ts ≡ false
   none_root [] = refl
@@ -205,7 +216,7 @@ module _ (c : Connection) (w : Work) (whole : Whole w.state) where
   begins : is_spelled (next_key w.state.head c) ≡ true → EndsGo w (Attempt.Done (begin c w))
   unfolding begin reply make
   begins spelled = either_goes w (has_room c w.state) (reply c.number command.Begin (said.Begun (next_key w.state.head c)) (make origin.Root c w)) (reply c.number command.Begin said.NotBegun w)
-      (inr (record { new = begun w.state.head (next_key w.state.head c) origin.Root (take (length w.state.head.branches) c.boxes); epoch = refl; name = refl; transactions = refl; work = refl; active = refl; spelled = spelled; unknown = none_root w.state.transactions }))
+      (inr (record { new = begun w.state.head (next_key w.state.head c) origin.Root (take (length w.state.head.branches) c.boxes); epoch = refl; name = refl; transactions = refl; work = refl; spent = refl; said = says_more w c.number (said.Begun (next_key w.state.head c)); active = refl; spelled = spelled; unknown = none_root w.state.transactions }))
       (replied command.Begin said.NotBegun)
 
   pub unknown_of : (superior : List ℕ) → find (is_known c.peer superior) w.state.transactions ≡ None → list_any (λ (t : Transaction). is_undecided t.phase && came_twice t (origin.Subordinate c.peer superior)) w.state.transactions ≡ false
@@ -214,7 +225,7 @@ module _ (c : Connection) (w : Work) (whole : Whole w.state) where
   pushes_new : is_spelled (next_key w.state.head c) ≡ true → (superior : List ℕ) → find (is_known c.peer superior) w.state.transactions ≡ None → EndsGo w (Attempt.Done (push_new superior c w))
   unfolding reply make
   pushes_new spelled superior none = either_goes w (has_room c w.state) (reply c.number command.Push (said.Pushed (next_key w.state.head c)) (make (origin.Subordinate c.peer superior) c w)) (reply c.number command.Push said.NotPushed w)
-      (inr (record { new = begun w.state.head (next_key w.state.head c) (origin.Subordinate c.peer superior) (take (length w.state.head.branches) c.boxes); epoch = refl; name = refl; transactions = refl; work = refl; active = refl; spelled = spelled; unknown = unknown_of superior none }))
+      (inr (record { new = begun w.state.head (next_key w.state.head c) (origin.Subordinate c.peer superior) (take (length w.state.head.branches) c.boxes); epoch = refl; name = refl; transactions = refl; work = refl; spent = refl; said = says_more w c.number (said.Pushed (next_key w.state.head c)); active = refl; spelled = spelled; unknown = unknown_of superior none }))
       (replied command.Push said.NotPushed)
 
   pushes : is_spelled (next_key w.state.head c) ≡ true → (superior : List ℕ) → EndsGo w (Attempt.Done (push superior c w))
@@ -228,7 +239,7 @@ module _ (c : Connection) (w : Work) (whole : Whole w.state) where
   pub enlists_on : (t : Transaction) (p : Participant) (u : Work) → transaction_of t.key w.state ≡ Some t → t.phase ≡ Active → Beside w u → Goes None w (change c.number (taking (Subordinate t.key (length t.parts))) (alter t.key (enlisting p) u))
   enlists_on t p u found active is =
       let v = alter t.key (enlisting p) u in
-      goes_then w v (change c.number (taking (Subordinate t.key (length t.parts))) v) (record { epoch = refl; name = refl; transactions = refl; work = refl })
+      goes_then w v (change c.number (taking (Subordinate t.key (length t.parts))) v) (record { epoch = refl; name = refl; transactions = refl; work = refl; spent = refl; said = silent v.answer.sent })
       (goes_from None w u v is (enlists t u (subst (λ ts. find (has_key t.key) ts ≡ Some t) (sym is.transactions) found) active p))
 
   pulls_into : (found : Option Transaction) (peer : Option (List ℕ)) (subordinate : List ℕ) → ((t : Transaction) → found ≡ Some t → transaction_of t.key w.state ≡ Some t) → EndsGo w (Attempt.Done (pull_into found peer subordinate c.number w))
@@ -237,7 +248,7 @@ module _ (c : Connection) (w : Work) (whole : Whole w.state) where
   pulls_into (Some t) None subordinate there = replied command.Pull said.NotPulled
   pulls_into (Some t) (Some address) subordinate there = step (is_active t.phase && not (is_enlisted t.parts address (Some subordinate))) refl where
     step : (b : Bool) → (is_active t.phase && not (is_enlisted t.parts address (Some subordinate))) ≡ b → EndsGo w (Attempt.Done (cond b (change c.number (taking (Subordinate t.key (length t.parts))) (alter t.key (enlisting (enlisted address (Some subordinate))) (reply c.number command.Pull said.Pulled w))) (reply c.number command.Pull said.NotPulled w)))
-    step true may = inl (enlists_on t (enlisted address (Some subordinate)) (reply c.number command.Pull said.Pulled w) (there t refl) (only_active t.phase (and_parts (is_active t.phase) _ may).0) (record { epoch = refl; name = refl; transactions = refl; work = refl }))
+    step true may = inl (enlists_on t (enlisted address (Some subordinate)) (reply c.number command.Pull said.Pulled w) (there t refl) (only_active t.phase (and_parts (is_active t.phase) _ may).0) (record { epoch = refl; name = refl; transactions = refl; work = refl; spent = refl; said = says_more w c.number said.Pulled }))
     step false not = replied command.Pull said.NotPulled
 
   pulls : (superior subordinate : List ℕ) → EndsGo w (Attempt.Done (pull superior subordinate c w))
@@ -250,10 +261,10 @@ module _ (c : Connection) (w : Work) (whole : Whole w.state) where
 
   takes_over : (key : Key) (earlier : Option Connection) → EndsGo w (Attempt.Done (take_over key c.number earlier w))
   unfolding reply
-  takes_over key None = aside (change c.number (taking (Superior key)) (reply c.number command.Reconnect said.Reconnected w)) refl refl refl refl
+  takes_over key None = aside (change c.number (taking (Superior key)) (reply c.number command.Reconnect said.Reconnected w)) refl refl refl refl refl (says_more w c.number said.Reconnected)
   takes_over key (Some e) =
       let u = change c.number (taking (Superior key)) (reply c.number command.Reconnect said.Reconnected w) in
-      let is : Beside w u = record { epoch = refl; name = refl; transactions = refl; work = refl } in
+      let is : Beside w u = record { epoch = refl; name = refl; transactions = refl; work = refl; spent = refl; said = says_more w c.number said.Reconnected } in
       inl (goes_from None w u (closed e u) is (closed_goes e u (apart_beside w u is whole.keys) (ready_beside w u is ready)))
 
   reconnects_to : (found : Option Transaction) → EndsGo w (Attempt.Done (reconnect_to found c.number w))
@@ -277,7 +288,7 @@ module _ (c : Connection) (w : Work) (whole : Whole w.state) where
     ready_in = ready_beside w u is ready t found_in
 
     nothing : EndsGo u (Attempt.Done u)
-    nothing = inl (beside_goes u u (record { epoch = refl; name = refl; transactions = refl; work = refl }))
+    nothing = inl (beside_goes u u (record { epoch = refl; name = refl; transactions = refl; work = refl; spent = refl; said = silent u.answer.sent }))
 
     asks_all : t.phase ≡ Active → EndsGo u (ask t u)
     asks_all active = all_go t.key u (ask t u) (ask_onward t u found_in apart_in ready_in active)
@@ -298,7 +309,7 @@ module _ (c : Connection) (w : Work) (whole : Whole w.state) where
 
     commits_on : (phase : Phase) → t.phase ≡ phase → EndsGo u (decide_commit phase c t u)
     commits_on Active at = asks_all at
-    commits_on Prepared at = ((t.key, commit_onward t.key u t found_in apart_in (owns_here u.state t ready_in.own) (settled_here w.state t whole found (inl at))), hung_up)
+    commits_on Prepared at = ((t.key, commit_onward t.key u t found_in apart_in (owns_here u.state t ready_in.own) (settled_here w.state t whole found (inl at)) (doubt_commits t at)), hung_up)
     commits_on Aborted at = stops (ap is_stoppable at)
     commits_on Asking at = nothing
     commits_on Committed at = nothing
@@ -306,12 +317,12 @@ module _ (c : Connection) (w : Work) (whole : Whole w.state) where
     removed : (r : Option Row) → is_none (row_in (Some (Remove t.key)) t.key r) ≡ true
     removed r = subst (λ b. is_none (cond b None r) ≡ true) (sym (key_self t.key)) refl
 
-    pub removes : Goes (Some (Remove t.key)) u (abort t.key u)
-    removes = (t.key, abort_onward t.key u t found_in apart_in (owns_here u.state t ready_in.own) (Some (Remove t.key)) (of_remove t.key) (λ r fits. removed r))
+    pub removes : t.phase ≡ Prepared → Goes (Some (Remove t.key)) u (abort t.key u)
+    removes doubt = (t.key, abort_onward t.key u t found_in apart_in (owns_here u.state t ready_in.own) (Some (Remove t.key)) (of_remove t.key) (λ r fits. removed r) (doubt_aborts t doubt))
 
     aborts_on : (phase : Phase) → t.phase ≡ phase → EndsGo u (decide_abort phase c t u)
     aborts_on Active at = stops (ap is_stoppable at)
-    aborts_on Prepared at = (removes, hung_up)
+    aborts_on Prepared at = (removes at, hung_up)
     aborts_on Aborted at = stops (ap is_stoppable at)
     aborts_on Asking at = nothing
     aborts_on Committed at = nothing
@@ -322,16 +333,16 @@ module _ (c : Connection) (w : Work) (whole : Whole w.state) where
     u = change c.number (owing name) w
 
     is : Beside w u
-    is = record { epoch = refl; name = refl; transactions = refl; work = refl }
+    is = record { epoch = refl; name = refl; transactions = refl; work = refl; spent = refl; said = silent w.answer.sent }
 
     by_found : (found : Option Transaction) → ((t : Transaction) → found ≡ Some t → transaction_of t.key w.state ≡ Some t) → EndsGo w (attempt_on found rule u)
-    by_found None there = aside u refl refl refl refl
+    by_found None there = aside u refl refl refl refl refl (silent w.answer.sent)
     by_found (Some t) there = ends_from w u (rule t u) is (keeps t u is (there t refl))
 
     by_role : (role : Option Role) → EndsGo w (attempt_on (option_and_then (λ key. transaction_of key u.state) (superior_role role)) rule u)
-    by_role None = aside u refl refl refl refl
+    by_role None = aside u refl refl refl refl refl (silent w.answer.sent)
     by_role (Some (Superior key)) = by_found (transaction_of key w.state) (λ t found. found_any (has_key key) t found)
-    by_role (Some (Subordinate key part)) = aside u refl refl refl refl
+    by_role (Some (Subordinate key part)) = aside u refl refl refl refl refl (silent w.answer.sent)
 
   pub serves_goes : is_spelled (next_key w.state.head c) ≡ true → (line : Command) → EndsGo w (serve line c w)
   serves_goes spelled (commands.Identify lowest highest peer secondary) = identifies lowest highest peer

@@ -37,10 +37,11 @@ use Rattle.tip_machine.specs.declared.transaction.PartyPlace.TheVariants.{Here, 
 use Rattle.tip_agreement.proofs.Apart.{all_found}
 use Rattle.tip_agreement.proofs.Around.{Whole, found_altered}
 use Rattle.tip_agreement.proofs.Closing.{is_stoppable}
-use Rattle.tip_agreement.proofs.Following.{AllOnward, AreApart, OwnsHere, commit_onward, finish_onward, leave_onward, none_stored, onward_after, owns_here, promise_onward, reacts_onward, stop_onward, turned_to}
+use Rattle.tip_agreement.proofs.Following.{AllOnward, AreApart, OwnsHere, commit_onward, commits_again, finish_onward, leave_onward, none_stored, onward_after, owns_here, promise_onward, reacts_silently, stop_onward, turned_to}
 use Rattle.tip_agreement.proofs.Onward.{Onward, alters, beside, gives, of_none, then}
 use Rattle.tip_agreement.proofs.Owned.{have_parts, in_phase, key_found, parts_from}
-use Rattle.tip_agreement.proofs.Proceeding.{agreed_party, left_party, local_waits, may_ask_party, waits_at}
+use Rattle.tip_agreement.proofs.Speaking.{active_asks, agreed_commits, agreed_promises, asks_silent}
+use Rattle.tip_agreement.proofs.Proceeding.{agreed_party, agreed_within, left_party, local_waits, may_ask_party, waits_at}
 use Rattle.tip_agreement.proofs.Responding.{asking_party, is_going}
 use Rattle.tip_agreement.proofs.Aborting.{own_as}
 
@@ -71,7 +72,7 @@ module _ (t : Transaction) (w : Work) (found : transaction_of t.key w.state ≡ 
   own = owns_here w.state t ready.own
 
   stays : Onward None t.key w w
-  stays = beside t.key w w refl refl refl refl
+  stays = beside t.key w w refl refl refl refl (λ spelled k fine before is. is)
 
   module _ (which : (t.phase ≡ Active) ⊎ (t.phase ≡ Asking)) where
     can_stop : is_stoppable t.phase ≡ true
@@ -84,12 +85,12 @@ module _ (t : Transaction) (w : Work) (found : transaction_of t.key w.state ≡ 
     stops = stop_onward t.key w t found apart own can_stop
 
     agreed_on : decision_of t ≡ decisions.Commit → (owed : Option CommandName) (from : Origin) → t.origin ≡ from → AllOnward t.key w (agree owed from t w)
-    agreed_on is (Some command.Prepare) (origin.Subordinate (Some address) superior) from = (promise_onward t.key w t found apart own address superior from live, stops)
-    agreed_on is (Some command.Commit) from same = (commit_onward t.key w t found apart own (agreed_party t.phase t.place t.parts which ready.waits is), stops)
+    agreed_on is (Some command.Prepare) (origin.Subordinate (Some address) superior) from = (promise_onward t.key w t found apart own address superior from live (agreed_promises t which (agreed_within t.phase t.place t.parts which ready.waits is)), stops)
+    agreed_on is (Some command.Commit) from same = (commit_onward t.key w t found apart own (agreed_party t.phase t.place t.parts which ready.waits is) (agreed_commits t which (agreed_within t.phase t.place t.parts which ready.waits is)), stops)
     agreed_on is owed from same = stays
 
     waited : (phase : Phase) → Onward None t.key w (wait phase t.key w)
-    waited Asking = reacts_onward t.key asks w
+    waited Asking = reacts_silently t.key asks w asks_silent
     waited Active = stays
     waited Prepared = stays
     waited Committed = stays
@@ -101,15 +102,15 @@ module _ (t : Transaction) (w : Work) (found : transaction_of t.key w.state ≡ 
     concluded decisions.Abort is = stops
     concluded decisions.ReadOnly is = leave_onward t.key w t found apart own can_stop (left_party t.phase t.place t.parts which ready.waits is)
 
-  finished : AllOnward t.key w (finish t (react commits t.key w))
+  finished : t.phase ≡ Committed → AllOnward t.key w (finish t (react commits t.key w))
   unfolding react
-  finished = onward_after t.key w (react commits t.key w) (finish t (react commits t.key w)) (reacts_onward t.key commits w) (finish_onward t.key (react commits t.key w) t found apart own refl)
+  finished committed = onward_after t.key w (react commits t.key w) (finish t (react commits t.key w)) (commits_again t.key w t found committed) (finish_onward t.key (react commits t.key w) t found apart own refl)
 
   proceeds_in : (phase : Phase) → t.phase ≡ phase → AllOnward t.key w (proceed_in phase t w)
   proceeds_in Active is = concluded (inl is) (decision_of t) refl
   proceeds_in Asking is = concluded (inr is) (decision_of t) refl
   proceeds_in Prepared is = stays
-  proceeds_in Committed is = finished
+  proceeds_in Committed is = finished is
   proceeds_in Aborted is = stop_onward t.key w t found apart own (ap is_stoppable is)
 
   pub proceed_onward : AllOnward t.key w (proceed t.key w)
@@ -124,7 +125,7 @@ module _ (t : Transaction) (w : Work) (found : transaction_of t.key w.state ≡ 
 
   enters_asking : Onward None t.key w asking
   unfolding asking
-  enters_asking = alters t.key None (of_none t.key) w (entering Asking) t (λ t. refl) found (turned_to (λ r. r) t (entering Asking t) refl refl (λ is. ap is_undecided active) (λ r fits. none_stored t.phase (ap is_stoppable active) t r fits))
+  enters_asking = alters t.key None (of_none t.key) w (entering Asking) t (λ t. refl) found (turned_to (λ r. r) t (entering Asking t) refl refl (λ is. ap is_undecided active) (λ r fits. none_stored t.phase (ap is_stoppable active) t r fits)) (active_asks t active)
 
   found_asking : transaction_of t.key asking.state ≡ Some (entering Asking t)
   unfolding asking
@@ -149,7 +150,7 @@ module _ (t : Transaction) (w : Work) (found : transaction_of t.key w.state ≡ 
   unfolding asking
   asked_at (Here party) at =
       let may = unasked t.place t.parts waits_active party at in
-      let gone = gives t.key asking (entering Asking t) party found_asking at errand.Vote may.0 (owns_here w.state t ready.own party at) in
+      let gone = gives t.key asking (entering Asking t) party found_asking at errand.Vote may.0 (owns_here w.state t ready.own party at) refl in
       let first = then t.key None w asking (give_out errand.Vote party t.key asking) enters_asking gone in
       onward_after t.key w (give_out errand.Vote party t.key asking) (proceed t.key (give_out errand.Vote party t.key asking)) first
       (proceed_onward (standing_at (Out errand.Vote) (entering Asking t)) (give_out errand.Vote party t.key asking) (found_altered t.key asking.state (standing_at (Out errand.Vote)) (λ t. refl) (entering Asking t) found_asking) (first.keys apart) (record { own = refl; waits = may.1 }))
@@ -202,7 +203,7 @@ module _ (m : ℕ) (note : Participant → Participant) (t : Transaction) (w : W
   pub noted_onward : is_going t.phase ≡ true → (t.phase ≡ Committed → Unchanged note) → AllOnward t.key w (proceed t.key (alter t.key (noting (suc m) note) w))
   noted_onward can same =
       let v = alter t.key (noting (suc m) note) w in
-      let first = alters t.key None (of_none t.key) w (noting (suc m) note) t (λ t. refl) found (turned_to (λ r. r) t (noting (suc m) note t) refl refl (λ is. is) (still_stored t.phase can same)) in
+      let first = alters t.key None (of_none t.key) w (noting (suc m) note) t (λ t. refl) found (turned_to (λ r. r) t (noting (suc m) note t) refl refl (λ is. is) (still_stored t.phase can same)) (λ word is. is) in
       onward_after t.key w v (proceed t.key v) first (proceed_onward (noting (suc m) note t) v (found_altered t.key w.state (noting (suc m) note) (λ t. refl) t found) (first.keys apart) (record { own = own_as w.state t (noting (suc m) note t) t.place refl ∙ ready.own; waits = waits_still t.parts ready.waits }))
 
 -- A CONNECTION FAILS
@@ -216,7 +217,7 @@ Goes change w v = (key : Key) × Onward change key w v
 
 module _ (v : Work) (apart : AreApart v) (ready : AllReady v.state) where
   same_goes : Goes None v v
-  same_goes = (record { epoch = 0; connection = 0; number = 0 }, beside (record { epoch = 0; connection = 0; number = 0 }) v v refl refl refl refl)
+  same_goes = (record { epoch = 0; connection = 0; number = 0 }, beside (record { epoch = 0; connection = 0; number = 0 }) v v refl refl refl refl (λ spelled k fine before is. is))
 
   stopped : (t : Transaction) → transaction_of t.key v.state ≡ Some t → is_stoppable t.phase ≡ true → Goes None v (abort t.key v)
   stopped t found can = (t.key, stop_onward t.key v t found apart (owns_here v.state t (ready t found).own) can)
@@ -236,7 +237,7 @@ module _ (v : Work) (apart : AreApart v) (ready : AllReady v.state) where
     step : (b : Bool) → Goes None v (cond b v (abort t.key noted))
     step true = same_goes
     step false =
-        let first = alters t.key None (of_none t.key) v (noting m (answered Lost)) t (λ t. refl) found (turned_to (λ r. r) t (noting m (answered Lost) t) refl refl (λ is. is) (λ r fits. none_row t.phase can r fits)) in
+        let first = alters t.key None (of_none t.key) v (noting m (answered Lost)) t (λ t. refl) found (turned_to (λ r. r) t (noting m (answered Lost) t) refl refl (λ is. is) (λ r fits. none_row t.phase can r fits)) (λ word is. is) in
         (t.key, then t.key None v noted (abort t.key noted) first (stop_onward t.key noted (noting m (answered Lost) t) (found_altered t.key v.state (noting m (answered Lost)) (λ t. refl) t found) (first.keys apart) (owns_here noted.state (noting m (answered Lost) t) (own_as v.state t (noting m (answered Lost) t) t.place refl ∙ (ready t found).own)) can)) where
           none_row : (phase : Phase) → is_stoppable phase ≡ true → (r : Option Row) → is_stored_as phase t r ≡ true → is_stored_as phase (noting m (answered Lost) t) r ≡ true
           none_row Active can r is = is

@@ -1,6 +1,6 @@
 -- How transactions go on over the rules of two-phase commit.
-use Rattle.std.proofs.Common.{◌≡◌, Bool, true, false, ℕ, List, [], ◌∷◌, Option, Some, None, cond, refl, ap, subst, sym, ◌∙◌}
-use Rattle.std.specs.Prelude.{◌&&◌, not, is_none}
+use Rattle.std.proofs.Common.{◌≡◌, Bool, true, false, ℕ, List, [], ◌∷◌, Option, Some, None, cond, refl, ap, subst, sym, ◌∙◌, inl, inr}
+use Rattle.std.specs.Prelude.{◌&&◌, not, is_none, is_some}
 use Rattle.std.specs.List.{list_any}
 use Rattle.std.proofs.lemmas.Bool.{and_from, and_parts, both_ways, not_from_false}
 use Rattle.std.proofs.lemmas.Option.{none-some, same_Some}
@@ -29,8 +29,9 @@ use Rattle.tip_machine.specs.declared.transaction.PartyPlace.TheVariants.{Here, 
 use Rattle.tip_agreement.proofs.Around.{found_altered}
 use Rattle.tip_agreement.proofs.Closing.{is_stoppable}
 use Rattle.tip_agreement.proofs.Keys.{key_self, keys_of}
-use Rattle.tip_agreement.proofs.Onward.{IsOf, Onward, Turns, alters, before, beside, dispatches, ends, of_none, of_put, of_remove, row_in, then}
+use Rattle.tip_agreement.proofs.Onward.{IsOf, Onward, SaysFitting, Turns, alters, before, beside, dispatches, ends, of_none, of_put, of_remove, row_in, then}
 use Rattle.tip_agreement.proofs.Proceeding.{HasLeft}
+use Rattle.tip_agreement.proofs.Speaking.{IsSilent, StillFits, aborts_fits, commits_fits, needs_nothing_silent, promises_silent, silent_fits, stopped_fits}
 
 -- The row of one transaction
 
@@ -90,14 +91,25 @@ module _ (key : Key) where
   onward_after u w (Attempt.Done v) first rest = then key None u w v first rest
   onward_after u w (Attempt.Asks change stored refused) first rest = (before key (Some change) u w stored first rest.0, then key None u w refused first rest.1)
 
-  pub reacts_onward : (reaction : Reaction) (w : Work) → Onward None key w (react reaction key w)
+  pub reacts_onward : (reaction : Reaction) (w : Work) → SaysFitting key w (react reaction key w) → Onward None key w (react reaction key w)
   unfolding react
-  reacts_onward reaction w = beside key w (react reaction key w) refl refl refl refl
+  reacts_onward reaction w says = beside key w (react reaction key w) refl refl refl refl says
+
+  -- where a reaction tells no verdict
+  pub reacts_silently : (reaction : Reaction) (w : Work) → IsSilent reaction → Onward None key w (react reaction key w)
+  reacts_silently reaction w silent = reacts_onward reaction w (λ spelled k fine before. silent_fits reaction silent key w k before)
+
+  -- where one is committed already
+  pub commits_again : (w : Work) (t : Transaction) → transaction_of key w.state ≡ Some t → t.phase ≡ Committed → Onward None key w (react commits key w)
+  commits_again w t found committed = reacts_onward commits w (λ spelled. commits_fits key w t found (spelled (ap is_some found)) committed)
 
   module _ (w : Work) (t : Transaction) (found : transaction_of key w.state ≡ Some t) (apart : AreApart w) (own : OwnsHere w.state t) where
     -- the phase is entered, with what is stored
-    enters : (phase : Phase) (change : Option Change) → IsOf key change → (is_undecided phase ≡ true → is_undecided t.phase ≡ true) → ((r : Option Row) → is_stored_as t.phase t r ≡ true → is_stored_as phase (entering phase t) (row_in change key r) ≡ true) → Onward change key w (enter phase key w)
-    enters phase change of live rows = alters key change of w (entering phase) t (λ t. refl) found (turned_to (row_in change key) t (entering phase t) refl refl live rows)
+    enters : (phase : Phase) (change : Option Change) → IsOf key change → (is_undecided phase ≡ true → is_undecided t.phase ≡ true) → ((r : Option Row) → is_stored_as t.phase t r ≡ true → is_stored_as phase (entering phase t) (row_in change key r) ≡ true) → StillFits t (entering phase t) → Onward change key w (enter phase key w)
+    enters phase change of live rows may = alters key change of w (entering phase) t (λ t. refl) found (turned_to (row_in change key) t (entering phase t) refl refl live rows) may
+
+    found_entered : (phase : Phase) → transaction_of key (enter phase key w).state ≡ Some (entering phase t)
+    found_entered phase = found_altered key w.state (entering phase) (λ t. refl) t found
 
     abbrev entered_in : Phase → Reaction → Work
     entered_in phase reaction = react reaction key (enter phase key w)
@@ -106,57 +118,60 @@ module _ (key : Key) where
     unfolding react
     found_in phase reaction = found_altered key w.state (entering phase) (λ t. refl) t found
 
+    tells_aborts : Onward None key (enter Aborted key w) (entered_in Aborted aborts)
+    tells_aborts = reacts_onward aborts (enter Aborted key w) (λ spelled. aborts_fits key (enter Aborted key w) (entering Aborted t) (found_entered Aborted) (spelled (ap is_some (found_entered Aborted))) refl)
+
     own_in : (phase : Phase) (reaction : Reaction) → OwnsHere (entered_in phase reaction).state (entering phase t)
     unfolding react
     own_in phase reaction = own
 
     -- ABORT: no row is there any more
-    pub abort_onward : (change : Option Change) → IsOf key change → ((r : Option Row) → is_stored_as t.phase t r ≡ true → is_none (row_in change key r) ≡ true) → Onward change key w (abort key w)
+    pub abort_onward : (change : Option Change) → IsOf key change → ((r : Option Row) → is_stored_as t.phase t r ≡ true → is_none (row_in change key r) ≡ true) → StillFits t (entering Aborted t) → Onward change key w (abort key w)
     unfolding abort release
-    abort_onward change of none =
-        let first = enters Aborted change of (λ live. absurd (cc)) none in
-        let told = then key change w (enter Aborted key w) (entered_in Aborted aborts) first (reacts_onward aborts (enter Aborted key w)) in
-        let gone = dispatches key (entered_in Aborted aborts) (entering Aborted t) (found_in Aborted aborts) (λ party at. (own_in Aborted aborts party at, λ ready. refl)) in
+    abort_onward change of none may =
+        let first = enters Aborted change of (λ live. absurd (cc)) none may in
+        let told = then key change w (enter Aborted key w) (entered_in Aborted aborts) first tells_aborts in
+        let gone = dispatches key (entered_in Aborted aborts) (entering Aborted t) (found_in Aborted aborts) (λ party at. record { own = own_in Aborted aborts party at; can = λ ready. refl; may = λ ready. refl; lets = λ none. inl refl }) in
         let sent = then key change w (entered_in Aborted aborts) (dispatch key (entered_in Aborted aborts)) told gone.onward in
         let d = dispatch key (entered_in Aborted aborts) in
         then key change w d (release key d) sent (subst (λ o. Onward None key d (on o (λ (u : Transaction) (v : Work). cond (is_spent u.place && not (list_any (is_on key) v.state.connections)) (end key v) v) d)) (sym gone.found) (step d gone.place gone.found (sent.keys apart) (is_spent gone.place && not (list_any (is_on key) d.state.connections)) refl)) where
           step : (d : Work) (place : PartyPlace) → transaction_of key d.state ≡ Some (standing_at place (entering Aborted t)) → AreApart d → (b : Bool) → (is_spent place && not (list_any (is_on key) d.state.connections)) ≡ b → Onward None key d (cond b (end key d) d)
           step d place there keys true is = ends key None (of_none key) d (standing_at place (entering Aborted t)) keys there (turned_off (λ r. r) (standing_at place (entering Aborted t)) (spent_within place (and_parts (is_spent place) _ is).0) (λ r fits. fits))
-          step d place there keys false is = beside key d d refl refl refl refl
+          step d place there keys false is = beside key d d refl refl refl refl (λ spelled k fine before is. is)
 
     pub stop_onward : is_stoppable t.phase ≡ true → Onward None key w (abort key w)
-    stop_onward can = abort_onward None (of_none key) (none_stored t.phase can t)
+    stop_onward can = abort_onward None (of_none key) (none_stored t.phase can t) (stopped_fits t can)
 
     -- COMMIT
     commit_stored : (r : Option Row) → is_stored_as Committed (entering Committed t) (row_in (Some (Put key (row_committed t))) key r) ≡ true
     commit_stored r = subst (λ b. is_stored_as Committed (entering Committed t) (cond b (Some (row_committed t)) r) ≡ true) (sym (key_self key)) (same_pairs (pairs t))
 
-    pub commit_onward : HasNoneActive t → Onward (Some (Put key (row_committed t))) key w (commit key w)
+    pub commit_onward : HasNoneActive t → StillFits t (entering Committed t) → Onward (Some (Put key (row_committed t))) key w (commit key w)
     unfolding commit
-    commit_onward none =
+    commit_onward none may =
         let change = Some (Put key (row_committed t)) in
-        let first = enters Committed change (of_put key (row_committed t)) (λ live. absurd (cc)) (λ r fits. commit_stored r) in
-        let told = then key change w (enter Committed key w) (entered_in Committed commits) first (reacts_onward commits (enter Committed key w)) in
-        let gone = dispatches key (entered_in Committed commits) (entering Committed t) (found_in Committed commits) (λ party at. (own_in Committed commits party at, λ ready. and_from _ _ (not_from_false _ (none party at)) ready)) in
+        let first = enters Committed change (of_put key (row_committed t)) (λ live. absurd (cc)) (λ r fits. commit_stored r) may in
+        let told = then key change w (enter Committed key w) (entered_in Committed commits) first (commits_again (enter Committed key w) (entering Committed t) (found_entered Committed) refl) in
+        let gone = dispatches key (entered_in Committed commits) (entering Committed t) (found_in Committed commits) (λ party at. record { own = own_in Committed commits party at; can = λ ready. and_from _ _ (not_from_false _ (none party at)) ready; may = λ ready. refl; lets = λ idle. inr (none party at) }) in
         then key change w (entered_in Committed commits) (dispatch key (entered_in Committed commits)) told gone.onward
 
     -- the promise
     promise_stored : (address superior : List ℕ) → t.origin ≡ origin.Subordinate (Some address) superior → (r : Option Row) → is_stored_as Prepared (entering Prepared t) (row_in (Some (Put key (row_in_doubt address superior t))) key r) ≡ true
     promise_stored address superior from r = subst (λ b. is_stored_as Prepared (entering Prepared t) (cond b (Some (row_in_doubt address superior t)) r) ≡ true) (sym (key_self key)) (and_from _ _ (subst (λ o. comes_from (Some address) superior o ≡ true) (sym from) (and_from _ _ (bytes_eq-self address) (bytes_eq-self superior))) (same_pairs (pairs t)))
 
-    pub promise_onward : (address superior : List ℕ) → t.origin ≡ origin.Subordinate (Some address) superior → is_undecided t.phase ≡ true → Onward (Some (Put key (row_in_doubt address superior t))) key w (promise key w)
+    pub promise_onward : (address superior : List ℕ) → t.origin ≡ origin.Subordinate (Some address) superior → is_undecided t.phase ≡ true → StillFits t (entering Prepared t) → Onward (Some (Put key (row_in_doubt address superior t))) key w (promise key w)
     unfolding promise
-    promise_onward address superior from live =
+    promise_onward address superior from live may =
         let change = Some (Put key (row_in_doubt address superior t)) in
-        then key change w (enter Prepared key w) (entered_in Prepared promises) (enters Prepared change (of_put key (row_in_doubt address superior t)) (λ is. live) (λ r fits. promise_stored address superior from r)) (reacts_onward promises (enter Prepared key w))
+        then key change w (enter Prepared key w) (entered_in Prepared promises) (enters Prepared change (of_put key (row_in_doubt address superior t)) (λ is. live) (λ r fits. promise_stored address superior from r) may) (reacts_silently promises (enter Prepared key w) promises_silent)
 
     -- READ-ONLY
     pub leave_onward : is_stoppable t.phase ≡ true → HasLeft t.place → Onward None key w (leave key w)
     unfolding leave react
     leave_onward can left =
         let told = react needs_nothing key w in
-        let gone = dispatches key told t found (λ party at. (own party at, λ ready. absurd (both_ways (has_ready party) (left.left party at) ready))) in
-        let sent = then key None w told (dispatch key told) (reacts_onward needs_nothing w) gone.onward in
+        let gone = dispatches key told t found (λ party at. record { own = own party at; can = λ ready. absurd (both_ways (has_ready party) (left.left party at) ready); may = λ ready. absurd (both_ways (has_ready party) (left.left party at) ready); lets = λ idle. inr (left.settled party at) }) in
+        let sent = then key None w told (dispatch key told) (reacts_silently needs_nothing w needs_nothing_silent) gone.onward in
         then key None w (dispatch key told) (end key (dispatch key told)) sent (ends key None (of_none key) (dispatch key told) (standing_at gone.place t) (sent.keys apart) gone.found (turned_off (λ r. r) (standing_at gone.place t) (gone.stays_in left.within left.left) (λ r fits. none_stored t.phase can (standing_at gone.place t) r fits)))
 
     -- the end of a committed transaction
@@ -167,5 +182,5 @@ module _ (key : Key) where
       removed r = subst (λ k. is_none (row_in (Some (Remove k)) key r) ≡ true) (sym same) (subst (λ b. is_none (cond b None r) ≡ true) (sym (key_self key)) refl)
 
       step : (b : Bool) → is_done t ≡ b → AllOnward w (cond b (Attempt.Asks (Remove t.key) (end t.key w) w) (Attempt.Done w))
-      step true done = (subst (λ k. Onward (Some (Remove k)) key w (end k w)) (sym same) (ends key (Some (Remove key)) (of_remove key) w t apart found (subst (λ k. Turns (row_in (Some (Remove k)) key) (Some t) None) same (turned_off (row_in (Some (Remove t.key)) key) t (spent_within t.place (and_parts (is_spent t.place) _ done).0) (λ r fits. removed r)))), beside key w w refl refl refl refl)
-      step false not = beside key w w refl refl refl refl
+      step true done = (subst (λ k. Onward (Some (Remove k)) key w (end k w)) (sym same) (ends key (Some (Remove key)) (of_remove key) w t apart found (subst (λ k. Turns (row_in (Some (Remove k)) key) (Some t) None) same (turned_off (row_in (Some (Remove t.key)) key) t (spent_within t.place (and_parts (is_spent t.place) _ done).0) (λ r fits. removed r)))), beside key w w refl refl refl refl (λ spelled k fine before is. is))
+      step false not = beside key w w refl refl refl refl (λ spelled k fine before is. is)

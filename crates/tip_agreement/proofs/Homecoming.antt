@@ -22,7 +22,9 @@ use Rattle.tip_machine.specs.Returns.{Back, back_of}
 use Rattle.tip_rows.specs.Logs.{row_at}
 use Rattle.tip_rows.proofs.OrderLemmas.{same_key}
 use Rattle.tip_table.specs.Lists.{changed}
-use Rattle.tip_agreement.proofs.Commanded.{EndsGo, all_go, beside_goes}
+use Rattle.tip_branch.specs.Members.{is_active}
+use Rattle.std.specs.List.{list_any}
+use Rattle.tip_agreement.proofs.Commanded.{EndsGo, all_go}
 use Rattle.tip_agreement.proofs.Known.{KnownApart, same_twice}
 use Rattle.tip_agreement.proofs.Rows.{Says}
 use Rattle.tip_agreement.proofs.Voting.{voted_so}
@@ -37,7 +39,7 @@ use Rattle.tip_agreement.proofs.Following.{AllOnward, AreApart, onward_after, tu
 use Rattle.tip_agreement.proofs.Keys.{keys_changed}
 use Rattle.tip_agreement.proofs.Onward.{alters, lets, of_none, placed_row, says}
 use Rattle.tip_agreement.proofs.Proceeding.{local_waits, may_ask_party}
-use Rattle.tip_agreement.proofs.Returned.{IsAwaited, Owns, dispatched_so, out_to_abort, out_to_commit, owner_found, owns, said_at}
+use Rattle.tip_agreement.proofs.Returned.{IsAwaited, Owns, dispatched_so, out_to_abort, out_to_commit, owner_found, owns, said_at, told_none}
 
 -- The party is here again
 
@@ -94,17 +96,17 @@ module _ (party : PartyNotes) (t : Transaction) (w : Work) (found : transaction_
   unfolding noted
   voted_onward may not =
       let v = alter t.key (noting 0 (answered (party_answer party))) here in
-      let first = alters t.key None (of_none t.key) here (noting 0 (answered (party_answer party))) (standing_at (Here party) t) (λ t. refl) found_here (turned_to (λ r. r) (standing_at (Here party) t) noted refl refl (λ is. is) (votes_stored t.phase t.parts)) in
+      let first = alters t.key None (of_none t.key) here (noting 0 (answered (party_answer party))) (standing_at (Here party) t) (λ t. refl) found_here (turned_to (λ r. r) (standing_at (Here party) t) noted refl refl (λ is. is) (votes_stored t.phase t.parts)) (λ word is. is) in
       onward_after t.key here v (proceed t.key v) first (proceed_onward noted v (found_altered t.key here.state (noting 0 (answered (party_answer party))) (λ t. refl) (standing_at (Here party) t) found_here) (first.keys apart_here) (record { own = own_here; waits = waits_noted may t.phase t.parts ready.waits not }))
 
   -- it was told
   pub told_onward : (t.phase ≡ Committed) ⊎ (t.phase ≡ Aborted) → AllOnward t.key here (proceed t.key here)
   told_onward which = proceed_onward (standing_at (Here party) t) here found_here apart_here (record { own = own_here; waits = waits_here t.phase t.parts ready.waits which (Here party) })
 
-  pub let_off_onward : t.phase ≡ Committed → AllOnward t.key here (proceed t.key (let_go party t.key here))
-  let_off_onward committed =
+  pub let_off_onward : list_any is_active party.members ≡ false → t.phase ≡ Committed → AllOnward t.key here (proceed t.key (let_go party t.key here))
+  let_off_onward none committed =
       let v = let_go party t.key here in
-      let first = lets t.key here (standing_at (Here party) t) party found_here refl in
+      let first = lets t.key here (standing_at (Here party) t) party found_here refl own_here (inr none) in
       onward_after t.key here v (proceed t.key v) first (proceed_onward (standing_at Spent (standing_at (Here party) t)) v (found_altered t.key here.state (standing_at Spent) (λ t. refl) (standing_at (Here party) t) found_here) (first.keys apart_here) (record { own = refl; waits = waits_here t.phase t.parts ready.waits (inl committed) Spent }))
 
 -- WHAT IT COMES TO: a stranger changes nothing; the party of a transaction is here again first
@@ -116,11 +118,11 @@ pub record CameHome (party back : PartyNotes) (w : Work) (a : Attempt) : Type 0 
   pub goes : EndsGo (alter transaction.key (standing_at (Here back)) w) a
 
 abbrev pub BackGoes : PartyNotes → PartyNotes → Work → Attempt → Type 0
-BackGoes party back w a = EndsGo w a ⊎ CameHome party back w a
+BackGoes party back w a = (a ≡ strange back w) ⊎ CameHome party back w a
 
 module _ (party : PartyNotes) (back : Back) (w : Work) (whole : Whole w.state) (awaited : IsAwaited party w.state) where
   stranger : BackGoes party (back_of party back) w (strange (back_of party back) w)
-  stranger = inl (inl (beside_goes w _ (record { epoch = refl; name = refl; transactions = refl; work = refl })))
+  stranger = inl refl
 
   module _ (t : Transaction) (is : owner (back_of party back) w.state ≡ Some t) where
     there : transaction_of t.key w.state ≡ Some t
@@ -153,7 +155,7 @@ module _ (party : PartyNotes) (back : Back) (w : Work) (whole : Whole w.state) (
         home (settled_for (Out errand.Commit) (back_of party back) t w) (step (out_to_commit t.phase said.0 said.1).0 (has_ready (back_of party back)) refl) where
           step : t.phase ≡ Committed → (b : Bool) → has_ready (back_of party back) ≡ b → AllOnward t.key (alter t.key (standing_at (Here (back_of party back))) w) (proceed t.key (cond b (alter t.key (standing_at (Here (back_of party back))) w) (dispatch t.key (alter t.key (standing_at (Here (back_of party back))) w))))
           step committed true ready_now = told_onward (back_of party back) t w there whole.keys ready its (inl committed)
-          step committed false none = subst (λ v. AllOnward t.key (alter t.key (standing_at (Here (back_of party back))) w) (proceed t.key v)) (sym (dispatched_so (back_of party back) t w whole there its none)) (let_off_onward (back_of party back) t w there whole.keys ready its committed)
+          step committed false idle = subst (λ v. AllOnward t.key (alter t.key (standing_at (Here (back_of party back))) w) (proceed t.key v)) (sym (dispatched_so (back_of party back) t w whole there its idle)) (let_off_onward (back_of party back) t w there whole.keys ready its (told_none party back w whole awaited t is at) committed)
     settles_at (Out errand.Abort) at =
         let said = said_at (back_of party back) t w whole there its (Out errand.Abort) at in
         home (settled_for (Out errand.Abort) (back_of party back) t w) (told_onward (back_of party back) t w there whole.keys ready its (inr (out_to_abort t.phase said.0 said.1)))

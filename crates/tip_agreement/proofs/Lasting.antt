@@ -22,6 +22,7 @@ use Rattle.tip_machine.specs.Invariants.Phases.{is_transaction}
 use Rattle.tip_machine.specs.Invariants.Stored.{are_stored, is_stored_as}
 use Rattle.tip_machine.specs.Moves.{World, rows_after, stepped}
 use Rattle.tip_machine.specs.Order.{ordered}
+use Rattle.tip_machine.specs.Requests.{strange}
 use Rattle.tip_machine.specs.Returns.{Back, back_of, event_of}
 use Rattle.tip_machine.specs.Served.{Serving}
 use Rattle.tip_machine.specs.States.{Attempt, State, Work, transaction_of}
@@ -112,6 +113,15 @@ grew rows errands w v base apart grown =
       fits : (k : Key) (found : Option Transaction) → transaction_of k w.state ≡ found → says (transaction_of k v.state) (row_at k rows) ≡ true
       fits k None none = subst (λ ts. says (find (has_key k) ts) (row_at k rows) ≡ true) (sym grown.transactions) (subst (λ o. says o (row_at k rows) ≡ true) (sym (last k w.state.transactions none)) (new_fits k None refl (has_key k grown.new) (subst (λ o. says o (row_at k rows) ≡ true) none (base.fits k))))
       fits k (Some t) found = subst (λ ts. says (find (has_key k) ts) (row_at k rows) ≡ true) (sym grown.transactions) (subst (λ o. says o (row_at k rows) ≡ true) (sym (found_before (has_key k) w.state.transactions grown.new t found)) (subst (λ o. says o (row_at k rows) ≡ true) found (base.fits k)))
+
+-- nothing became of it
+stayed : (rows : List (Key × Row)) (errands : List PartyNotes) (w v : Work) → Base rows errands w → v.state ≡ w.state → v.answer.work ≡ None → Comes rows errands v
+stayed rows errands w v base same none = record {
+  spelled = subst AreSpelled (sym same) base.spelled;
+  known = subst (λ s. are_known_once s ≡ true) (sym same) base.known;
+  out = subst (λ o. are_out v.state (errands ++ option_to_list o) ≡ true) (sym none) (subst (λ ps. are_out v.state ps ≡ true) (sym (append-nil errands)) (subst (λ s. are_out s errands ≡ true) (sym same) base.out));
+  stored = subst (λ s. are_stored s rows ≡ true) (sym same) (from_says w.state rows base.apart base.rising base.fits);
+}
 
 -- by what became of the change
 comes : (rows : List (Key × Row)) (errands : List PartyNotes) (w : Work) (a : Attempt) (outcome : Outcome) → Base rows errands w → Ends (λ v. Whole v.state) a → EndsGo w a → Comes (rows_after (wanted a) outcome rows) errands (chosen a outcome)
@@ -243,5 +253,5 @@ back_sound serving world party errands back outcome sound out due =
     let behind = out_behind world.state party errands out in
     step_sound serving world errands (event_of party back) outcome sound ends behind (λ room. step room a ends (back_goes (entered world.state) (entered_whole world.state whole) (next_fits world sound room) serving party back awaited) behind) where
       step : nat_lt world.state.head.entries world.state.head.limits.entries ≡ true → (a : Attempt) → Ends (λ v. Whole v.state) a → BackGoes party (back_of party back) (entered world.state) a → are_out world.state errands ≡ true → Comes (rows_after (wanted a) outcome world.rows) errands (chosen a outcome)
-      step room a ends (inl goes) behind = comes world.rows errands (entered world.state) a outcome (base_of world errands sound behind) ends goes
+      step room a ends (inl is) behind = subst (λ a. Comes (rows_after (wanted a) outcome world.rows) errands (chosen a outcome)) (sym is) (stayed world.rows errands (entered world.state) (chosen (strange (back_of party back) (entered world.state)) outcome) (base_of world errands sound behind) refl refl)
       step room a ends (inr home) behind = comes world.rows errands (alter home.transaction.key (standing_at (Here (back_of party back))) (entered world.state)) a outcome (base_home world party (back_of party back) errands a sound out home) ends home.goes

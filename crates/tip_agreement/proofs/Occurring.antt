@@ -43,22 +43,23 @@ use Rattle.tip_agreement.proofs.Commanded.{EndsGo, beside_goes, either_goes, fai
 use Rattle.tip_agreement.proofs.Homecoming.{BackGoes, settles_back, votes_back}
 use Rattle.tip_agreement.proofs.Returned.{IsAwaited}
 use Rattle.tip_agreement.proofs.Sound.{found_by}
+use Rattle.tip_agreement.proofs.Wording.{Quiet, asks_more, silent}
 
 -- a connection's next transaction has a key that fits
 abbrev pub IsNextSpelled : Work → Type 0
 IsNextSpelled w = (c : Connection) → connection_of c.number w.state ≡ Some c → is_spelled (next_key w.state.head c) ≡ true
 
 module _ (w : Work) (whole : Whole w.state) (spelled : IsNextSpelled w) where
-  aside : (u : Work) → u.state.head.epoch ≡ w.state.head.epoch → u.state.head.name ≡ w.state.head.name → u.state.transactions ≡ w.state.transactions → u.answer.work ≡ w.answer.work → EndsGo w (Attempt.Done u)
-  aside u epoch name transactions work = inl (beside_goes w u (record { epoch = epoch; name = name; transactions = transactions; work = work }))
+  aside : (u : Work) → u.state.head.epoch ≡ w.state.head.epoch → u.state.head.name ≡ w.state.head.name → u.state.transactions ≡ w.state.transactions → u.answer.work ≡ w.answer.work → u.answer.spent ≡ w.answer.spent → Quiet w.answer.sent u.answer.sent → EndsGo w (Attempt.Done u)
+  aside u epoch name transactions work spent said = inl (beside_goes w u (record { epoch = epoch; name = name; transactions = transactions; work = work; spent = spent; said = said }))
 
   opens : (boxes : List Badge) → EndsGo w (Attempt.Done (opened boxes w))
   unfolding opened added
-  opens boxes = either_goes w (has_place (length boxes) w.state) (added (accepted boxes) w) (hand_back boxes (refuse Full w)) (aside (added (accepted boxes) w) refl refl refl refl) (aside (hand_back boxes (refuse Full w)) refl refl refl refl)
+  opens boxes = either_goes w (has_place (length boxes) w.state) (added (accepted boxes) w) (hand_back boxes (refuse Full w)) (aside (added (accepted boxes) w) refl refl refl refl refl (silent w.answer.sent)) (aside (hand_back boxes (refuse Full w)) refl refl refl refl refl (silent w.answer.sent))
 
   dials : (serves : Bool) (address : List ℕ) (purpose : Purpose) (boxes : List Badge) → EndsGo w (Attempt.Done (dial serves address purpose boxes w))
   unfolding dial added
-  dials serves address purpose boxes = either_goes w (serves && has_place (length boxes) w.state) (tell (w.state.head.given + 1) (Ask (asked.Identify w.state.head.address address)) (added (dialled address purpose boxes) w)) (hand_back boxes (refuse Full w)) (aside (tell (w.state.head.given + 1) (Ask (asked.Identify w.state.head.address address)) (added (dialled address purpose boxes) w)) refl refl refl refl) (aside (hand_back boxes (refuse Full w)) refl refl refl refl)
+  dials serves address purpose boxes = either_goes w (serves && has_place (length boxes) w.state) (tell (w.state.head.given + 1) (Ask (asked.Identify w.state.head.address address)) (added (dialled address purpose boxes) w)) (hand_back boxes (refuse Full w)) (aside (tell (w.state.head.given + 1) (Ask (asked.Identify w.state.head.address address)) (added (dialled address purpose boxes) w)) refl refl refl refl refl (asks_more w (w.state.head.given + 1) (asked.Identify w.state.head.address address) (λ realm id. refl))) (aside (hand_back boxes (refuse Full w)) refl refl refl refl refl (silent w.answer.sent))
 
   -- Lines
 
@@ -72,7 +73,7 @@ module _ (w : Work) (whole : Whole w.state) (spelled : IsNextSpelled w) where
     commands_go serving command = serves_if serving (admit_of c.state c.side (name_of command)) command
 
     answers_go : c.side ≡ Primary → (awaited : Option Awaited) (response : Response) → c.awaited ≡ awaited → EndsGo w (answered_by awaited response c w)
-    answers_go side None response waits = aside w refl refl refl refl
+    answers_go side None response waits = aside w refl refl refl refl refl (silent w.answer.sent)
     answers_go side (Some a) response waits = responds_goes c w whole there side a response waits
 
     hears : (serving : Serving) (side : Side) (heard : Heard) → c.side ≡ side → EndsGo w (hear serving side heard c w)
@@ -86,22 +87,22 @@ module _ (w : Work) (whole : Whole w.state) (spelled : IsNextSpelled w) where
 
   lines : (serving : Serving) (found : Option Connection) (heard : Heard) → ((c : Connection) → found ≡ Some c → connection_of c.number w.state ≡ Some c) → EndsGo w (line serving found heard w)
   unfolding line
-  lines serving None heard there = aside (refuse Stale w) refl refl refl refl
-  lines serving (Some c) heard there = either_attempt (EndsGo w) (may_take c) (hear serving c.side heard c w) (Attempt.Done (refuse Busy w)) (hears c (there c refl) serving c.side heard refl) (aside (refuse Busy w) refl refl refl refl)
+  lines serving None heard there = aside (refuse Stale w) refl refl refl refl refl (silent w.answer.sent)
+  lines serving (Some c) heard there = either_attempt (EndsGo w) (may_take c) (hear serving c.side heard c w) (Attempt.Done (refuse Busy w)) (hears c (there c refl) serving c.side heard refl) (aside (refuse Busy w) refl refl refl refl refl (silent w.answer.sent))
 
   loses : (found : Option Connection) → EndsGo w (Attempt.Done (lost found w))
   unfolding lost
-  loses None = aside (refuse Stale w) refl refl refl refl
+  loses None = aside (refuse Stale w) refl refl refl refl refl (silent w.answer.sent)
   loses (Some c) = inl (fail_goes c w whole.keys (ready c w whole))
 
   asks_push : (serves : Bool) (found : Option Connection) (id : List ℕ) → EndsGo w (Attempt.Done (ask_push serves found id w))
   unfolding ask_push
-  asks_push serves None id = aside (refuse Stale w) refl refl refl refl
+  asks_push serves None id = aside (refuse Stale w) refl refl refl refl refl (silent w.answer.sent)
   asks_push serves (Some c) id = ask_push_goes c w whole serves id
 
   asks_pull : (serves : Bool) (found : Option Connection) (superior : List ℕ) → ((c : Connection) → found ≡ Some c → connection_of c.number w.state ≡ Some c) → EndsGo w (Attempt.Done (ask_pull serves found superior w))
   unfolding ask_pull
-  asks_pull serves None superior there = aside (refuse Stale w) refl refl refl refl
+  asks_pull serves None superior there = aside (refuse Stale w) refl refl refl refl refl (silent w.answer.sent)
   asks_pull serves (Some c) superior there = ask_pull_goes c w whole (spelled c (there c refl)) serves superior
 
   pub event_goes : (serving : Serving) (event : Event) → brings_no_party event ≡ true → EndsGo w (attempt serving event w)

@@ -2,6 +2,7 @@
 use Rattle.std.proofs.Common.{◌≡◌, Bool, true, false, List, [], ◌∷◌, Option, Some, None, cond, refl, ap, subst, sym, ◌∙◌, ◌⊎◌, inl, inr}
 use Rattle.std.specs.Prelude.{◌&&◌, ◌||◌, ◌==◌, not, find, map, is_none, is_some}
 use Rattle.std.specs.List.{list_all, list_any}
+use Rattle.std.specs.Str.{bytes_eq}
 use Rattle.std.proofs.lemmas.Bool.{and_parts, both_ways, cases_Bool, not-true, or_parts}
 use Rattle.std.proofs.lemmas.Option.{same_Some}
 use Rattle.tip_branch.specs.Members.{forgetting, is_active, is_ready}
@@ -16,7 +17,9 @@ use Rattle.tip_txn.specs.declared.answer.Phase.{Phase}
 use Rattle.tip_txn.specs.declared.answer.Phase.TheVariants.{Active, Asking, Prepared, Committed, Aborted}
 use Rattle.tip_rows.proofs.OrderLemmas.{same_key}
 use Rattle.tip_table.specs.Lists.{without}
+use Rattle.tip_machine.specs.Answers.{identifier}
 use Rattle.tip_machine.specs.Changes.{alter, end, on}
+use Rattle.tip_machine.specs.Invariants.Bounds.{is_spelled}
 use Rattle.tip_machine.specs.Invariants.Links.{are_distinct}
 use Rattle.tip_machine.specs.Invariants.Parties.{is_its_own, is_sent, is_unasked}
 use Rattle.tip_machine.specs.Invariants.Stored.{is_stored_as}
@@ -27,9 +30,12 @@ use Rattle.tip_machine.specs.Types.{PartyPlace, Transaction}
 use Rattle.tip_machine.specs.declared.event.Change.{Change}
 use Rattle.tip_machine.specs.declared.event.Change.TheVariants.{Put, Remove}
 use Rattle.tip_machine.specs.declared.transaction.PartyPlace.TheVariants.{Here, Out, Spent}
+use Rattle.tip_agreement.specs.Truth.{Word, fits, is_uncalled}
 use Rattle.tip_agreement.proofs.Around.{found_altered, other_found, other_left}
 use Rattle.tip_agreement.proofs.Keys.{apart_without, keys_changed, keys_of}
 use Rattle.tip_agreement.proofs.Owned.{key_found}
+use Rattle.tip_agreement.proofs.Speaking.{MayLet, StillFits, altered_fits, give_fits, let_fits, may_go, over_fits, placed_fits}
+use Rattle.tip_agreement.proofs.Wording.{Fits, word_at}
 
 -- ONE TRANSACTION
 
@@ -64,12 +70,17 @@ turns_then f g a b c first next = record {
 
 -- ALL OF THEM, and the party that goes out
 
+-- where the key fits, nothing is said but what fits each transaction
+abbrev pub SaysFitting : Key → Work → Work → Type 0
+SaysFitting key w v = (is_some (transaction_of key w.state) ≡ true → is_spelled key ≡ true) → (k : Key) → is_spelled k ≡ true → (before : Word) → Fits before k w → Fits before k v
+
 -- the party of this transaction goes out, which was not out before
 pub record Sends (key : Key) (w v : Work) : Type 0 where
   pub party : PartyNotes
   pub transaction : Transaction
   pub now : v.answer.work ≡ Some party
   pub sent : is_sent party.errand party ≡ true
+  pub uncalled : is_uncalled party ≡ true
   pub epoch : (party.epoch == w.state.head.epoch) ≡ true
   pub id : has_id w.state.head.name party.id transaction ≡ true
   pub found : transaction_of key v.state ≡ Some transaction
@@ -82,16 +93,18 @@ pub record Onward (change : Option Change) (key : Key) (w v : Work) : Type 0 whe
   pub turns : (k : Key) → Turns (row_in change k) (transaction_of k w.state) (transaction_of k v.state)
   pub keys : are_distinct is_same (keys_of w.state.transactions) ≡ true → are_distinct is_same (keys_of v.state.transactions) ≡ true
   pub sends : (v.answer.work ≡ w.answer.work) ⊎ Sends key w v
+  pub fits : SaysFitting key w v
 
 module _ (key : Key) where
   -- no transaction is touched
-  pub beside : (w v : Work) → v.state.head.epoch ≡ w.state.head.epoch → v.state.head.name ≡ w.state.head.name → v.state.transactions ≡ w.state.transactions → v.answer.work ≡ w.answer.work → Onward None key w v
-  beside w v epoch name same work = record {
+  pub beside : (w v : Work) → v.state.head.epoch ≡ w.state.head.epoch → v.state.head.name ≡ w.state.head.name → v.state.transactions ≡ w.state.transactions → v.answer.work ≡ w.answer.work → SaysFitting key w v → Onward None key w v
+  beside w v epoch name same work fits = record {
     epoch = epoch;
     name = name;
     turns = λ k. subst (λ ts. Turns (λ row. row) (transaction_of k w.state) (find (has_key k) ts)) (sym same) (turns_same (transaction_of k w.state));
     keys = λ apart. subst (λ ts. are_distinct is_same (keys_of ts) ≡ true) (sym same) apart;
     sends = inl work;
+    fits = fits;
   }
 
   sends_then : (c d : Option Change) (u w v : Work) → Onward c key u w → Onward d key w v → (v.answer.work ≡ u.answer.work) ⊎ Sends key u v
@@ -103,6 +116,7 @@ module _ (key : Key) where
       transaction = s.transaction;
       now = s.now;
       sent = s.sent;
+      uncalled = s.uncalled;
       epoch = subst (λ e. (s.party.epoch == e) ≡ true) first.epoch s.epoch;
       id = subst (λ n. has_id n s.party.id s.transaction ≡ true) first.name s.id;
       found = s.found;
@@ -112,10 +126,13 @@ module _ (key : Key) where
     step (inr s) (inl b) =
         let later = (next.turns key).out s.transaction s.party.errand s.found s.out in
         let same : has_id u.state.head.name s.party.id later.0 ≡ true = id_kept s.party s.transaction later.0 s.found later.1 s.id in
-        inr (record { party = s.party; transaction = later.0; now = b ∙ s.now; sent = s.sent; epoch = s.epoch; id = same; found = later.1; out = later.2; before = s.before }) where
+        inr (record { party = s.party; transaction = later.0; now = b ∙ s.now; sent = s.sent; uncalled = s.uncalled; epoch = s.epoch; id = same; found = later.1; out = later.2; before = s.before }) where
           id_kept : (p : PartyNotes) (t t' : Transaction) → transaction_of key w.state ≡ Some t → transaction_of key v.state ≡ Some t' → has_id u.state.head.name p.id t ≡ true → has_id u.state.head.name p.id t' ≡ true
           id_kept p t t' found found' is = subst (λ k. has_id u.state.head.name p.id (record t { key = k }) ≡ true) (sym (key_found key t w.state found) ∙ key_found key t' v.state found') is
     step (inr s) (inr s') = absurd (s'.before s.transaction s.party.errand s.found s.out)
+
+  fits_then : (c d : Option Change) (u w v : Work) → Onward c key u w → Onward d key w v → SaysFitting key u v
+  fits_then c d u w v first next spelled k fine before is = next.fits (λ there. spelled ((first.turns key).was there)) k fine before (first.fits spelled k fine before is)
 
   -- one after another
   pub then : (change : Option Change) (u w v : Work) → Onward change key u w → Onward None key w v → Onward change key u v
@@ -125,6 +142,7 @@ module _ (key : Key) where
     turns = λ k. turns_then (row_in change k) (λ row. row) _ _ _ (first.turns k) (next.turns k);
     keys = λ apart. next.keys (first.keys apart);
     sends = sends_then change None u w v first next;
+    fits = fits_then change None u w v first next;
   }
 
   pub before : (change : Option Change) (u w v : Work) → Onward None key u w → Onward change key w v → Onward change key u v
@@ -134,6 +152,7 @@ module _ (key : Key) where
     turns = λ k. turns_then (λ row. row) (row_in change k) _ _ _ (first.turns k) (next.turns k);
     keys = λ apart. next.keys (first.keys apart);
     sends = sends_then None change u w v first next;
+    fits = fits_then None change u w v first next;
   }
 
   -- the transaction of the key is altered, or ends
@@ -167,13 +186,14 @@ module _ (key : Key) (change : Option Change) (of : IsOf key change) (w : Work) 
     | inr differ ↦ turns_beside key change k (transaction_of k w.state) (transaction_of k v.state) (apart k differ) (of k differ)
   ]
 
-  pub alters : (f : Transaction → Transaction) (t : Transaction) → ((t : Transaction) → (f t).key ≡ t.key) → transaction_of key w.state ≡ Some t → Turns (row_in change key) (Some t) (Some (f t)) → Onward change key w (alter key f w)
-  alters f t same found turns = record {
+  pub alters : (f : Transaction → Transaction) (t : Transaction) → ((t : Transaction) → (f t).key ≡ t.key) → transaction_of key w.state ≡ Some t → Turns (row_in change key) (Some t) (Some (f t)) → StillFits t (f t) → Onward change key w (alter key f w)
+  alters f t same found turns may = record {
     epoch = refl;
     name = refl;
     turns = each_key (alter key f w) (subst (λ o. Turns (row_in change key) o (transaction_of key (alter key f w).state)) (sym found) (subst (Turns (row_in change key) (Some t)) (sym (found_altered key w.state f same t found)) turns)) (other_found key w.state f same);
     keys = λ apart. rw (keys_changed (has_key key) f w.state.transactions same) apart;
     sends = inl refl;
+    fits = λ spelled k fine before. altered_fits key w f t same found may k before;
   }
 
   gone_now : (ts : List Transaction) → are_distinct is_same (keys_of ts) ≡ true → find (has_key key) (without (has_key key) ts) ≡ None
@@ -187,6 +207,15 @@ module _ (key : Key) (change : Option Change) (of : IsOf key change) (w : Work) 
     step true here later none = none_same u.key ts (same_key key u.key here) none
     step false differs later none = rw differs later
 
+  ended_fits : (t : Transaction) → are_distinct is_same (keys_of w.state.transactions) ≡ true → transaction_of key w.state ≡ Some t → (k : Key) (before : Word) → Fits before k w → Fits before k (end key w)
+  ended_fits t apart found k before is = elim (cases_Bool (is_same key k)) [
+    | inl here ↦
+        let at = same_key key k here in
+        let old = subst (λ o. fits o (word_at before key w) ≡ true) found (subst (λ x. Fits before x w) (sym at) is) in
+        subst (λ x. Fits before x (end key w)) at (subst (λ o. fits o (word_at before key w) ≡ true) (sym (gone_now w.state.transactions apart)) (over_fits t (word_at before key w) old))
+    | inr differ ↦ subst (λ o. fits o (word_at before k w) ≡ true) (sym (other_left key w.state k differ)) is
+  ]
+
   pub ends : (t : Transaction) → are_distinct is_same (keys_of w.state.transactions) ≡ true → transaction_of key w.state ≡ Some t → Turns (row_in change key) (Some t) None → Onward change key w (end key w)
   ends t apart found turns = record {
     epoch = refl;
@@ -194,6 +223,7 @@ module _ (key : Key) (change : Option Change) (of : IsOf key change) (w : Work) 
     turns = each_key (end key w) (subst (λ o. Turns (row_in change key) o (transaction_of key (end key w).state)) (sym found) (subst (Turns (row_in change key) (Some t)) (sym (gone_now w.state.transactions apart)) turns)) (other_left key w.state);
     keys = λ apart. apart_without (has_key key) w.state.transactions apart;
     sends = inl refl;
+    fits = λ spelled. λ k fine before. ended_fits t apart found k before;
   }
 
 -- THE PARTY
@@ -206,6 +236,10 @@ none_forgets p same (m ∷ ms) = λ i. same m i || none_forgets p same ms i
 all_forget : (p : Member → Bool) → ((m : Member) → p (forgetting m) ≡ p m) → (ms : List Member) → list_all p (map forgetting ms) ≡ list_all p ms
 all_forget p same [] = refl
 all_forget p same (m ∷ ms) = λ i. same m i && all_forget p same ms i
+
+none_called : (ms : List Member) → list_all (λ (m : Member). is_none m.call) (map forgetting ms) ≡ true
+none_called [] = refl
+none_called (m ∷ ms) = none_called ms
 
 -- how a party can be given an errand
 abbrev pub CanGo : Errand → PartyNotes → Type 0
@@ -240,12 +274,18 @@ module _ (key : Key) (w : Work) (t : Transaction) (party : PartyNotes) (found : 
     never : (e : Errand) → Here party ≡ Out e → ⊥
     never e is = cc
 
-  pub lets : Onward None key w (let_go party key w)
-  lets = let a = alters key None (of_none key) w (standing_at Spent) t (λ t. refl) found (moves Spent) in record { epoch = a.epoch; name = a.name; turns = a.turns; keys = a.keys; sends = inl refl }
+  -- it is the transaction's own
+  own_id : is_its_own w.state t (Here party) ≡ true → bytes_eq party.id (identifier w.state.head.name key) ≡ true
+  own_id own = subst (λ k. bytes_eq party.id (identifier w.state.head.name k) ≡ true) (sym (key_found key t w.state found)) (and_parts (party.epoch == w.state.head.epoch) (has_id w.state.head.name party.id t) own).1
 
-  pub gives : (e : Errand) → CanGo e party → is_its_own w.state t (Here party) ≡ true → Onward None key w (give_out e party key w)
-  gives e can own =
-      let a = alters key None (of_none key) w (standing_at (Out e)) t (λ t. refl) found (moves (Out e)) in
+  pub lets : is_its_own w.state t (Here party) ≡ true → MayLet t party → Onward None key w (let_go party key w)
+  lets own may =
+      let a = alters key None (of_none key) w (standing_at Spent) t (λ t. refl) found (moves Spent) (placed_fits t party Spent here) in
+      record { epoch = a.epoch; name = a.name; turns = a.turns; keys = a.keys; sends = inl refl; fits = λ spelled. let_fits key w t party found here (own_id own) (spelled (ap is_some found)) may }
+
+  pub gives : (e : Errand) → CanGo e party → is_its_own w.state t (Here party) ≡ true → may_go t.phase e ≡ true → Onward None key w (give_out e party key w)
+  gives e can own may =
+      let a = alters key None (of_none key) w (standing_at (Out e)) t (λ t. refl) found (moves (Out e)) (placed_fits t party (Out e) here) in
       let its = and_parts (party.epoch == w.state.head.epoch) (has_id w.state.head.name party.id t) own in
       record {
         epoch = a.epoch;
@@ -257,15 +297,24 @@ module _ (key : Key) (w : Work) (t : Transaction) (party : PartyNotes) (found : 
           transaction = standing_at (Out e) t;
           now = refl;
           sent = given_sent e party can;
+          uncalled = none_called party.members;
           epoch = its.0;
           id = its.1;
           found = found_altered key w.state (standing_at (Out e)) (λ t. refl) t found;
           out = refl;
           before = λ u f is at. never f (sym here ∙ (ap (λ (x : Transaction). x.place) (same_Some t u (sym found ∙ is)) ∙ at));
         });
+        fits = λ spelled. give_fits key w t party found here (own_id own) its.0 (spelled (ap is_some found)) e may;
       } where
         never : (f : Errand) → Here party ≡ Out f → ⊥
         never f is = cc
+
+-- a party that is here is the transaction's own, and goes out or is let go as its phase says
+pub record MayBeSent (w : Work) (t : Transaction) (party : PartyNotes) : Type 0 where
+  pub own : is_its_own w.state t (Here party) ≡ true
+  pub can : has_ready party ≡ true → CanGo (errand_in t.phase) party
+  pub may : has_ready party ≡ true → may_go t.phase (errand_in t.phase) ≡ true
+  pub lets : has_ready party ≡ false → MayLet t party
 
 -- where its party is after it was dispatched
 pub record Dispatched (key : Key) (t : Transaction) (w v : Work) : Type 0 where
@@ -277,9 +326,9 @@ pub record Dispatched (key : Key) (t : Transaction) (w v : Work) : Type 0 where
 
 module _ (key : Key) (w : Work) (t : Transaction) (found : transaction_of key w.state ≡ Some t) where
   stood : (place : PartyPlace) → t.place ≡ place → Dispatched key t w w
-  stood place at = record { onward = beside key w w refl refl refl refl; place = place; found = found ∙ ap Some (λ i. record t { place = at i }); stays_in = λ never none e out. never e (at ∙ out) }
+  stood place at = record { onward = beside key w w refl refl refl refl (λ spelled k fine before is. is); place = place; found = found ∙ ap Some (λ i. record t { place = at i }); stays_in = λ never none e out. never e (at ∙ out) }
 
-  pub dispatches : ((party : PartyNotes) → t.place ≡ Here party → (is_its_own w.state t (Here party) ≡ true) × (has_ready party ≡ true → CanGo (errand_in t.phase) party)) → Dispatched key t w (dispatch key w)
+  pub dispatches : ((party : PartyNotes) → t.place ≡ Here party → MayBeSent w t party) → Dispatched key t w (dispatch key w)
   unfolding dispatch
   dispatches can = subst (λ o. Dispatched key t w (on o (λ (u : Transaction). dispatched u.place u.phase key) w)) (sym found) (step t.place refl) where
     never_out : (e : Errand) → (place : PartyPlace) → place ≡ Spent → place ≡ Out e → ⊥
@@ -287,13 +336,13 @@ module _ (key : Key) (w : Work) (t : Transaction) (found : transaction_of key w.
 
     by_ready : (party : PartyNotes) → t.place ≡ Here party → (b : Bool) → has_ready party ≡ b → Dispatched key t w (cond b (give_out (errand_in t.phase) party key w) (let_go party key w))
     by_ready party at true ready = let may = can party at in record {
-      onward = gives key w t party found at (errand_in t.phase) (may.1 ready) may.0;
+      onward = gives key w t party found at (errand_in t.phase) (may.can ready) may.own (may.may ready);
       place = Out (errand_in t.phase);
       found = found_altered key w.state (standing_at (Out (errand_in t.phase))) (λ t. refl) t found;
       stays_in = λ never none e out. both_ways (has_ready party) (none party at) ready;
     }
     by_ready party at false none = record {
-      onward = lets key w t party found at;
+      onward = lets key w t party found at (can party at).own ((can party at).lets none);
       place = Spent;
       found = found_altered key w.state (standing_at Spent) (λ t. refl) t found;
       stays_in = λ never none e out. never_out e Spent refl out;

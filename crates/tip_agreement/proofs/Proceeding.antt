@@ -405,17 +405,38 @@ agreed_party phase place (local ∷ parts) which waits agreed party at = step ph
   step Aborted (inl is) waits = absurd (cc)
   step Aborted (inr is) waits = absurd (cc)
 
+-- nor is it out
+pub agreed_within : (phase : Phase) (place : PartyPlace) (parts : List Participant) → (phase ≡ Active) ⊎ (phase ≡ Asking) → local_waits phase place parts ≡ true → decision (map (λ (part : Participant). part.answer) parts) ≡ decisions.Commit → (e : Errand) → place ≡ Out e → ⊥
+agreed_within phase place [] which waits agreed e at = cc
+agreed_within phase place (local ∷ parts) which waits agreed e at = step phase which waits where
+  closed_now : is_open_answer local.answer ≡ false
+  closed_now = (or_parts (is_open_answer local.answer) _ (agrees (local.answer ∷ map (λ (part : Participant). part.answer) parts) agreed)).0
+
+  never : (answer : Option Ballot) → is_party Prepared (Out e) answer ≡ true → ⊥
+  never answer is = cc
+
+  step : (phase : Phase) → (phase ≡ Active) ⊎ (phase ≡ Asking) → waits_at phase place local.answer ≡ true → ⊥
+  step Active which waits = both_ways (is_open_answer local.answer) closed_now (active_open place local.answer waits)
+  step Asking which waits = never local.answer (subst (λ p. is_party Prepared p local.answer ≡ true) at (decided_party place local.answer waits closed_now))
+  step Prepared (inl is) waits = cc
+  step Prepared (inr is) waits = cc
+  step Committed (inl is) waits = cc
+  step Committed (inr is) waits = cc
+  step Aborted (inl is) waits = cc
+  step Aborted (inr is) waits = cc
+
 -- all are read-only: it is not out, and none of its branches waits for the outcome
 pub record HasLeft (place : PartyPlace) : Type 0 where
   pub within : (e : Errand) → place ≡ Out e → ⊥
   pub left : (party : PartyNotes) → place ≡ Here party → has_ready party ≡ false
+  pub settled : (party : PartyNotes) → place ≡ Here party → list_any is_active party.members ≡ false
 
 read_only_at : (place : PartyPlace) (answer : Option Ballot) → may_ask_party place answer ≡ true → is_not_read_only answer ≡ false → HasLeft place
 unfolding is_open_answer is_not_read_only
 read_only_at (Out errand.Vote) None may closed = absurd (cc)
 read_only_at (Here party) (Some Yes) may closed = absurd (cc)
 read_only_at (Here party) (Some No) may closed = absurd (cc)
-read_only_at (Here party) (Some ReadOnly) may closed = record { within = λ e is. never e is; left = λ q is. subst (λ p. has_ready p ≡ false) (same_here q is) (not-true _ (and_parts (not (list_any is_active party.members)) (not (has_ready party)) may).1) } where
+read_only_at (Here party) (Some ReadOnly) may closed = record { within = λ e is. never e is; left = λ q is. subst (λ p. has_ready p ≡ false) (same_here q is) (not-true _ (and_parts (not (list_any is_active party.members)) (not (has_ready party)) may).1); settled = λ q is. subst (λ p. list_any is_active p.members ≡ false) (same_here q is) (not-true _ (and_parts (not (list_any is_active party.members)) (not (has_ready party)) may).0) } where
   never : (e : Errand) → Here party ≡ Out e → ⊥
   never e is = cc
 

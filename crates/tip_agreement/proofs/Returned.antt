@@ -250,14 +250,15 @@ module _ (party : PartyNotes) (back : Back) (w : Work) (whole : Whole w.state) (
     step None is = whole
     step (Some t) is = voted_at (back_of party back) t w whole (owner_found (back_of party back) w.state t whole is) (owns (back_of party back) w.state t is) (voted_so party back vote unasked) t.place refl
 
+  -- one that was told to commit has no active branch
+  pub told_none : (t : Transaction) → owner party w.state ≡ Some t → t.place ≡ Out errand.Commit → list_any is_active (back_of party back).members ≡ false
+  told_none t is at =
+      let same = awaited_at party.errand errand.Commit (subst (λ p. is_out_for party.errand p ≡ true) at (awaited.due t is)) in
+      committed_none party back same (not-true _ (and_parts (not (list_any is_active party.members)) (has_ready party) (subst (λ e. is_sent e party ≡ true) same awaited.sent)).0)
+
   pub settled_whole : AllWhole (settled (owner (back_of party back) w.state) (back_of party back) w)
   unfolding settled
   settled_whole = step (owner (back_of party back) w.state) refl where
-    promised : (t : Transaction) → owner party w.state ≡ Some t → t.place ≡ Out errand.Commit → list_any is_active (back_of party back).members ≡ false
-    promised t is at =
-        let same = awaited_at party.errand errand.Commit (subst (λ p. is_out_for party.errand p ≡ true) at (awaited.due t is)) in
-        committed_none party back same (not-true _ (and_parts (not (list_any is_active party.members)) (has_ready party) (subst (λ e. is_sent e party ≡ true) same awaited.sent)).0)
-
     step : (found : Option Transaction) → owner (back_of party back) w.state ≡ found → AllWhole (settled found (back_of party back) w)
     step None is = whole
-    step (Some t) is = settled_at (back_of party back) t w whole (owner_found (back_of party back) w.state t whole is) (owns (back_of party back) w.state t is) (promised t is) t.place refl
+    step (Some t) is = settled_at (back_of party back) t w whole (owner_found (back_of party back) w.state t whole is) (owns (back_of party back) w.state t is) (told_none t is) t.place refl

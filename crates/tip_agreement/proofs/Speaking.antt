@@ -1,6 +1,6 @@
 -- What is said while a rule is done fits: each single step of it.
 use Rattle.std.proofs.Common.{◌≡◌, Bool, true, false, ℕ, List, Option, Some, None, cond, refl, ap, subst, sym, ◌∙◌, ◌⊎◌, inl, inr}
-use Rattle.std.specs.Prelude.{◌||◌, ◌==◌, not}
+use Rattle.std.specs.Prelude.{◌&&◌, ◌||◌, ◌==◌, not}
 use Rattle.std.specs.List.{list_any}
 use Rattle.std.specs.Option.{option_map_or}
 use Rattle.std.specs.Str.{bytes_eq}
@@ -21,11 +21,12 @@ use Rattle.tip_machine.specs.Invariants.Bounds.{is_spelled}
 use Rattle.tip_machine.specs.Proceeding.{give_out, let_go}
 use Rattle.tip_machine.specs.Reactions.{Reaction, aborts, asks, commits, needs_nothing, promises, react}
 use Rattle.tip_machine.specs.States.{Work, transaction_of}
-use Rattle.tip_machine.specs.Transactions.{standing_at}
+use Rattle.tip_machine.specs.Transactions.{entering, standing_at}
 use Rattle.tip_machine.specs.Types.{PartyPlace, Transaction}
 use Rattle.tip_machine.specs.declared.transaction.PartyPlace.TheVariants.{Here, Out, Spent}
-use Rattle.tip_agreement.specs.Truth.{Word, fits, fits_in, will_tell, will_vote}
+use Rattle.tip_agreement.specs.Truth.{Word, fits, fits_in, is_lost, will_tell, will_vote}
 use Rattle.tip_agreement.proofs.Around.{found_altered, other_found}
+use Rattle.tip_agreement.proofs.Closing.{is_stoppable}
 use Rattle.tip_agreement.proofs.Keys.{key_self}
 use Rattle.tip_agreement.proofs.Spelling.{keys_told}
 use Rattle.tip_agreement.proofs.Wording.{Fits, IsMute, Less, fits_less, fits_so, fits_still, mute_said, no_fourth, no_second, no_third, no_third_of_four, not_less, rolls_back, word_at, word_in}
@@ -68,6 +69,68 @@ leaves_here Asking party place word is = let parts = and_parts (not word.commit)
 
 pub placed_fits : (t : Transaction) (party : PartyNotes) (place : PartyPlace) → t.place ≡ Here party → StillFits t (standing_at place t)
 placed_fits t party place here word is = leaves_here t.phase party place word (subst (λ p. fits_in t.phase p word ≡ true) here is)
+
+-- it enters a phase: an abort, where no branch was told to commit
+pub stopped_fits : (t : Transaction) → is_stoppable t.phase ≡ true → StillFits t (entering Aborted t)
+stopped_fits t can word is = step t.phase can is where
+  step : (phase : Phase) → is_stoppable phase ≡ true → fits_in phase t.place word ≡ true → not word.commit ≡ true
+  step Active can is = (and_parts (not word.commit) _ is).0
+  step Asking can is = (and_parts (not word.commit) (not word.abort || is_lost t.place word.awaited) is).0
+  step Aborted can is = is
+  step Prepared can is = absurd (cc)
+  step Committed can is = absurd (cc)
+
+-- in doubt, nobody was told anything
+doubt_word : (t : Transaction) (word : Word) → t.phase ≡ Prepared → fits (Some t) word ≡ true → (not word.commit ≡ true) × (not word.abort ≡ true)
+doubt_word t word doubt is = and_parts (not word.commit) (not word.abort) (subst (λ f. fits_in f t.place word ≡ true) doubt is)
+
+pub doubt_aborts : (t : Transaction) → t.phase ≡ Prepared → StillFits t (entering Aborted t)
+doubt_aborts t doubt word is = (doubt_word t word doubt is).0
+
+pub doubt_commits : (t : Transaction) → t.phase ≡ Prepared → StillFits t (entering Committed t)
+doubt_commits t doubt word is = (doubt_word t word doubt is).1
+
+-- one that was not decided, and whose party is not out: nobody was told anything
+open_word : (t : Transaction) (word : Word) → (t.phase ≡ Active) ⊎ (t.phase ≡ Asking) → ((e : Errand) → t.place ≡ Out e → ⊥) → fits (Some t) word ≡ true → (not word.commit ≡ true) × (not word.abort ≡ true)
+open_word t word which within is = elim which [
+  | inl active ↦ and_parts (not word.commit) (not word.abort) (subst (λ f. fits_in f t.place word ≡ true) active is)
+  | inr asking ↦
+      let parts = and_parts (not word.commit) (not word.abort || is_lost t.place word.awaited) (subst (λ f. fits_in f t.place word ≡ true) asking is) in
+      (parts.0, never_lost (not word.abort) t.place within parts.1)
+] where
+  never_lost : (b : Bool) (place : PartyPlace) → ((e : Errand) → place ≡ Out e → ⊥) → b || is_lost place word.awaited ≡ true → b ≡ true
+  never_lost true place within is = refl
+  never_lost false (Out e) within is = absurd (within e refl)
+  never_lost false (Here party) within is = is
+  never_lost false Spent within is = is
+
+pub agreed_commits : (t : Transaction) → (t.phase ≡ Active) ⊎ (t.phase ≡ Asking) → ((e : Errand) → t.place ≡ Out e → ⊥) → StillFits t (entering Committed t)
+agreed_commits t which within word is = (open_word t word which within is).1
+
+pub agreed_promises : (t : Transaction) → (t.phase ≡ Active) ⊎ (t.phase ≡ Asking) → ((e : Errand) → t.place ≡ Out e → ⊥) → StillFits t (entering Prepared t)
+agreed_promises t which within word is = let none = open_word t word which within is in and_from _ _ none.0 none.1
+
+pub active_asks : (t : Transaction) → t.phase ≡ Active → StillFits t (entering Asking t)
+active_asks t active word is = let parts = and_parts (not word.commit) (not word.abort) (subst (λ f. fits_in f t.place word ≡ true) active is) in and_from _ _ parts.0 (or_left _ _ parts.1)
+
+-- it is over: not both
+pub over_fits : (t : Transaction) (word : Word) → fits (Some t) word ≡ true → fits None word ≡ true
+over_fits t word is = step t.phase is where
+  no_commit : (c a : Bool) → not c ≡ true → not (c && a) ≡ true
+  no_commit true a is = absurd (cc)
+  no_commit false a is = refl
+
+  no_abort : (c a : Bool) → not a ≡ true → not (c && a) ≡ true
+  no_abort c true is = absurd (cc)
+  no_abort true false is = refl
+  no_abort false false is = refl
+
+  step : (phase : Phase) → fits_in phase t.place word ≡ true → not (word.commit && word.abort) ≡ true
+  step Active is = no_commit word.commit word.abort (and_parts (not word.commit) (not word.abort) is).0
+  step Asking is = no_commit word.commit word.abort (and_parts (not word.commit) (not word.abort || is_lost t.place word.awaited) is).0
+  step Prepared is = no_commit word.commit word.abort (and_parts (not word.commit) (not word.abort) is).0
+  step Committed is = no_abort word.commit word.abort is
+  step Aborted is = no_commit word.commit word.abort is
 
 -- A PARTY IS LET GO
 

@@ -23,7 +23,9 @@ use Rattle.tip_machine.specs.Reactions.{Demand, Reacted, Reaction, answers, dema
 use Rattle.tip_machine.specs.States.{Work}
 use Rattle.tip_machine.specs.Transactions.{has_key}
 use Rattle.tip_machine.specs.Types.{Connection, PartyPlace, Transaction}
-use Rattle.tip_machine.specs.declared.answer.Item.TheVariants.{Ask}
+use Rattle.tip_machine.specs.Changes.{tell}
+use Rattle.tip_machine.specs.declared.answer.Asked.{Asked}
+use Rattle.tip_machine.specs.declared.answer.Item.TheVariants.{Ask, Close, Say}
 use Rattle.tip_machine.specs.declared.answer.Sent.{Sent}
 use Rattle.tip_machine.specs.declared.answer.Said.{Said}
 use Rattle.tip_machine.specs.declared.connection.Role.{Role}
@@ -129,6 +131,15 @@ one_more xs x none test realm id = list_any-append (says test realm id) xs (x �
   or_nothing : (b : Bool) → b || (false || false) ≡ b
   or_nothing true = refl
   or_nothing false = refl
+
+pub says_more : (w : Work) (number : ℕ) (said : Said) → Quiet w.answer.sent (tell number (Say said) w).answer.sent
+says_more w number said = one_more w.answer.sent (record { connection = number; item = Say said }) (λ realm id. refl)
+
+pub closes_more : (w : Work) (number : ℕ) → Quiet w.answer.sent (tell number Close w).answer.sent
+closes_more w number = one_more w.answer.sent (record { connection = number; item = Close }) (λ realm id. refl)
+
+pub asks_more : (w : Work) (number : ℕ) (asked : Asked) → ((realm id : List ℕ) → of_item realm id (Ask asked) ≡ None) → Quiet w.answer.sent (tell number (Ask asked) w).answer.sent
+asks_more w number asked none = one_more w.answer.sent (record { connection = number; item = Ask asked }) none
 
 pub quiet_then : (a b c : List Sent) → Quiet a b → Quiet b c → Quiet a c
 quiet_then a b c first next test realm id = next test realm id ∙ first test realm id
