@@ -46,8 +46,11 @@ pub mod Rows
 pub mod Sound
 pub mod Speaking
 pub mod Spelling
+pub mod Spoken
 pub mod Starts
 pub mod Superiors
+pub mod Telling
+pub mod Truthful
 pub mod Voting
 pub mod Waiting
 pub mod Wording
