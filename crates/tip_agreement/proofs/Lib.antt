@@ -7,6 +7,7 @@ pub mod Around
 pub mod Asking
 pub mod Beginning
 pub mod Bounded
+pub mod Calling
 pub mod Closing
 pub mod Commanded
 pub mod Commanding
@@ -33,6 +34,7 @@ pub mod Obeying
 pub mod Occurring
 pub mod Onward
 pub mod Owned
+pub mod Parting
 pub mod Proceeding
 pub mod Pulling
 pub mod Pursuing
