@@ -212,7 +212,7 @@ base_of world errands sound out =
       quiet = refl;
     }
 
-next_fits : (world : World) → IsSound world → nat_lt world.state.head.entries world.state.head.limits.entries ≡ true → IsNextSpelled (entered world.state)
+pub next_fits : (world : World) → IsSound world → nat_lt world.state.head.entries world.state.head.limits.entries ≡ true → IsNextSpelled (entered world.state)
 next_fits world sound room c there = next_spelled world.state c (in_bounds world.state sound.bounded) sound.numbered room there
 
 pub event_sound : (serving : Serving) (world : World) (event : Event) (outcome : Outcome) → IsSound world → brings_no_party event ≡ true → IsSound (stepped serving event outcome world).world

@@ -19,6 +19,7 @@ pub mod Events
 pub mod Following
 pub mod Found
 pub mod Heard
+pub mod Holding
 pub mod Homecoming
 pub mod Joining
 pub mod Kept

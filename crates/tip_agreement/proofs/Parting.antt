@@ -7,8 +7,8 @@ use Rattle.std.proofs.lemmas.Bool.{and_from, and_left, and_parts, and_right, bot
 use Rattle.tip_branch.specs.Notes.{PartyNotes}
 use Rattle.tip_branch.specs.declared.member.Errand.{Errand}
 use Rattle.tip_branch.specs.declared.member.Errand.TheVariants as errand
-use Rattle.tip_rows.specs.Keys.{Key}
-use Rattle.tip_rows.proofs.MemoryLemmas.{same_text}
+use Rattle.tip_rows.specs.Keys.{Key, is_same}
+use Rattle.tip_rows.proofs.MemoryLemmas.{same_text, bytes_eq-self}
 use Rattle.tip_rows.proofs.OrderLemmas.{same_key}
 use Rattle.tip_txn.specs.declared.answer.Ballot.{Ballot}
 use Rattle.tip_txn.specs.declared.answer.Phase.{Phase}
@@ -25,16 +25,19 @@ use Rattle.tip_machine.specs.Moves.{World}
 use Rattle.tip_machine.specs.Outputs.{Output}
 use Rattle.tip_machine.specs.States.{State, transaction_of}
 use Rattle.tip_machine.specs.Steps.{entered}
-use Rattle.tip_machine.specs.Transactions.{has_key}
-use Rattle.tip_machine.specs.Types.{Transaction}
-use Rattle.tip_machine.specs.declared.transaction.PartyPlace.TheVariants.{Out}
+use Rattle.tip_machine.specs.Transactions.{has_key, standing_at}
+use Rattle.tip_machine.specs.Types.{Transaction, PartyPlace}
+use Rattle.tip_machine.specs.declared.transaction.PartyPlace.TheVariants.{Out, Here}
 use Rattle.tip_machine.proofs.Walks.{found_passes}
+use Rattle.std.proofs.lemmas.Option.{same_Some}
+use Rattle.tip_table.specs.Lists.{changed}
+use Rattle.tip_agreement.proofs.Around.{found_altered, other_found}
 use Rattle.tip_agreement.specs.Truth.{IsTrueTo, Word, fits, fits_in, is_lost, is_to_vote, is_uncalled, will_tell, will_vote}
 use Rattle.tip_agreement.proofs.Apart.{all_found}
 use Rattle.tip_agreement.proofs.Bounded.{AreSpelled, in_bounds, spelled_at}
 use Rattle.tip_agreement.proofs.Events.{entered_whole}
 use Rattle.tip_agreement.proofs.Moving.{sound_given, sound_whole}
-use Rattle.tip_agreement.proofs.Returned.{said_at}
+use Rattle.tip_agreement.proofs.Returned.{said_at, Owns}
 use Rattle.tip_agreement.proofs.Spelling.{keys_told}
 use Rattle.tip_agreement.proofs.Spoken.{has_word}
 use Rattle.tip_agreement.proofs.Telling.{any_told, are_told}
@@ -191,3 +194,78 @@ module _ (world : World) (sound : IsSound world) where
 
     pub true_without : IsTrueTo later (record { state = world.state; rows = world.rows; errands = rest })
     true_without = record { fits = fits_now; given = given_now; uncalled = (and_parts (is_uncalled party) (list_all is_uncalled rest) true_to.uncalled).1 }
+
+  -- ONE IS HERE AGAIN: its transaction has it
+
+  module _ (shown later : List Output) (party back : PartyNotes) (rest : List PartyNotes) (is_out : are_out world.state (party ∷ rest) ≡ true)
+      (heard : (test : Verdict → Bool) (id : List ℕ) → are_told test world.state.head.name id later ≡ true → (are_told test world.state.head.name id shown ≡ true) ⊎ (will_tell test now id party ≡ true))
+      (true_to : IsTrueTo shown (record { state = world.state; rows = world.rows; errands = party ∷ rest }))
+      (t : Transaction) (found : transaction_of t.key world.state ≡ Some t) (its : Owns party world.state t) where
+    abbrev first_word : Key → Word
+    first_word k = word_by world.state.head.name now (party ∷ rest) shown (id_at k)
+
+    abbrev next_word : Key → Word
+    next_word k = word_by world.state.head.name now rest later (id_at k)
+
+    told_less : (test : Verdict → Bool) (k : Key) → list_any test (told world.state.head.name (id_at k) later) || list_any (will_tell test now (id_at k)) rest ≡ true → list_any test (told world.state.head.name (id_at k) shown) || list_any (will_tell test now (id_at k)) (party ∷ rest) ≡ true
+    told_less test k is = elim (or_cases (list_any test (told world.state.head.name (id_at k) later)) (list_any (will_tell test now (id_at k)) rest) is) [
+      | inl said ↦ elim (heard test (id_at k) (sym (any_told test world.state.head.name (id_at k) later) ∙ said)) [
+        | inl before ↦ or_left (list_any test (told world.state.head.name (id_at k) shown)) _ (any_told test world.state.head.name (id_at k) shown ∙ before)
+        | inr will ↦ or_right (list_any test (told world.state.head.name (id_at k) shown)) _ (or_left (will_tell test now (id_at k) party) _ will)
+      ]
+      | inr will ↦ or_right (list_any test (told world.state.head.name (id_at k) shown)) _ (or_right (will_tell test now (id_at k) party) _ will)
+    ]
+
+    back_less : (k : Key) → Less (next_word k) (first_word k)
+    back_less k = record { commit = told_less is_commit k; abort = told_less is_abort k; awaited = λ is. or_right (will_vote now (id_at k) party) _ is }
+
+    due_back : is_due world.state party ≡ true
+    due_back = (and_parts (is_due world.state party) (list_all (is_due world.state) rest) (and_parts (are_distinct (λ (this that : PartyNotes). bytes_eq this.id that.id) (filter (is_of_this_start world.state) (party ∷ rest))) (list_all (is_due world.state) (party ∷ rest)) is_out).1).0
+
+    -- it waited for this party
+    was_out : t.place ≡ Out party.errand
+    was_out =
+        let waits = waits_for world.state party (sound_whole world sound).keys due_back its.epoch in
+        let u = waits.transaction in
+        let same : u.key ≡ t.key = keys_told world.state.head.name u.key t.key (spelled_at world.state u spelled_all waits.found) (spelled_at world.state t spelled_all found) (sym (same_text party.id (id_at u.key) waits.id) ∙ same_text party.id (id_at t.key) its.id) in
+        let one : u ≡ t = same_Some u t (sym (subst (λ x. transaction_of x world.state ≡ Some u) same waits.found) ∙ found) in
+        subst (λ (x : Transaction). x.place ≡ Out party.errand) one waits.out
+
+    -- so its vote was not lost
+    not_lost : is_lost t.place (first_word t.key).awaited ≡ false
+    not_lost = subst (λ p. is_lost p (first_word t.key).awaited ≡ false) (sym was_out) (step party.errand refl) where
+      step : (e : Errand) → party.errand ≡ e → is_lost (Out e) (first_word t.key).awaited ≡ false
+      step errand.Vote vote = ap not (or_left (will_vote now (id_at t.key) party) _ (and_from _ _ (subst (λ x. bytes_eq x party.id ≡ true) (same_text party.id (id_at t.key) its.id) (bytes_eq-self party.id)) (and_from _ _ its.epoch (ap is_to_vote vote))))
+      step errand.Idle at = refl
+      step errand.Commit at = refl
+      step errand.Abort at = refl
+
+    at_here : (phase : Phase) (place : PartyPlace) (word : Word) → is_lost place word.awaited ≡ false → fits_in phase place word ≡ true → fits_in phase (Here back) word ≡ true
+    at_here Active place word never is = is
+    at_here Prepared place word never is = is
+    at_here Committed place word never is = is
+    at_here Aborted place word never is = is
+    at_here Asking place word never is =
+        let parts = and_parts (not word.commit) (not word.abort || is_lost place word.awaited) is in
+        and_from _ _ parts.0 (elim (or_cases (not word.abort) (is_lost place word.awaited) parts.1) [
+          | inl none ↦ or_left (not word.abort) _ none
+          | inr lost ↦ absurd (both_ways (is_lost place word.awaited) never lost)
+        ])
+
+    abbrev here_state : State
+    here_state = record world.state { transactions = changed (has_key t.key) (standing_at (Here back)) world.state.transactions }
+
+    pub fits_here : (k : Key) → is_spelled k ≡ true → fits (transaction_of k here_state) (next_word k) ≡ true
+    fits_here k fine = elim (cases_Bool (is_same t.key k)) [
+      | inl same ↦
+          let at = same_key t.key k same in
+          let old = subst (λ o. fits o (first_word t.key) ≡ true) found (true_to.fits t.key (spelled_at world.state t spelled_all found)) in
+          subst (λ x. fits (transaction_of x here_state) (next_word x) ≡ true) at (subst (λ o. fits o (next_word t.key) ≡ true) (sym (found_altered t.key world.state (standing_at (Here back)) (λ t. refl) t found)) (fits_less (Some (standing_at (Here back) t)) (next_word t.key) (first_word t.key) (back_less t.key) (at_here t.phase t.place (first_word t.key) not_lost old)))
+      | inr differ ↦ subst (λ o. fits o (next_word k) ≡ true) (sym (other_found t.key world.state (standing_at (Here back)) (λ t. refl) k differ)) (fits_less (transaction_of k world.state) (next_word k) (first_word k) (back_less k) (true_to.fits k fine))
+    ]
+
+    pub given_here : (k : Key) → is_spelled k ≡ true → has_word (next_word k) ≡ true → was_given world.state k ≡ true
+    given_here k fine is = true_to.given k fine (elim (or_cases (next_word k).commit (next_word k).abort is) [
+      | inl commit ↦ or_left (first_word k).commit _ ((back_less k).commit commit)
+      | inr abort ↦ or_right (first_word k).commit _ ((back_less k).abort abort)
+    ])

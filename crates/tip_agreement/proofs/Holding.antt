@@ -1,0 +1,166 @@
+-- Each event, and each party that comes back, leaves a realm true to its word.
+use Rattle.std.proofs.Common.{◌≡◌, Bool, true, false, ℕ, List, [], ◌∷◌, ◌++◌, Option, Some, None, cond, refl, ap, subst, sym, ◌∙◌, ◌⊎◌, inl, inr}
+use Rattle.std.specs.Prelude.{◌&&◌, ◌||◌, not, is_some, map}
+use Rattle.std.specs.List.{list_all, list_any}
+use Rattle.std.specs.Option.{option_map_or, option_to_list}
+use Rattle.std.proofs.lemmas.Bool.{and_parts, or_cases, or_left, or_right}
+use Rattle.std.proofs.lemmas.List.{append-nil}
+use Rattle.tip_branch.specs.Notes.{PartyNotes}
+use Rattle.tip_branch.specs.declared.member.Errand.{Errand}
+use Rattle.tip_branch.specs.declared.member.Errand.TheVariants as errand
+use Rattle.tip_line.specs.declared.refusal.Refusal.TheVariants.{Frozen}
+use Rattle.tip_rows.specs.Keys.{Key, is_same}
+use Rattle.tip_rows.specs.declared.row.Row.{Row}
+use Rattle.tip_machine.specs.Agreement.Verdicts.{Verdict, is_abort, is_commit, told}
+use Rattle.tip_machine.specs.Answers.{identifier}
+use Rattle.tip_machine.specs.Changes.{alter}
+use Rattle.tip_machine.specs.Given.{was_given}
+use Rattle.tip_machine.specs.Honest.{brings_no_party}
+use Rattle.tip_machine.specs.Invariants.{IsSound, are_keyed}
+use Rattle.tip_machine.specs.Invariants.Links.{are_distinct}
+use Rattle.tip_machine.specs.Invariants.Bounds.{is_spelled}
+use Rattle.tip_machine.specs.Invariants.Parties.{are_out, is_due, is_sent}
+use Rattle.tip_machine.specs.Moves.{World, rows_after, stepped}
+use Rattle.tip_machine.specs.Order.{ordered}
+use Rattle.tip_machine.specs.Outputs.{Output, brought, calls_of, drops_of, outputs}
+use Rattle.tip_machine.specs.Requests.{strange}
+use Rattle.tip_machine.specs.Returns.{Back, back_from, back_of, event_of}
+use Rattle.tip_machine.specs.Served.{Serving}
+use Rattle.tip_machine.specs.States.{Attempt, State, Work, transaction_of}
+use Rattle.tip_machine.specs.Steps.{attempt, chosen, entered, frozen, is_open, returned, step_serving, wanted}
+use Rattle.tip_machine.specs.Transactions.{has_key, standing_at}
+use Rattle.tip_machine.specs.Types.{Event, Transaction}
+use Rattle.tip_machine.specs.declared.event.Event.TheVariants.{AskPull, AskPush, Dial, Line, Lost, Open, Resume, Settled, Voted}
+use Rattle.tip_machine.specs.declared.event.Outcome.{Outcome}
+use Rattle.tip_machine.specs.declared.transaction.PartyPlace.TheVariants.{Here}
+use Rattle.tip_machine.proofs.Identifiers.{given_stays, new_was_not_given}
+use Rattle.tip_machine.proofs.Stepping.{returned-silent}
+use Rattle.tip_agreement.specs.Truth.{IsTrueTo, Word, fits, is_uncalled, will_tell, will_vote}
+use Rattle.tip_agreement.proofs.Apart.{all_changed, all_found}
+use Rattle.tip_agreement.proofs.Around.{found_altered, other_found}
+use Rattle.tip_agreement.proofs.Bounded.{AreSpelled, in_bounds}
+use Rattle.tip_agreement.proofs.Calling.{calls_told, drops_back_told, drops_lost_told}
+use Rattle.tip_agreement.proofs.Events.{entered_whole}
+use Rattle.tip_agreement.proofs.Homecoming.{BackGoes, CameHome}
+use Rattle.tip_agreement.proofs.Keys.{keys_kept}
+use Rattle.tip_agreement.proofs.Lasting.{next_fits}
+use Rattle.tip_agreement.proofs.Moving.{due_awaited, sound_whole}
+use Rattle.tip_agreement.proofs.Occurring.{back_goes, event_goes}
+use Rattle.tip_agreement.proofs.Owned.{key_found}
+use Rattle.tip_agreement.proofs.Parting.{fits_here, given_here, is_given_there, true_without}
+use Rattle.tip_agreement.proofs.Spoken.{IsQuiet, Spoke, has_word, spoke_ends, spoke_ordered}
+use Rattle.tip_agreement.proofs.Telling.{any_told, are_told, event_told, let_go_told, told_either}
+use Rattle.tip_agreement.proofs.Truthful.{true_after, word_by}
+use Rattle.tip_agreement.proofs.Wording.{Less, are_said, fits_less}
+
+-- NOTHING MORE IS TOLD, and all else stays
+pub still_true : (state : State) (rows rows' : List (Key × Row)) (errands : List PartyNotes) (shown later : List Output) → IsTrueTo shown (record { state = state; rows = rows; errands = errands }) → ((test : Verdict → Bool) (id : List ℕ) → are_told test state.head.name id later ≡ true → are_told test state.head.name id shown ≡ true) → IsTrueTo later (record { state = state; rows = rows'; errands = errands })
+still_true state rows rows' errands shown later true_to heard = record {
+  fits = λ k fine. fits_less (transaction_of k state) (new_word k) (old_word k) (less k) (true_to.fits k fine);
+  given = λ k fine is. true_to.given k fine (elim (or_cases (new_word k).commit (new_word k).abort is) [ inl commit ↦ or_left (old_word k).commit _ ((less k).commit commit) | inr abort ↦ or_right (old_word k).commit _ ((less k).abort abort) ]);
+  uncalled = true_to.uncalled;
+} where
+  old_word : Key → Word
+  old_word k = word_by state.head.name state.head.epoch errands shown (identifier state.head.name k)
+
+  new_word : Key → Word
+  new_word k = word_by state.head.name state.head.epoch errands later (identifier state.head.name k)
+
+  more : (test : Verdict → Bool) (k : Key) → list_any test (told state.head.name (identifier state.head.name k) later) || list_any (will_tell test state.head.epoch (identifier state.head.name k)) errands ≡ true → list_any test (told state.head.name (identifier state.head.name k) shown) || list_any (will_tell test state.head.epoch (identifier state.head.name k)) errands ≡ true
+  more test k is = elim (or_cases (list_any test (told state.head.name (identifier state.head.name k) later)) (list_any (will_tell test state.head.epoch (identifier state.head.name k)) errands) is) [
+    | inl said ↦ or_left (list_any test (told state.head.name (identifier state.head.name k) shown)) _ (any_told test state.head.name (identifier state.head.name k) shown ∙ heard test (identifier state.head.name k) (sym (any_told test state.head.name (identifier state.head.name k) later) ∙ said))
+    | inr will ↦ or_right (list_any test (told state.head.name (identifier state.head.name k) shown)) _ will
+  ]
+
+  less : (k : Key) → Less (new_word k) (old_word k)
+  less k = record { commit = more is_commit k; abort = more is_abort k; awaited = λ is. is }
+
+-- the same of a state that has another entry
+entry_true : (shown : List Output) (state : State) (rows rows' : List (Key × Row)) (errands : List PartyNotes) → IsTrueTo shown (record { state = state; rows = rows; errands = errands }) → IsTrueTo shown (record { state = (entered state).state; rows = rows'; errands = errands })
+entry_true shown state rows rows' errands true_to = record { fits = true_to.fits; given = true_to.given; uncalled = true_to.uncalled }
+
+-- KEYS, over a step
+record StepKeys (old new : State) : Type 0 where
+  given_new : (k : Key) → is_some (transaction_of k new) ≡ true → was_given new k ≡ true
+  stays : (k : Key) → was_given old k ≡ true → was_given new k ≡ true
+  fresh : (k : Key) → transaction_of k old ≡ None → is_some (transaction_of k new) ≡ true → was_given old k ≡ false
+
+-- each open transaction's key was given
+given_in : (s : State) → are_keyed s ≡ true → (k : Key) → is_some (transaction_of k s) ≡ true → was_given s k ≡ true
+given_in s keyed k = step (transaction_of k s) refl where
+  step : (found : Option Transaction) → transaction_of k s ≡ found → is_some found ≡ true → was_given s k ≡ true
+  step None is there = absurd (cc)
+  step (Some t) is there = subst (λ x. was_given s x ≡ true) (sym (key_found k t s is)) (all_found (λ (u : Transaction). was_given s u.key) (has_key k) s.transactions t (and_parts (are_distinct is_same (map (λ (u : Transaction). u.key) s.transactions)) _ keyed).1 is)
+
+no_party : (event : Event) → brings_no_party event ≡ true → (brought event ≡ []) × ((returned Frozen event).spent ≡ None)
+no_party (Open boxes) is = (refl, refl)
+no_party (Dial address purpose boxes) is = (refl, refl)
+no_party (Line seat heard) is = (refl, refl)
+no_party (Lost seat) is = (refl, refl)
+no_party (AskPush seat id) is = (refl, refl)
+no_party (AskPull seat superior) is = (refl, refl)
+no_party (Resume id) is = (refl, refl)
+no_party (Voted party) is = absurd (cc)
+no_party (Settled party) is = absurd (cc)
+
+module _ (serving : Serving) (world : World) (sound : IsSound world) (event : Event) (outcome : Outcome) where
+  abbrev tried : Attempt
+  tried = attempt serving event (entered world.state)
+
+  step_keys : StepKeys world.state (step_serving serving world.state event outcome).state
+  step_keys = record {
+    given_new = given_in (step_serving serving world.state event outcome).state (keys_kept serving world.state event outcome sound.numbered sound.keyed);
+    stays = given_stays serving world.state event outcome;
+    fresh = new_was_not_given serving world.state event outcome;
+  }
+
+  open_keys : is_open world.state ≡ true → StepKeys world.state (ordered world.state (chosen tried outcome)).state
+  open_keys room = subst (StepKeys world.state) (ap (λ b. (cond b (ordered world.state (chosen tried outcome)) (frozen event world.state)).state) room) step_keys
+
+  -- AN EVENT OF ITS OWN
+  pub event_true : (shown : List Output) → IsTrueTo shown world → brings_no_party event ≡ true → IsTrueTo (shown ++ (stepped serving event outcome world).shown) (stepped serving event outcome world).world
+  unfolding stepped
+  event_true shown true_to none = step (is_open world.state) refl where
+    quiet : IsQuiet (entered world.state)
+    quiet = record { sent = refl; work = refl; spent = refl }
+
+    step : (b : Bool) → is_open world.state ≡ b → IsTrueTo (shown ++ outputs event (cond b (wanted tried) None) outcome (cond b (ordered world.state (chosen tried outcome)) (frozen event world.state)).answer) (record { state = (cond b (ordered world.state (chosen tried outcome)) (frozen event world.state)).state; rows = rows_after (cond b (wanted tried) None) outcome world.rows; errands = world.errands ++ option_to_list (cond b (ordered world.state (chosen tried outcome)) (frozen event world.state)).answer.work })
+    step true room =
+        let keys = open_keys room in
+        let v = ordered world.state (chosen tried outcome) in
+        let whole = sound_whole world sound in
+        let ends = event_goes (entered world.state) (entered_whole world.state whole) (next_fits world sound room) serving event none in
+        let later = shown ++ outputs event (wanted tried) outcome v.answer in
+        true_after (rows_after (wanted tried) outcome world.rows) world.errands shown later (entered world.state) v (record {
+          quiet = quiet;
+          spoke = spoke_ordered world.state (entered world.state) (chosen tried outcome) (spoke_ends (entered world.state) (in_bounds world.state sound.bounded).spelled quiet tried outcome ends);
+          heard = λ test id is. elim (told_either test world.state.head.name id shown (outputs event (wanted tried) outcome v.answer) is) [
+            | inl before ↦ inl before
+            | inr now ↦ elim (event_told test world.state.head.name id event (wanted tried) outcome v.answer now) [
+              | inl called ↦ absurd (let wrong : false ≡ true = sym (ap (are_told test world.state.head.name id) (no_party event none).0) ∙ called in cc)
+              | inr rest ↦ inr rest
+            ]
+          ];
+          given_old = is_given_there world sound;
+          given_new = keys.given_new;
+          stays = keys.stays;
+          fresh = keys.fresh;
+          fits = true_to.fits;
+          given = true_to.given;
+          uncalled = true_to.uncalled;
+        })
+    step false full =
+        let silent = returned-silent Frozen event in
+        let answer = (frozen event world.state).answer in
+        subst (λ o. IsTrueTo (shown ++ outputs event None outcome answer) (record { state = world.state; rows = rows_after None outcome world.rows; errands = world.errands ++ option_to_list o })) (sym silent.1)
+        (subst (λ ps. IsTrueTo (shown ++ outputs event None outcome answer) (record { state = world.state; rows = rows_after None outcome world.rows; errands = ps })) (sym (append-nil world.errands))
+        (still_true world.state world.rows (rows_after None outcome world.rows) world.errands shown (shown ++ outputs event None outcome answer) true_to (λ test id is. elim (told_either test world.state.head.name id shown (outputs event None outcome answer) is) [
+          | inl before ↦ before
+          | inr now ↦ elim (event_told test world.state.head.name id event None outcome answer now) [
+            | inl called ↦ absurd (let wrong : false ≡ true = sym (ap (are_told test world.state.head.name id) (no_party event none).0) ∙ called in cc)
+            | inr rest ↦ elim rest [
+              | inl said ↦ absurd (let wrong : false ≡ true = sym (ap (are_said test world.state.head.name id) silent.0) ∙ said in cc)
+              | inr let_go ↦ absurd (let wrong : false ≡ true = sym (ap (let_go_told test world.state.head.name id) (no_party event none).1) ∙ let_go in cc)
+            ]
+          ]
+        ])))
