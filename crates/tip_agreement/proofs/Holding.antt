@@ -1,9 +1,9 @@
 -- Each event, and each party that comes back, leaves a realm true to its word.
 use Rattle.std.proofs.Common.{◌≡◌, Bool, true, false, ℕ, List, [], ◌∷◌, ◌++◌, Option, Some, None, cond, refl, ap, subst, sym, ◌∙◌, ◌⊎◌, inl, inr}
-use Rattle.std.specs.Prelude.{◌&&◌, ◌||◌, not, is_some, map}
+use Rattle.std.specs.Prelude.{◌||◌, not, is_some, map}
 use Rattle.std.specs.List.{list_all, list_any}
-use Rattle.std.specs.Option.{option_map_or, option_to_list}
-use Rattle.std.proofs.lemmas.Bool.{and_parts, or_cases, or_left, or_right}
+use Rattle.std.specs.Option.{option_to_list}
+use Rattle.std.proofs.lemmas.Bool.{and_parts, or_cases, or_left, or_right, cases_Bool}
 use Rattle.std.proofs.lemmas.List.{append-nil}
 use Rattle.tip_branch.specs.Notes.{PartyNotes}
 use Rattle.tip_branch.specs.declared.member.Errand.{Errand}
@@ -29,13 +29,15 @@ use Rattle.tip_machine.specs.Served.{Serving}
 use Rattle.tip_machine.specs.States.{Attempt, State, Work, transaction_of}
 use Rattle.tip_machine.specs.Steps.{attempt, chosen, entered, frozen, is_open, returned, step_serving, wanted}
 use Rattle.tip_machine.specs.Transactions.{has_key, standing_at}
-use Rattle.tip_machine.specs.Types.{Event, Transaction}
+use Rattle.tip_machine.specs.Types.{Event, Transaction, Answer}
 use Rattle.tip_machine.specs.declared.event.Event.TheVariants.{AskPull, AskPush, Dial, Line, Lost, Open, Resume, Settled, Voted}
 use Rattle.tip_machine.specs.declared.event.Outcome.{Outcome}
 use Rattle.tip_machine.specs.declared.transaction.PartyPlace.TheVariants.{Here}
 use Rattle.tip_machine.proofs.Identifiers.{given_stays, new_was_not_given}
 use Rattle.tip_machine.proofs.Stepping.{returned-silent}
-use Rattle.tip_agreement.specs.Truth.{IsTrueTo, Word, fits, is_uncalled, will_tell, will_vote}
+use Rattle.tip_rows.proofs.OrderLemmas.{same_key}
+use Rattle.tip_machine.specs.declared.event.Change.{Change}
+use Rattle.tip_agreement.specs.Truth.{IsTrueTo, Word, is_uncalled, will_tell, will_vote}
 use Rattle.tip_agreement.proofs.Apart.{all_changed, all_found}
 use Rattle.tip_agreement.proofs.Around.{found_altered, other_found}
 use Rattle.tip_agreement.proofs.Bounded.{AreSpelled, in_bounds}
@@ -48,8 +50,9 @@ use Rattle.tip_agreement.proofs.Moving.{due_awaited, sound_whole}
 use Rattle.tip_agreement.proofs.Occurring.{back_goes, event_goes}
 use Rattle.tip_agreement.proofs.Owned.{key_found}
 use Rattle.tip_agreement.proofs.Parting.{fits_here, given_here, is_given_there, true_without}
-use Rattle.tip_agreement.proofs.Spoken.{IsQuiet, Spoke, has_word, spoke_ends, spoke_ordered}
-use Rattle.tip_agreement.proofs.Telling.{any_told, are_told, event_told, let_go_told, told_either}
+use Rattle.tip_agreement.proofs.Returned.{Owns}
+use Rattle.tip_agreement.proofs.Spoken.{IsQuiet, spoke_ends, spoke_ordered}
+use Rattle.tip_agreement.proofs.Telling.{any_told, are_told, event_told, let_go_told, told_either, told_more}
 use Rattle.tip_agreement.proofs.Truthful.{true_after, word_by}
 use Rattle.tip_agreement.proofs.Wording.{Less, are_said, fits_less}
 
@@ -164,3 +167,143 @@ module _ (serving : Serving) (world : World) (sound : IsSound world) (event : Ev
             ]
           ]
         ])))
+
+-- A PARTY THAT COMES BACK
+
+brought_back : (party : PartyNotes) (back : Back) → brought (event_of party back) ≡ calls_of (back_of party back)
+brought_back party back = step party.errand where
+  step : (e : Errand) → brought (back_from e (back_of party back)) ≡ calls_of (back_of party back)
+  step errand.Vote = refl
+  step errand.Commit = refl
+  step errand.Abort = refl
+  step errand.Idle = refl
+
+-- one that can't is let go
+spent_back : (party : PartyNotes) (back : Back) → (returned Frozen (event_of party back)).spent ≡ Some (back_of party back)
+spent_back party back = step party.errand where
+  step : (e : Errand) → (returned Frozen (back_from e (back_of party back))).spent ≡ Some (back_of party back)
+  step errand.Vote = refl
+  step errand.Commit = refl
+  step errand.Abort = refl
+  step errand.Idle = refl
+
+module _ (serving : Serving) (world : World) (sound : IsSound world) (party : PartyNotes) (rest : List PartyNotes) (is_out : are_out world.state (party ∷ rest) ≡ true) (due : is_due world.state party ≡ true)
+    (shown : List Output) (true_to : IsTrueTo shown (record { state = world.state; rows = world.rows; errands = party ∷ rest })) where
+  sent : is_sent party.errand party ≡ true
+  sent = (due_awaited party world.state due).sent
+
+  uncalled : is_uncalled party ≡ true
+  uncalled = (and_parts (is_uncalled party) (list_all is_uncalled rest) true_to.uncalled).0
+
+  module _ (back : Back) (outcome : Outcome) where
+    abbrev event : Event
+    event = event_of party back
+
+    -- what it was told, it was to tell
+    was_to_tell : (test : Verdict → Bool) (id : List ℕ) → are_told test world.state.head.name id (brought event) ≡ true → will_tell test world.state.head.epoch id party ≡ true
+    was_to_tell test id is = calls_told test world.state.head.name id world.state.head.epoch party back uncalled (sym (ap (are_told test world.state.head.name id) (brought_back party back)) ∙ is)
+
+    -- it is let go, and the state stays
+    heard_letting : (change : Option Change) (answer : Answer) → answer.sent ≡ [] → answer.spent ≡ Some (back_of party back) → (test : Verdict → Bool) (id : List ℕ) → are_told test world.state.head.name id (shown ++ outputs event change outcome answer) ≡ true → (are_told test world.state.head.name id shown ≡ true) ⊎ ((will_tell test world.state.head.epoch id party ≡ true) ⊎ ((test Verdict.Abort ≡ true) × (will_vote world.state.head.epoch id party ≡ true)))
+    heard_letting change answer silent spent test id is = elim (told_either test world.state.head.name id shown (outputs event change outcome answer) is) [
+      | inl before ↦ inl before
+      | inr now ↦ inr (elim (event_told test world.state.head.name id event change outcome answer now) [
+        | inl called ↦ inl (was_to_tell test id called)
+        | inr later ↦ elim later [
+          | inl said ↦ absurd (let wrong : false ≡ true = sym (ap (are_said test world.state.head.name id) silent) ∙ said in cc)
+          | inr let_go ↦ drops_back_told test world.state.head.name id world.state.head.epoch party back sent (sym (ap (let_go_told test world.state.head.name id) spent) ∙ let_go)
+        ]
+      ])
+    ]
+
+    let_go_true : (change : Option Change) (answer : Answer) → answer.sent ≡ [] → answer.spent ≡ Some (back_of party back) → IsTrueTo (shown ++ outputs event change outcome answer) (record { state = world.state; rows = world.rows; errands = rest })
+    let_go_true change answer silent spent = true_without world sound shown (shown ++ outputs event change outcome answer) party rest is_out (heard_letting change answer silent spent) true_to
+
+    -- it is here again
+    module _ (home : CameHome party (back_of party back) (entered world.state) (attempt serving event (entered world.state))) (keys : StepKeys world.state (ordered world.state (chosen (attempt serving event (entered world.state)) outcome)).state) where
+      abbrev t : Transaction
+      t = home.transaction
+
+      abbrev here : Work
+      here = alter t.key (standing_at (Here (back_of party back))) (entered world.state)
+
+      abbrev now_work : Work
+      now_work = ordered world.state (chosen (attempt serving event (entered world.state)) outcome)
+
+      abbrev told_now : List Output
+      told_now = shown ++ outputs event (wanted (attempt serving event (entered world.state))) outcome now_work.answer
+
+      heard_calls : (test : Verdict → Bool) (id : List ℕ) → are_told test world.state.head.name id (shown ++ brought event) ≡ true → (are_told test world.state.head.name id shown ≡ true) ⊎ (will_tell test world.state.head.epoch id party ≡ true)
+      heard_calls test id is = elim (told_either test world.state.head.name id shown (brought event) is) [
+        | inl before ↦ inl before
+        | inr called ↦ inr (was_to_tell test id called)
+      ]
+
+      there_before : (k : Key) → is_some (transaction_of k here.state) ≡ is_some (transaction_of k world.state)
+      there_before k = elim (cases_Bool (is_same t.key k)) [
+        | inl same ↦ subst (λ x. is_some (transaction_of x here.state) ≡ is_some (transaction_of x world.state)) (same_key t.key k same) (ap is_some (found_altered t.key world.state (standing_at (Here (back_of party back))) (λ t. refl) t home.found) ∙ sym (ap is_some home.found))
+        | inr differ ↦ ap is_some (other_found t.key world.state (standing_at (Here (back_of party back))) (λ t. refl) k differ)
+      ]
+
+      none_before : (k : Key) → transaction_of k here.state ≡ None → transaction_of k world.state ≡ None
+      none_before k none = step (transaction_of k world.state) refl (sym (there_before k) ∙ ap is_some none) where
+        step : (found : Option Transaction) → transaction_of k world.state ≡ found → is_some (transaction_of k world.state) ≡ false → transaction_of k world.state ≡ None
+        step None is not = is
+        step (Some u) is not = absurd (let wrong : true ≡ false = sym (ap is_some is) ∙ not in cc)
+
+      spelled_here : AreSpelled here.state
+      spelled_here = all_changed (λ (u : Transaction). is_spelled u.key) (has_key t.key) (standing_at (Here (back_of party back))) world.state.transactions (λ u is holds. holds) (in_bounds world.state sound.bounded).spelled
+
+      home_true : IsTrueTo told_now (record { state = now_work.state; rows = rows_after (wanted (attempt serving event (entered world.state))) outcome world.rows; errands = rest ++ option_to_list now_work.answer.work })
+      home_true =
+          let quiet : IsQuiet here = record { sent = refl; work = refl; spent = refl } in
+          let owned : Owns party world.state t = record { epoch = home.its.epoch; id = home.its.id } in
+          true_after (rows_after (wanted (attempt serving event (entered world.state))) outcome world.rows) rest (shown ++ brought event) told_now here now_work (record {
+            quiet = quiet;
+            spoke = spoke_ordered world.state here (chosen (attempt serving event (entered world.state)) outcome) (spoke_ends here spelled_here quiet (attempt serving event (entered world.state)) outcome home.goes);
+            heard = λ test id is. elim (told_either test world.state.head.name id shown (outputs event (wanted (attempt serving event (entered world.state))) outcome now_work.answer) is) [
+              | inl before ↦ inl (told_more test world.state.head.name id shown (brought event) ∙ or_left (are_told test world.state.head.name id shown) _ before)
+              | inr now ↦ elim (event_told test world.state.head.name id event (wanted (attempt serving event (entered world.state))) outcome now_work.answer now) [
+                | inl called ↦ inl (told_more test world.state.head.name id shown (brought event) ∙ or_right (are_told test world.state.head.name id shown) _ called)
+                | inr later ↦ inr later
+              ]
+            ];
+            given_old = λ k there. is_given_there world sound k (sym (there_before k) ∙ there);
+            given_new = keys.given_new;
+            stays = keys.stays;
+            fresh = λ k none. keys.fresh k (none_before k none);
+            fits = fits_here world sound shown (shown ++ brought event) party (back_of party back) rest is_out heard_calls true_to t home.found owned;
+            given = given_here world sound shown (shown ++ brought event) party (back_of party back) rest is_out heard_calls true_to t home.found owned;
+            uncalled = (and_parts (is_uncalled party) (list_all is_uncalled rest) true_to.uncalled).1;
+          })
+
+    pub back_true : IsTrueTo (shown ++ (stepped serving event outcome (record world { errands = rest })).shown) (stepped serving event outcome (record world { errands = rest })).world
+    unfolding stepped ordered
+    back_true = step (is_open world.state) refl where
+      -- a stranger
+      strange_true : (a : Attempt) → a ≡ strange (back_of party back) (entered world.state) → IsTrueTo (shown ++ outputs event (wanted a) outcome (ordered world.state (chosen a outcome)).answer) (record { state = (ordered world.state (chosen a outcome)).state; rows = rows_after (wanted a) outcome world.rows; errands = rest ++ option_to_list (ordered world.state (chosen a outcome)).answer.work })
+      strange_true a is = subst (λ a. IsTrueTo (shown ++ outputs event (wanted a) outcome (ordered world.state (chosen a outcome)).answer) (record { state = (ordered world.state (chosen a outcome)).state; rows = rows_after (wanted a) outcome world.rows; errands = rest ++ option_to_list (ordered world.state (chosen a outcome)).answer.work })) (sym is)
+          (let v = ordered world.state (chosen (strange (back_of party back) (entered world.state)) outcome) in
+          subst (λ ps. IsTrueTo (shown ++ outputs event None outcome v.answer) (record { state = v.state; rows = rows_after None outcome world.rows; errands = ps })) (sym (append-nil rest))
+          (entry_true (shown ++ outputs event None outcome v.answer) world.state world.rows (rows_after None outcome world.rows) rest (let_go_true None v.answer refl refl)))
+
+      open_true : is_open world.state ≡ true → BackGoes party (back_of party back) (entered world.state) (attempt serving event (entered world.state)) → IsTrueTo (shown ++ outputs event (wanted (attempt serving event (entered world.state))) outcome (ordered world.state (chosen (attempt serving event (entered world.state)) outcome)).answer) (record { state = (ordered world.state (chosen (attempt serving event (entered world.state)) outcome)).state; rows = rows_after (wanted (attempt serving event (entered world.state))) outcome world.rows; errands = rest ++ option_to_list (ordered world.state (chosen (attempt serving event (entered world.state)) outcome)).answer.work })
+      open_true room (inl is) = strange_true (attempt serving event (entered world.state)) is
+      open_true room (inr home) = home_true home (open_keys serving world sound event outcome room)
+
+      step : (b : Bool) → is_open world.state ≡ b → IsTrueTo (shown ++ outputs event (cond b (wanted (attempt serving event (entered world.state))) None) outcome (cond b (ordered world.state (chosen (attempt serving event (entered world.state)) outcome)) (frozen event world.state)).answer) (record { state = (cond b (ordered world.state (chosen (attempt serving event (entered world.state)) outcome)) (frozen event world.state)).state; rows = rows_after (cond b (wanted (attempt serving event (entered world.state))) None) outcome world.rows; errands = rest ++ option_to_list (cond b (ordered world.state (chosen (attempt serving event (entered world.state)) outcome)) (frozen event world.state)).answer.work })
+      step true room = open_true room (back_goes (entered world.state) (entered_whole world.state (sound_whole world sound)) (next_fits world sound room) serving party back (let known = due_awaited party world.state due in record { sent = known.sent; due = known.due }))
+      step false full =
+          let silent = returned-silent Frozen event in
+          let answer = (frozen event world.state).answer in
+          let gone = let_go_true None answer silent.0 (spent_back party back) in
+          subst (λ o. IsTrueTo (shown ++ outputs event None outcome answer) (record { state = world.state; rows = rows_after None outcome world.rows; errands = rest ++ option_to_list o })) (sym silent.1)
+          (subst (λ ps. IsTrueTo (shown ++ outputs event None outcome answer) (record { state = world.state; rows = rows_after None outcome world.rows; errands = ps })) (sym (append-nil rest))
+          (record { fits = gone.fits; given = gone.given; uncalled = gone.uncalled }))
+
+  -- ONE THAT IS LOST
+  pub lost_true : IsTrueTo (shown ++ drops_of party) (record { state = world.state; rows = world.rows; errands = rest })
+  lost_true = true_without world sound shown (shown ++ drops_of party) party rest is_out (λ test id is. elim (told_either test world.state.head.name id shown (drops_of party) is) [
+    | inl before ↦ inl before
+    | inr now ↦ inr (drops_lost_told test world.state.head.name id world.state.head.epoch party sent now)
+  ]) true_to
