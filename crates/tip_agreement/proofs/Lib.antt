@@ -41,6 +41,7 @@ pub mod Pulling
 pub mod Pursuing
 pub mod Reaching
 pub mod Reacting
+pub mod Renewing
 pub mod Responding
 pub mod Restarts
 pub mod Resuming
