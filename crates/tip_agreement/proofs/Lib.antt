@@ -1,4 +1,5 @@
 pub mod Aborting
+pub mod Agreeing
 pub mod Alone
 pub mod Answered
 pub mod Answering

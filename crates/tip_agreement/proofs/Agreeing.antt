@@ -1,0 +1,171 @@
+-- AGREEMENT OF A RUN: a realm stays true to its word, so no branch is told to commit where one is told to abort.
+use Rattle.std.proofs.Common.{◌≡◌, true, false, List, [], ◌∷◌, ◌++◌, Option, Some, None, refl, ap, subst, sym, ◌∙◌, inl, inr}
+use Rattle.std.specs.Prelude.{◌&&◌, filter, flat_map, not}
+use Rattle.std.specs.List.{list_all, list_any}
+use Rattle.std.specs.Str.{bytes_eq}
+use Rattle.std.proofs.lemmas.Bool.{and_parts, or_left}
+use Rattle.std.proofs.lemmas.List.{append-nil, append_assoc}
+use Rattle.tip_branch.specs.Notes.{PartyNotes}
+use Rattle.tip_branch.specs.declared.branch.Badge.{Badge}
+use Rattle.tip_line.specs.declared.refusal.Refusal.TheVariants as refusal
+use Rattle.tip_rows.specs.Keys.{Key}
+use Rattle.tip_txn.specs.declared.answer.Phase.{Phase}
+use Rattle.tip_txn.specs.declared.answer.Phase.TheVariants.{Active, Asking, Prepared, Committed, Aborted}
+use Rattle.tip_machine.specs.Agreement.{is_one}
+use Rattle.tip_machine.specs.Agreement.Traces.{shown_in, traced}
+use Rattle.tip_machine.specs.Agreement.Verdicts.{is_abort, is_commit, is_unanimous, told}
+use Rattle.tip_machine.specs.Answers.{identifier}
+use Rattle.tip_machine.specs.Honest.{brings_no_party, is_honest, is_run}
+use Rattle.tip_machine.specs.Invariants.{IsSound}
+use Rattle.tip_machine.specs.Invariants.Bounds.{is_spelled}
+use Rattle.tip_machine.specs.Invariants.Links.{are_distinct}
+use Rattle.tip_machine.specs.Invariants.Parties.{are_out, is_due, is_of_this_start}
+use Rattle.tip_machine.specs.Moves.{Move, World, drops_here, gone_for, led_to, lost_from, moved, renewed, restarted_from, stepped}
+use Rattle.tip_machine.specs.Outputs.{Output, drops_of}
+use Rattle.tip_machine.specs.Returns.{Back, event_of}
+use Rattle.tip_machine.specs.Served.{Serving}
+use Rattle.tip_machine.specs.Starting.{IsStart}
+use Rattle.tip_machine.specs.States.{State, transaction_of}
+use Rattle.tip_machine.specs.Steps.{frozen, is_open, step_serving}
+use Rattle.tip_machine.specs.Types.{Event, Transaction}
+use Rattle.tip_machine.specs.declared.event.Outcome.{Outcome}
+use Rattle.tip_machine.specs.declared.event.Outcome.TheVariants.{NoChange, Refused, Stored}
+use Rattle.tip_machine.specs.declared.head.Head.{Head}
+use Rattle.tip_machine.proofs.Stepping.{step-went}
+use Rattle.tip_machine.proofs.Walks.{either}
+use Rattle.tip_agreement.specs.Truth.{IsTrueTo, Word, fits, word_of}
+use Rattle.tip_agreement.proofs.Errands.{out_behind}
+use Rattle.tip_agreement.proofs.Holding.{back_true, event_true, lost_true, still_true}
+use Rattle.tip_agreement.proofs.Kept.{moved_sound}
+use Rattle.tip_agreement.proofs.Renewing.{renewed_true}
+use Rattle.tip_agreement.proofs.Restarts.{start_sound}
+use Rattle.tip_agreement.proofs.Speaking.{over_fits}
+use Rattle.tip_agreement.proofs.Telling.{told_either}
+use Rattle.tip_agreement.proofs.Wording.{and_less, not_less}
+
+-- AT A START nothing was told, and nobody is out
+
+no_word : Word
+no_word = record { commit = false; abort = false; awaited = false }
+
+nothing_fits : (found : Option Transaction) → fits found no_word ≡ true
+unfolding no_word
+nothing_fits None = refl
+nothing_fits (Some t) = step t.phase where
+  step : (phase : Phase) → fits (Some (record t { phase = phase })) no_word ≡ true
+  step Active = refl
+  step Asking = refl
+  step Prepared = refl
+  step Committed = refl
+  step Aborted = refl
+
+pub start_true : (world : World) → IsStart world → IsTrueTo [] world
+unfolding no_word
+start_true world start = subst (λ ps. IsTrueTo [] (record { state = world.state; rows = world.rows; errands = ps })) (sym start.errands) (record {
+  fits = λ k fine. nothing_fits (transaction_of k world.state);
+  given = λ k fine is. absurd (let wrong : false ≡ true = is in cc);
+  uncalled = refl;
+})
+
+-- EACH MOVE
+
+first_due : (state : State) (party : PartyNotes) (errands : List PartyNotes) → are_out state (party ∷ errands) ≡ true → is_due state party ≡ true
+first_due state party errands out = (and_parts (is_due state party) (list_all (is_due state) errands) (and_parts (are_distinct (λ (this that : PartyNotes). bytes_eq this.id that.id) (filter (is_of_this_start state) (party ∷ errands))) (list_all (is_due state) (party ∷ errands)) out).1).0
+
+gone_true : (serving : Serving) (back : Back) (outcome : Outcome) (world : World) (errands : List PartyNotes) (shown : List Output) → IsSound world → are_out world.state errands ≡ true → IsTrueTo shown (record { state = world.state; rows = world.rows; errands = errands }) → world.errands ≡ errands → IsTrueTo (shown ++ (gone_for errands serving back outcome world).shown) (gone_for errands serving back outcome world).world
+gone_true serving back outcome world [] shown sound out true_to same = subst (λ xs. IsTrueTo xs world) (sym (append-nil shown)) (subst (λ ps. IsTrueTo shown (record { state = world.state; rows = world.rows; errands = ps })) (sym same) true_to)
+gone_true serving back outcome world (party ∷ errands) shown sound out true_to same = back_true serving world sound party errands out (first_due world.state party errands out) shown true_to back outcome
+
+lose_true : (serving : Serving) (world : World) (errands : List PartyNotes) (shown : List Output) → IsSound world → are_out world.state errands ≡ true → IsTrueTo shown (record { state = world.state; rows = world.rows; errands = errands }) → world.errands ≡ errands → IsTrueTo (shown ++ (lost_from errands world).shown) (lost_from errands world).world
+lose_true serving world [] shown sound out true_to same = subst (λ xs. IsTrueTo xs world) (sym (append-nil shown)) (subst (λ ps. IsTrueTo shown (record { state = world.state; rows = world.rows; errands = ps })) (sym same) true_to)
+lose_true serving world (party ∷ errands) shown sound out true_to same = lost_true serving world sound party errands out (first_due world.state party errands out) shown true_to
+
+-- all that are out are lost
+all_lost_true : (serving : Serving) (world : World) (errands : List PartyNotes) (shown : List Output) → IsSound world → are_out world.state errands ≡ true → IsTrueTo shown (record { state = world.state; rows = world.rows; errands = errands }) → IsTrueTo (shown ++ flat_map drops_of errands) (record { state = world.state; rows = world.rows; errands = [] })
+all_lost_true serving world [] shown sound out true_to = subst (λ xs. IsTrueTo xs (record { state = world.state; rows = world.rows; errands = [] })) (sym (append-nil shown)) true_to
+all_lost_true serving world (party ∷ errands) shown sound out true_to = subst (λ xs. IsTrueTo xs (record { state = world.state; rows = world.rows; errands = [] })) (append_assoc shown (drops_of party) (flat_map drops_of errands)) (all_lost_true serving world errands (shown ++ drops_of party) sound (out_behind world.state party errands out) (lost_true serving world sound party errands out (first_due world.state party errands out) shown true_to))
+
+-- nobody is out
+alone_sound : (world : World) → IsSound world → IsSound (record world { errands = [] })
+alone_sound world sound = record {
+  numbered = sound.numbered;
+  bounded = sound.bounded;
+  keyed = sound.keyed;
+  roles = sound.roles;
+  connections = sound.connections;
+  transactions = sound.transactions;
+  out = refl;
+  known_once = sound.known_once;
+  stored = sound.stored;
+}
+
+renew_true : (boxes : Key → List Badge) (outcome : Outcome) (world : World) (serving : Serving) (shown : List Output) → IsSound world → IsTrueTo shown world → is_honest serving (Move.Renew boxes outcome) world ≡ true → IsTrueTo (shown ++ (renewed boxes outcome world).shown) (renewed boxes outcome world).world
+renew_true boxes Stored world serving shown sound true_to can = renewed_true boxes world sound can shown true_to
+renew_true boxes Refused world serving shown sound true_to can = still_true world.state world.rows world.rows world.errands shown (shown ++ Output.Refused refusal.Refused ∷ []) true_to (λ test id is. elim (told_either test world.state.head.name id shown (Output.Refused refusal.Refused ∷ []) is) [ inl before ↦ before | inr now ↦ absurd (let wrong : false ≡ true = now in cc) ])
+renew_true boxes NoChange world serving shown sound true_to can = absurd (cc)
+
+pub moved_true : (serving : Serving) (move : Move) (world : World) (shown : List Output) → IsSound world → IsTrueTo shown world → is_honest serving move world ≡ true → IsTrueTo (shown ++ (moved serving move world).shown) (moved serving move world).world
+moved_true serving (Move.Step event outcome) world shown sound true_to honest = event_true serving world sound event outcome shown true_to (and_parts (brings_no_party event) _ honest).0
+moved_true serving (Move.Go back outcome) world shown sound true_to honest = gone_true serving back outcome world world.errands shown sound sound.out true_to refl
+moved_true serving Move.Lose world shown sound true_to honest = lose_true serving world world.errands shown sound sound.out true_to refl
+moved_true serving (Move.Restart boxes) world shown sound true_to honest =
+    let lost = all_lost_true serving world world.errands shown sound sound.out true_to in
+    subst (λ xs. IsTrueTo xs (record { state = restarted_from boxes world; rows = world.rows; errands = [] })) (append_assoc shown (flat_map drops_of world.errands) (drops_here world.state))
+    (renewed_true boxes (record world { errands = [] }) (alone_sound world sound) honest (shown ++ flat_map drops_of world.errands) lost)
+moved_true serving (Move.Renew boxes outcome) world shown sound true_to honest = renew_true boxes outcome world serving shown sound true_to honest
+
+-- A RUN
+pub run_true : (serving : Serving) (world : World) (moves : List Move) (shown : List Output) → IsSound world → IsTrueTo shown world → is_run serving world moves ≡ true → IsTrueTo (shown ++ shown_in (traced serving world moves)) (led_to serving world moves)
+run_true serving world [] shown sound true_to honest = subst (λ xs. IsTrueTo xs world) (sym (append-nil shown)) true_to
+run_true serving world (move ∷ moves) shown sound true_to honest =
+    let parts = and_parts (is_honest serving move world) (is_run serving (moved serving move world).world moves) honest in
+    let next = (moved serving move world).world in
+    subst (λ xs. IsTrueTo xs (led_to serving next moves)) (append_assoc shown (moved serving move world).shown (shown_in (traced serving next moves)))
+    (run_true serving next moves (shown ++ (moved serving move world).shown) (moved_sound serving move world sound parts.0) (moved_true serving move world shown sound true_to parts.0) parts.1)
+
+-- The realm keeps its name
+
+name_stepped : (serving : Serving) (state : State) (event : Event) (outcome : Outcome) → (step_serving serving state event outcome).state.head.name ≡ state.head.name
+name_stepped serving state event outcome = either (λ w. w.state.head.name ≡ state.head.name) (is_open state) _ (frozen event state) (elim (step-went serving state event outcome) [ inl goes ↦ ap (λ (h : Head). h.name) goes.head | inr opens ↦ ap (λ (h : Head). h.name) opens.head ]) refl
+
+name_gone : (serving : Serving) (back : Back) (outcome : Outcome) (errands : List PartyNotes) (world : World) → (gone_for errands serving back outcome world).world.state.head.name ≡ world.state.head.name
+unfolding stepped
+name_gone serving back outcome [] world = refl
+name_gone serving back outcome (party ∷ errands) world = name_stepped serving world.state (event_of party back) outcome
+
+name_lost : (errands : List PartyNotes) (world : World) → (lost_from errands world).world.state.head.name ≡ world.state.head.name
+name_lost [] world = refl
+name_lost (party ∷ errands) world = refl
+
+name_renewed : (boxes : Key → List Badge) (outcome : Outcome) (world : World) → (renewed boxes outcome world).world.state.head.name ≡ world.state.head.name
+name_renewed boxes Stored world = refl
+name_renewed boxes Refused world = refl
+name_renewed boxes NoChange world = refl
+
+name_moved : (serving : Serving) (move : Move) (world : World) → (moved serving move world).world.state.head.name ≡ world.state.head.name
+unfolding stepped
+name_moved serving (Move.Step event outcome) world = name_stepped serving world.state event outcome
+name_moved serving (Move.Go back outcome) world = name_gone serving back outcome world.errands world
+name_moved serving Move.Lose world = name_lost world.errands world
+name_moved serving (Move.Restart boxes) world = refl
+name_moved serving (Move.Renew boxes outcome) world = name_renewed boxes outcome world
+
+pub name_led : (serving : Serving) (world : World) (moves : List Move) → (led_to serving world moves).state.head.name ≡ world.state.head.name
+name_led serving world [] = refl
+name_led serving world (move ∷ moves) = name_led serving (moved serving move world).world moves ∙ name_moved serving move world
+
+-- TRUE TO ITS WORD, it tells none to commit where it tells one to abort
+pub one_word : (shown : List Output) (world : World) (key : Key) → is_spelled key ≡ true → IsTrueTo shown world → is_unanimous (told world.state.head.name (identifier world.state.head.name key) shown) ≡ true
+one_word shown world key fine true_to =
+    let id = identifier world.state.head.name key in
+    let word = word_of world shown id in
+    let said = told world.state.head.name id shown in
+    not_less (list_any is_commit said && list_any is_abort said) (word.commit && word.abort) (and_less (list_any is_commit said) (list_any is_abort said) word.commit word.abort (λ is. or_left (list_any is_commit said) _ is) (λ is. or_left (list_any is_abort said) _ is)) (either_way word (transaction_of key world.state) (true_to.fits key fine)) where
+      either_way : (word : Word) (found : Option Transaction) → fits found word ≡ true → not (word.commit && word.abort) ≡ true
+      either_way word None is = is
+      either_way word (Some t) is = over_fits t word is
+
+pub run_agrees : (serving : Serving) (world : World) (moves : List Move) (key : Key) → IsStart world → is_run serving world moves ≡ true → is_spelled key ≡ true → is_one world.state.head.name (identifier world.state.head.name key) (traced serving world moves) ≡ true
+run_agrees serving world moves key start honest fine =
+    subst (λ name. is_unanimous (told name (identifier name key) (shown_in (traced serving world moves))) ≡ true) (name_led serving world moves)
+    (one_word (shown_in (traced serving world moves)) (led_to serving world moves) key fine (run_true serving world moves [] (start_sound world start) (start_true world start) honest))
