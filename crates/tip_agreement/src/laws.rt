@@ -1,9 +1,16 @@
 //! Laws of a realm's runs, each carried by a function that does nothing. They hold whatever is served.
-ghost use Rattle.std.specs.Prelude.{◌≡◌, List, true};
+ghost use Rattle.std.specs.Prelude.{◌≡◌, ◌++◌, List, [], true};
+ghost use Rattle.tip_agreement.specs.Truth.{IsTrueTo};
+ghost use Rattle.tip_machine.specs.Agreement.{is_one};
+ghost use Rattle.tip_machine.specs.Agreement.Traces.{traced};
+ghost use Rattle.tip_machine.specs.Answers.{identifier};
 ghost use Rattle.tip_machine.specs.Given.{are_numbered};
 ghost use Rattle.tip_machine.specs.Honest.{is_honest, is_run};
 ghost use Rattle.tip_machine.specs.Invariants.{IsSound, are_keyed};
+ghost use Rattle.tip_machine.specs.Invariants.Bounds.{is_spelled};
+ghost use Rattle.tip_rows.specs.Keys.{Key};
 ghost use Rattle.tip_machine.specs.Moves.{Move, World, led_to, moved};
+ghost use Rattle.tip_machine.specs.Outputs.{Output};
 ghost use Rattle.tip_machine.specs.Served.{Serving};
 ghost use Rattle.tip_machine.specs.Starting.{IsStart};
 ghost use Rattle.tip_machine.specs.States.{State};
@@ -31,4 +38,24 @@ pub fn a_run_keeps_the_invariants()
 /// Whatever happens, the numbers of connections rise, and keys of transactions stay apart, each of them given.
 pub fn numbers_and_keys_are_kept()
     ensures { (serving : Serving) (state : State) (event : Event) (outcome : Outcome) → are_numbered state ≡ true → are_keyed state ≡ true → (are_numbered (step_serving serving state event outcome).state ≡ true) × (are_keyed (step_serving serving state event outcome).state ≡ true) }
+{}
+
+/// A realm that starts is true to its word: it has given none.
+pub fn a_start_is_true_to_its_word()
+    ensures { (world : World) → IsStart world → IsTrueTo [] world }
+{}
+
+/// Each move of an honest run leaves a realm true to its word, whatever is served: what the branches of each transaction were told
+/// so far, and what a party that is out will tell them, fits what has become of the transaction.
+pub fn each_move_leaves_a_realm_true_to_its_word()
+    ensures { (serving : Serving) (move : Move) (world : World) (shown : List Output) → IsSound world → IsTrueTo shown world → is_honest serving move world ≡ true →
+        IsTrueTo (shown ++ (moved serving move world).shown) (moved serving move world).world }
+{}
+
+/// So agreement, the first of its sentences: in an honest run from a start no branch of a transaction is told to commit where a
+/// branch is told to abort, whatever is served, whatever the store answers, over restarts and renewals, lost parties and lost
+/// connections.
+pub fn no_branch_commits_where_one_aborts()
+    ensures { (serving : Serving) (world : World) (moves : List Move) (key : Key) → IsStart world → is_run serving world moves ≡ true → is_spelled key ≡ true →
+        is_one world.state.head.name (identifier world.state.head.name key) (traced serving world moves) ≡ true }
 {}
