@@ -1,5 +1,5 @@
 -- AGREEMENT OF A RUN: a realm stays true to its word, so no branch is told to commit where one is told to abort.
-use Rattle.std.proofs.Common.{◌≡◌, true, false, List, [], ◌∷◌, ◌++◌, Option, Some, None, refl, ap, subst, sym, ◌∙◌, inl, inr}
+use Rattle.std.proofs.Common.{◌≡◌, true, false, List, [], ◌∷◌, ◌++◌, Option, Some, None, refl, ap, subst, sym, ◌∙◌, inl, inr, ℕ, Bool}
 use Rattle.std.specs.Prelude.{◌&&◌, filter, flat_map, not}
 use Rattle.std.specs.List.{list_all, list_any}
 use Rattle.std.specs.Str.{bytes_eq}
@@ -13,7 +13,7 @@ use Rattle.tip_txn.specs.declared.answer.Phase.{Phase}
 use Rattle.tip_txn.specs.declared.answer.Phase.TheVariants.{Active, Asking, Prepared, Committed, Aborted}
 use Rattle.tip_machine.specs.Agreement.{is_one}
 use Rattle.tip_machine.specs.Agreement.Traces.{shown_in, traced}
-use Rattle.tip_machine.specs.Agreement.Verdicts.{is_abort, is_commit, is_unanimous, told}
+use Rattle.tip_machine.specs.Agreement.Verdicts.{is_abort, is_commit, is_unanimous, told, Verdict}
 use Rattle.tip_machine.specs.Answers.{identifier}
 use Rattle.tip_machine.specs.Honest.{brings_no_party, is_honest, is_run}
 use Rattle.tip_machine.specs.Invariants.{IsSound}
@@ -33,6 +33,7 @@ use Rattle.tip_machine.specs.declared.event.Outcome.TheVariants.{NoChange, Refus
 use Rattle.tip_machine.specs.declared.head.Head.{Head}
 use Rattle.tip_machine.proofs.Stepping.{step-went}
 use Rattle.tip_machine.proofs.Walks.{either}
+use Rattle.tip_agreement.proofs.Truthful.{any_verdict}
 use Rattle.tip_agreement.specs.Truth.{IsTrueTo, Word, fits, word_of}
 use Rattle.tip_agreement.proofs.Errands.{out_behind}
 use Rattle.tip_agreement.proofs.Holding.{back_true, event_true, lost_true, still_true}
@@ -65,6 +66,7 @@ start_true world start = subst (λ ps. IsTrueTo [] (record { state = world.state
   fits = λ k fine. nothing_fits (transaction_of k world.state);
   given = λ k fine is. absurd (let wrong : false ≡ true = is in cc);
   uncalled = refl;
+  ours = λ id is. absurd (let wrong : false ≡ true = is in cc);
 })
 
 -- EACH MOVE
@@ -165,7 +167,22 @@ one_word shown world key fine true_to =
       either_way word None is = is
       either_way word (Some t) is = over_fits t word is
 
-pub run_agrees : (serving : Serving) (world : World) (moves : List Move) (key : Key) → IsStart world → is_run serving world moves ≡ true → is_spelled key ≡ true → is_one world.state.head.name (identifier world.state.head.name key) (traced serving world moves) ≡ true
-run_agrees serving world moves key start honest fine =
-    subst (λ name. is_unanimous (told name (identifier name key) (shown_in (traced serving world moves))) ≡ true) (name_led serving world moves)
-    (one_word (shown_in (traced serving world moves)) (led_to serving world moves) key fine (run_true serving world moves [] (start_sound world start) (start_true world start) honest))
+-- where nothing is told, neither is
+any_of : (test : Verdict → Bool) (xs : List Verdict) → list_any test xs ≡ true → list_any any_verdict xs ≡ true
+any_of test [] is = is
+any_of test (x ∷ xs) is = refl
+
+-- the same of any identifier
+one_told : (shown : List Output) (world : World) (id : List ℕ) → IsTrueTo shown world → is_unanimous (told world.state.head.name id shown) ≡ true
+one_told shown world id true_to = step (list_any any_verdict said) refl where
+  said : List Verdict
+  said = told world.state.head.name id shown
+
+  step : (b : Bool) → list_any any_verdict said ≡ b → is_unanimous said ≡ true
+  step true is = let ours = true_to.ours id (or_left (list_any any_verdict said) _ is) in subst (λ x. is_unanimous (told world.state.head.name x shown) ≡ true) (sym ours.2) (one_word shown world ours.0 ours.1 true_to)
+  step false is = not_less (list_any is_commit said && list_any is_abort said) false (λ both. sym is ∙ any_of is_commit said (and_parts (list_any is_commit said) (list_any is_abort said) both).0) refl
+
+pub run_agrees : (serving : Serving) (world : World) (moves : List Move) (id : List ℕ) → IsStart world → is_run serving world moves ≡ true → is_one world.state.head.name id (traced serving world moves) ≡ true
+run_agrees serving world moves id start honest =
+    subst (λ name. is_unanimous (told name id (shown_in (traced serving world moves))) ≡ true) (name_led serving world moves)
+    (one_told (shown_in (traced serving world moves)) (led_to serving world moves) id (run_true serving world moves [] (start_sound world start) (start_true world start) honest))

@@ -1,6 +1,6 @@
 -- How transactions go on over commands of others and requests of the host.
 use Rattle.std.proofs.Common.{◌≡◌, Bool, true, false, ℕ, List, [], ◌∷◌, ◌++◌, Option, Some, None, cond, refl, ap, subst, sym, ◌∙◌, ◌⊎◌, inl, inr}
-use Rattle.std.specs.Prelude.{◌&&◌, find, is_none, is_some, length, nat_le, not, take}
+use Rattle.std.specs.Prelude.{◌&&◌, find, is_none, is_some, length, nat_le, not, take, ◌||◌}
 use Rattle.std.specs.List.{list_any}
 use Rattle.std.specs.Option.{option_and_then, option_map_or}
 use Rattle.std.proofs.lemmas.Bool.{and_parts, and_right, not-true, or_from}
@@ -48,8 +48,8 @@ use Rattle.tip_agreement.proofs.Enlisting.{only_active}
 use Rattle.tip_agreement.proofs.Following.{AllOnward, AreApart, HasNoneActive, abort_onward, commit_onward, none_stored, owns_here, stop_onward, turned_to}
 use Rattle.tip_agreement.proofs.Keys.{key_self, keys_of}
 use Rattle.tip_agreement.proofs.Speaking.{doubt_aborts, doubt_commits}
-use Rattle.tip_agreement.proofs.Wording.{Quiet, closes_more, fits_still, quiet_then, says_more, silent}
-use Rattle.tip_agreement.proofs.Onward.{SaysFitting, alters, before, beside, of_none, of_remove, row_in, then}
+use Rattle.tip_agreement.proofs.Wording.{Quiet, closes_more, fits_still, quiet_then, says_more, silent, is_of}
+use Rattle.tip_agreement.proofs.Onward.{Speaks, alters, before, beside, of_none, of_remove, row_in, then}
 use Rattle.tip_agreement.proofs.Owned.{have_parts, in_phase, own_still, parts_from}
 use Rattle.tip_agreement.proofs.Sound.{found_by}
 
@@ -65,8 +65,11 @@ pub record Beside (w u : Work) : Type 0 where
   pub spent : u.answer.spent ≡ w.answer.spent
   pub said : Quiet w.answer.sent u.answer.sent
 
-beside_says : (key : Key) (w u : Work) → Beside w u → SaysFitting key w u
-beside_says key w u is spelled k fine before = fits_still before k w u is.epoch is.name is.transactions is.work is.spent is.said
+beside_says : (key : Key) (w u : Work) → Beside w u → Speaks key w u
+beside_says key w u is = record {
+  fits = λ spelled k fine before. fits_still before k w u is.epoch is.name is.transactions is.work is.spent is.said;
+  ours = λ test realm id at speaks. inl ((λ i. (sym (is.said test realm id)) i || is_of id ((sym is.spent) i)) ∙ speaks);
+}
 
 pub beside_goes : (w u : Work) → Beside w u → Goes None w u
 beside_goes w u is = (no_key, beside no_key w u is.epoch is.name is.transactions is.work (beside_says no_key w u is))

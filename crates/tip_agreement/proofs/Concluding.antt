@@ -38,7 +38,7 @@ use Rattle.tip_agreement.proofs.Apart.{all_found}
 use Rattle.tip_agreement.proofs.Around.{Whole, found_altered}
 use Rattle.tip_agreement.proofs.Closing.{is_stoppable}
 use Rattle.tip_agreement.proofs.Following.{AllOnward, AreApart, OwnsHere, commit_onward, commits_again, finish_onward, leave_onward, none_stored, onward_after, owns_here, promise_onward, reacts_silently, stop_onward, turned_to}
-use Rattle.tip_agreement.proofs.Onward.{Onward, alters, beside, gives, of_none, then}
+use Rattle.tip_agreement.proofs.Onward.{Onward, alters, beside, gives, of_none, then, speaks_not}
 use Rattle.tip_agreement.proofs.Owned.{have_parts, in_phase, key_found, parts_from}
 use Rattle.tip_agreement.proofs.Speaking.{active_asks, agreed_commits, agreed_promises, asks_silent}
 use Rattle.tip_agreement.proofs.Proceeding.{agreed_party, agreed_within, left_party, local_waits, may_ask_party, waits_at}
@@ -72,7 +72,7 @@ module _ (t : Transaction) (w : Work) (found : transaction_of t.key w.state ≡ 
   own = owns_here w.state t ready.own
 
   stays : Onward None t.key w w
-  stays = beside t.key w w refl refl refl refl (λ spelled k fine before is. is)
+  stays = beside t.key w w refl refl refl refl (speaks_not t.key w)
 
   module _ (which : (t.phase ≡ Active) ⊎ (t.phase ≡ Asking)) where
     can_stop : is_stoppable t.phase ≡ true
@@ -217,7 +217,7 @@ Goes change w v = (key : Key) × Onward change key w v
 
 module _ (v : Work) (apart : AreApart v) (ready : AllReady v.state) where
   same_goes : Goes None v v
-  same_goes = (record { epoch = 0; connection = 0; number = 0 }, beside (record { epoch = 0; connection = 0; number = 0 }) v v refl refl refl refl (λ spelled k fine before is. is))
+  same_goes = (record { epoch = 0; connection = 0; number = 0 }, beside (record { epoch = 0; connection = 0; number = 0 }) v v refl refl refl refl (speaks_not (record { epoch = 0; connection = 0; number = 0 }) v))
 
   stopped : (t : Transaction) → transaction_of t.key v.state ≡ Some t → is_stoppable t.phase ≡ true → Goes None v (abort t.key v)
   stopped t found can = (t.key, stop_onward t.key v t found apart (owns_here v.state t (ready t found).own) can)

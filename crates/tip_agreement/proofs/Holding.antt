@@ -37,6 +37,7 @@ use Rattle.tip_machine.proofs.Identifiers.{given_stays, new_was_not_given}
 use Rattle.tip_machine.proofs.Stepping.{returned-silent}
 use Rattle.tip_rows.proofs.OrderLemmas.{same_key}
 use Rattle.tip_machine.specs.declared.event.Change.{Change}
+use Rattle.std.specs.Str.{bytes_eq}
 use Rattle.tip_agreement.specs.Truth.{IsTrueTo, Word, is_uncalled, will_tell, will_vote}
 use Rattle.tip_agreement.proofs.Apart.{all_changed, all_found}
 use Rattle.tip_agreement.proofs.Around.{found_altered, other_found}
@@ -49,11 +50,11 @@ use Rattle.tip_agreement.proofs.Lasting.{next_fits}
 use Rattle.tip_agreement.proofs.Moving.{due_awaited, sound_whole}
 use Rattle.tip_agreement.proofs.Occurring.{back_goes, event_goes}
 use Rattle.tip_agreement.proofs.Owned.{key_found}
-use Rattle.tip_agreement.proofs.Parting.{fits_here, given_here, is_given_there, true_without}
+use Rattle.tip_agreement.proofs.Parting.{fits_here, given_here, is_given_there, true_without, ours_here}
 use Rattle.tip_agreement.proofs.Returned.{Owns}
 use Rattle.tip_agreement.proofs.Spoken.{IsQuiet, spoke_ends, spoke_ordered}
 use Rattle.tip_agreement.proofs.Telling.{any_told, are_told, event_told, let_go_told, told_either, told_more}
-use Rattle.tip_agreement.proofs.Truthful.{true_after, word_by}
+use Rattle.tip_agreement.proofs.Truthful.{true_after, word_by, any_verdict}
 use Rattle.tip_agreement.proofs.Wording.{Less, are_said, fits_less}
 
 -- NOTHING MORE IS TOLD, and all else stays
@@ -62,6 +63,10 @@ still_true state rows rows' errands shown later true_to heard = record {
   fits = λ k fine. fits_less (transaction_of k state) (new_word k) (old_word k) (less k) (true_to.fits k fine);
   given = λ k fine is. true_to.given k fine (elim (or_cases (new_word k).commit (new_word k).abort is) [ inl commit ↦ or_left (old_word k).commit _ ((less k).commit commit) | inr abort ↦ or_right (old_word k).commit _ ((less k).abort abort) ]);
   uncalled = true_to.uncalled;
+  ours = λ id is. true_to.ours id (elim (or_cases (list_any any_verdict (told state.head.name id later)) (list_any (λ (party : PartyNotes). bytes_eq id party.id) errands) is) [
+    | inl said ↦ or_left (list_any any_verdict (told state.head.name id shown)) _ (any_told any_verdict state.head.name id shown ∙ heard any_verdict id (sym (any_told any_verdict state.head.name id later) ∙ said))
+    | inr out ↦ or_right (list_any any_verdict (told state.head.name id shown)) _ out
+  ]);
 } where
   old_word : Key → Word
   old_word k = word_by state.head.name state.head.epoch errands shown (identifier state.head.name k)
@@ -80,7 +85,7 @@ still_true state rows rows' errands shown later true_to heard = record {
 
 -- the same of a state that has another entry
 entry_true : (shown : List Output) (state : State) (rows rows' : List (Key × Row)) (errands : List PartyNotes) → IsTrueTo shown (record { state = state; rows = rows; errands = errands }) → IsTrueTo shown (record { state = (entered state).state; rows = rows'; errands = errands })
-entry_true shown state rows rows' errands true_to = record { fits = true_to.fits; given = true_to.given; uncalled = true_to.uncalled }
+entry_true shown state rows rows' errands true_to = record { fits = true_to.fits; given = true_to.given; uncalled = true_to.uncalled; ours = true_to.ours }
 
 -- KEYS, over a step
 record StepKeys (old new : State) : Type 0 where
@@ -151,6 +156,7 @@ module _ (serving : Serving) (world : World) (sound : IsSound world) (event : Ev
           fits = true_to.fits;
           given = true_to.given;
           uncalled = true_to.uncalled;
+          ours = true_to.ours;
         })
     step false full =
         let silent = returned-silent Frozen event in
@@ -275,6 +281,7 @@ module _ (serving : Serving) (world : World) (sound : IsSound world) (party : Pa
             fits = fits_here world sound shown (shown ++ brought event) party (back_of party back) rest is_out heard_calls true_to t home.found owned;
             given = given_here world sound shown (shown ++ brought event) party (back_of party back) rest is_out heard_calls true_to t home.found owned;
             uncalled = (and_parts (is_uncalled party) (list_all is_uncalled rest) true_to.uncalled).1;
+            ours = ours_here world sound shown (shown ++ brought event) party (back_of party back) rest is_out heard_calls true_to t home.found owned;
           })
 
     pub back_true : IsTrueTo (shown ++ (stepped serving event outcome (record world { errands = rest })).shown) (stepped serving event outcome (record world { errands = rest })).world
@@ -299,7 +306,7 @@ module _ (serving : Serving) (world : World) (sound : IsSound world) (party : Pa
           let gone = let_go_true None answer silent.0 (spent_back party back) in
           subst (λ o. IsTrueTo (shown ++ outputs event None outcome answer) (record { state = world.state; rows = rows_after None outcome world.rows; errands = rest ++ option_to_list o })) (sym silent.1)
           (subst (λ ps. IsTrueTo (shown ++ outputs event None outcome answer) (record { state = world.state; rows = rows_after None outcome world.rows; errands = ps })) (sym (append-nil rest))
-          (record { fits = gone.fits; given = gone.given; uncalled = gone.uncalled }))
+          (record { fits = gone.fits; given = gone.given; uncalled = gone.uncalled; ours = gone.ours }))
 
   -- ONE THAT IS LOST
   pub lost_true : IsTrueTo (shown ++ drops_of party) (record { state = world.state; rows = world.rows; errands = rest })

@@ -1,9 +1,9 @@
 -- How transactions go on over a rule: what their rows say, which parties stay out, and what has no outcome.
-use Rattle.std.proofs.Common.{◌≡◌, Bool, true, false, List, [], ◌∷◌, Option, Some, None, cond, refl, ap, subst, sym, ◌∙◌, ◌⊎◌, inl, inr}
+use Rattle.std.proofs.Common.{◌≡◌, Bool, true, false, List, [], ◌∷◌, Option, Some, None, cond, refl, ap, subst, sym, ◌∙◌, ◌⊎◌, inl, inr, ℕ}
 use Rattle.std.specs.Prelude.{◌&&◌, ◌||◌, ◌==◌, not, find, map, is_none, is_some}
 use Rattle.std.specs.List.{list_all, list_any}
 use Rattle.std.specs.Str.{bytes_eq}
-use Rattle.std.proofs.lemmas.Bool.{and_parts, both_ways, cases_Bool, not-true, or_parts}
+use Rattle.std.proofs.lemmas.Bool.{and_parts, both_ways, cases_Bool, not-true, or_parts, or_cases, or_left}
 use Rattle.std.proofs.lemmas.Option.{same_Some}
 use Rattle.tip_branch.specs.Members.{forgetting, is_active, is_ready}
 use Rattle.tip_branch.specs.Notes.{PartyNotes, given}
@@ -30,12 +30,14 @@ use Rattle.tip_machine.specs.Types.{PartyPlace, Transaction}
 use Rattle.tip_machine.specs.declared.event.Change.{Change}
 use Rattle.tip_machine.specs.declared.event.Change.TheVariants.{Put, Remove}
 use Rattle.tip_machine.specs.declared.transaction.PartyPlace.TheVariants.{Here, Out, Spent}
+use Rattle.tip_rows.proofs.MemoryLemmas.{same_text}
+use Rattle.tip_machine.specs.Agreement.Verdicts.{Verdict}
 use Rattle.tip_agreement.specs.Truth.{Word, fits, is_uncalled}
 use Rattle.tip_agreement.proofs.Around.{found_altered, other_found, other_left}
 use Rattle.tip_agreement.proofs.Keys.{apart_without, keys_changed, keys_of}
 use Rattle.tip_agreement.proofs.Owned.{key_found}
 use Rattle.tip_agreement.proofs.Speaking.{MayLet, StillFits, altered_fits, give_fits, let_fits, may_go, over_fits, placed_fits}
-use Rattle.tip_agreement.proofs.Wording.{Fits, word_at}
+use Rattle.tip_agreement.proofs.Wording.{Fits, word_at, are_said, speaks_of}
 
 -- ONE TRANSACTION
 
@@ -74,6 +76,17 @@ turns_then f g a b c first next = record {
 abbrev pub SaysFitting : Key → Work → Work → Type 0
 SaysFitting key w v = (is_some (transaction_of key w.state) ≡ true → is_spelled key ≡ true) → (k : Key) → is_spelled k ≡ true → (before : Word) → Fits before k w → Fits before k v
 
+-- only of the transaction of this key anything is said, where it is there
+abbrev pub SpeaksOf : Key → Work → Work → Type 0
+SpeaksOf key w v = (test : Verdict → Bool) (realm id : List ℕ) → realm ≡ w.state.head.name → speaks_of test realm id v.answer ≡ true → (speaks_of test realm id w.answer ≡ true) ⊎ ((bytes_eq id (identifier realm key) ≡ true) × (is_some (transaction_of key w.state) ≡ true))
+
+pub record Speaks (key : Key) (w v : Work) : Type 0 where
+  pub fits : SaysFitting key w v
+  pub ours : SpeaksOf key w v
+
+pub speaks_not : (key : Key) (w : Work) → Speaks key w w
+speaks_not key w = record { fits = λ spelled k fine before is. is; ours = λ test realm id at is. inl is }
+
 -- the party of this transaction goes out, which was not out before
 pub record Sends (key : Key) (w v : Work) : Type 0 where
   pub party : PartyNotes
@@ -93,18 +106,18 @@ pub record Onward (change : Option Change) (key : Key) (w v : Work) : Type 0 whe
   pub turns : (k : Key) → Turns (row_in change k) (transaction_of k w.state) (transaction_of k v.state)
   pub keys : are_distinct is_same (keys_of w.state.transactions) ≡ true → are_distinct is_same (keys_of v.state.transactions) ≡ true
   pub sends : (v.answer.work ≡ w.answer.work) ⊎ Sends key w v
-  pub fits : SaysFitting key w v
+  pub says : Speaks key w v
 
 module _ (key : Key) where
   -- no transaction is touched
-  pub beside : (w v : Work) → v.state.head.epoch ≡ w.state.head.epoch → v.state.head.name ≡ w.state.head.name → v.state.transactions ≡ w.state.transactions → v.answer.work ≡ w.answer.work → SaysFitting key w v → Onward None key w v
-  beside w v epoch name same work fits = record {
+  pub beside : (w v : Work) → v.state.head.epoch ≡ w.state.head.epoch → v.state.head.name ≡ w.state.head.name → v.state.transactions ≡ w.state.transactions → v.answer.work ≡ w.answer.work → Speaks key w v → Onward None key w v
+  beside w v epoch name same work says = record {
     epoch = epoch;
     name = name;
     turns = λ k. subst (λ ts. Turns (λ row. row) (transaction_of k w.state) (find (has_key k) ts)) (sym same) (turns_same (transaction_of k w.state));
     keys = λ apart. subst (λ ts. are_distinct is_same (keys_of ts) ≡ true) (sym same) apart;
     sends = inl work;
-    fits = fits;
+    says = says;
   }
 
   sends_then : (c d : Option Change) (u w v : Work) → Onward c key u w → Onward d key w v → (v.answer.work ≡ u.answer.work) ⊎ Sends key u v
@@ -132,7 +145,16 @@ module _ (key : Key) where
     step (inr s) (inr s') = absurd (s'.before s.transaction s.party.errand s.found s.out)
 
   fits_then : (c d : Option Change) (u w v : Work) → Onward c key u w → Onward d key w v → SaysFitting key u v
-  fits_then c d u w v first next spelled k fine before is = next.fits (λ there. spelled ((first.turns key).was there)) k fine before (first.fits spelled k fine before is)
+  fits_then c d u w v first next spelled k fine before is = next.says.fits (λ there. spelled ((first.turns key).was there)) k fine before (first.says.fits spelled k fine before is)
+
+  ours_then : (c d : Option Change) (u w v : Work) → Onward c key u w → Onward d key w v → SpeaksOf key u v
+  ours_then c d u w v first next test realm id at is = elim (next.says.ours test realm id (at ∙ sym first.name) is) [
+    | inl before ↦ first.says.ours test realm id at before
+    | inr now ↦ inr (now.0, (first.turns key).was now.1)
+  ]
+
+  says_then : (c d : Option Change) (u w v : Work) → Onward c key u w → Onward d key w v → Speaks key u v
+  says_then c d u w v first next = record { fits = fits_then c d u w v first next; ours = ours_then c d u w v first next }
 
   -- one after another
   pub then : (change : Option Change) (u w v : Work) → Onward change key u w → Onward None key w v → Onward change key u v
@@ -142,7 +164,7 @@ module _ (key : Key) where
     turns = λ k. turns_then (row_in change k) (λ row. row) _ _ _ (first.turns k) (next.turns k);
     keys = λ apart. next.keys (first.keys apart);
     sends = sends_then change None u w v first next;
-    fits = fits_then change None u w v first next;
+    says = says_then change None u w v first next;
   }
 
   pub before : (change : Option Change) (u w v : Work) → Onward None key u w → Onward change key w v → Onward change key u v
@@ -152,7 +174,7 @@ module _ (key : Key) where
     turns = λ k. turns_then (λ row. row) (row_in change k) _ _ _ (first.turns k) (next.turns k);
     keys = λ apart. next.keys (first.keys apart);
     sends = sends_then None change u w v first next;
-    fits = fits_then None change u w v first next;
+    says = says_then None change u w v first next;
   }
 
   -- the transaction of the key is altered, or ends
@@ -193,7 +215,7 @@ module _ (key : Key) (change : Option Change) (of : IsOf key change) (w : Work) 
     turns = each_key (alter key f w) (subst (λ o. Turns (row_in change key) o (transaction_of key (alter key f w).state)) (sym found) (subst (Turns (row_in change key) (Some t)) (sym (found_altered key w.state f same t found)) turns)) (other_found key w.state f same);
     keys = λ apart. rw (keys_changed (has_key key) f w.state.transactions same) apart;
     sends = inl refl;
-    fits = λ spelled k fine before. altered_fits key w f t same found may k before;
+    says = record { fits = λ spelled k fine before. altered_fits key w f t same found may k before; ours = λ test realm id at is. inl is };
   }
 
   gone_now : (ts : List Transaction) → are_distinct is_same (keys_of ts) ≡ true → find (has_key key) (without (has_key key) ts) ≡ None
@@ -223,7 +245,7 @@ module _ (key : Key) (change : Option Change) (of : IsOf key change) (w : Work) 
     turns = each_key (end key w) (subst (λ o. Turns (row_in change key) o (transaction_of key (end key w).state)) (sym found) (subst (Turns (row_in change key) (Some t)) (sym (gone_now w.state.transactions apart)) turns)) (other_left key w.state);
     keys = λ apart. apart_without (has_key key) w.state.transactions apart;
     sends = inl refl;
-    fits = λ spelled. λ k fine before. ended_fits t apart found k before;
+    says = record { fits = λ spelled k fine before. ended_fits t apart found k before; ours = λ test realm id at is. inl is };
   }
 
 -- THE PARTY
@@ -278,10 +300,16 @@ module _ (key : Key) (w : Work) (t : Transaction) (party : PartyNotes) (found : 
   own_id : is_its_own w.state t (Here party) ≡ true → bytes_eq party.id (identifier w.state.head.name key) ≡ true
   own_id own = subst (λ k. bytes_eq party.id (identifier w.state.head.name k) ≡ true) (sym (key_found key t w.state found)) (and_parts (party.epoch == w.state.head.epoch) (has_id w.state.head.name party.id t) own).1
 
+  let_ours : is_its_own w.state t (Here party) ≡ true → SpeaksOf key w (let_go party key w)
+  let_ours own test realm id at is = elim (or_cases (are_said test realm id w.answer.sent) (bytes_eq id party.id) is) [
+    | inl said ↦ inl (or_left (are_said test realm id w.answer.sent) _ said)
+    | inr named ↦ inr (subst (λ n. bytes_eq id (identifier n key) ≡ true) (sym at) (subst (λ x. bytes_eq id x ≡ true) (same_text party.id (identifier w.state.head.name key) (own_id own)) named), ap is_some found)
+  ]
+
   pub lets : is_its_own w.state t (Here party) ≡ true → MayLet t party → Onward None key w (let_go party key w)
   lets own may =
       let a = alters key None (of_none key) w (standing_at Spent) t (λ t. refl) found (moves Spent) (placed_fits t party Spent here) in
-      record { epoch = a.epoch; name = a.name; turns = a.turns; keys = a.keys; sends = inl refl; fits = λ spelled. let_fits key w t party found here (own_id own) (spelled (ap is_some found)) may }
+      record { epoch = a.epoch; name = a.name; turns = a.turns; keys = a.keys; sends = inl refl; says = record { fits = λ spelled. let_fits key w t party found here (own_id own) (spelled (ap is_some found)) may; ours = let_ours own } }
 
   pub gives : (e : Errand) → CanGo e party → is_its_own w.state t (Here party) ≡ true → may_go t.phase e ≡ true → Onward None key w (give_out e party key w)
   gives e can own may =
@@ -304,7 +332,7 @@ module _ (key : Key) (w : Work) (t : Transaction) (party : PartyNotes) (found : 
           out = refl;
           before = λ u f is at. never f (sym here ∙ (ap (λ (x : Transaction). x.place) (same_Some t u (sym found ∙ is)) ∙ at));
         });
-        fits = λ spelled. give_fits key w t party found here (own_id own) its.0 (spelled (ap is_some found)) e may;
+        says = record { fits = λ spelled. give_fits key w t party found here (own_id own) its.0 (spelled (ap is_some found)) e may; ours = λ test realm id at is. inl is };
       } where
         never : (f : Errand) → Here party ≡ Out f → ⊥
         never f is = cc
@@ -326,7 +354,7 @@ pub record Dispatched (key : Key) (t : Transaction) (w v : Work) : Type 0 where
 
 module _ (key : Key) (w : Work) (t : Transaction) (found : transaction_of key w.state ≡ Some t) where
   stood : (place : PartyPlace) → t.place ≡ place → Dispatched key t w w
-  stood place at = record { onward = beside key w w refl refl refl refl (λ spelled k fine before is. is); place = place; found = found ∙ ap Some (λ i. record t { place = at i }); stays_in = λ never none e out. never e (at ∙ out) }
+  stood place at = record { onward = beside key w w refl refl refl refl (speaks_not key w); place = place; found = found ∙ ap Some (λ i. record t { place = at i }); stays_in = λ never none e out. never e (at ∙ out) }
 
   pub dispatches : ((party : PartyNotes) → t.place ≡ Here party → MayBeSent w t party) → Dispatched key t w (dispatch key w)
   unfolding dispatch

@@ -32,7 +32,7 @@ use Rattle.tip_machine.proofs.Walks.{found_passes}
 use Rattle.std.proofs.lemmas.Option.{same_Some}
 use Rattle.tip_table.specs.Lists.{changed}
 use Rattle.tip_agreement.proofs.Around.{found_altered, other_found}
-use Rattle.tip_agreement.specs.Truth.{IsTrueTo, Word, fits, fits_in, is_lost, is_to_vote, is_uncalled, will_tell, will_vote}
+use Rattle.tip_agreement.specs.Truth.{IsTrueTo, Word, fits, fits_in, is_lost, is_to_vote, is_uncalled, will_tell, will_vote, IsOurs}
 use Rattle.tip_agreement.proofs.Apart.{all_found}
 use Rattle.tip_agreement.proofs.Bounded.{AreSpelled, in_bounds, spelled_at}
 use Rattle.tip_agreement.proofs.Events.{entered_whole}
@@ -41,7 +41,7 @@ use Rattle.tip_agreement.proofs.Returned.{said_at, Owns}
 use Rattle.tip_agreement.proofs.Spelling.{keys_told}
 use Rattle.tip_agreement.proofs.Spoken.{has_word}
 use Rattle.tip_agreement.proofs.Telling.{any_told, are_told}
-use Rattle.tip_agreement.proofs.Truthful.{word_by}
+use Rattle.tip_agreement.proofs.Truthful.{word_by, any_verdict, is_named}
 use Rattle.tip_agreement.proofs.Waiting.{waits_for}
 use Rattle.tip_agreement.proofs.Wording.{Less, fits_less, not_less}
 
@@ -192,8 +192,20 @@ module _ (world : World) (sound : IsSound world) where
       ]
     ]
 
+    ours_now : (id : List ℕ) → is_named world.state.head.name rest later id ≡ true → IsOurs world.state.head.name id
+    ours_now id is = true_to.ours id (elim (or_cases (list_any any_verdict (told world.state.head.name id later)) (list_any (λ (q : PartyNotes). bytes_eq id q.id) rest) is) [
+      | inr out ↦ or_right (list_any any_verdict (told world.state.head.name id shown)) _ (or_right (bytes_eq id party.id) _ out)
+      | inl said ↦ elim (heard any_verdict id (sym (any_told any_verdict world.state.head.name id later) ∙ said)) [
+        | inl before ↦ or_left (list_any any_verdict (told world.state.head.name id shown)) _ (any_told any_verdict world.state.head.name id shown ∙ before)
+        | inr here ↦ or_right (list_any any_verdict (told world.state.head.name id shown)) _ (or_left (bytes_eq id party.id) _ (elim here [
+          | inl will ↦ (and_parts (bytes_eq id party.id) _ will).0
+          | inr vote ↦ (and_parts (bytes_eq id party.id) _ vote.1).0
+        ]))
+      ]
+    ])
+
     pub true_without : IsTrueTo later (record { state = world.state; rows = world.rows; errands = rest })
-    true_without = record { fits = fits_now; given = given_now; uncalled = (and_parts (is_uncalled party) (list_all is_uncalled rest) true_to.uncalled).1 }
+    true_without = record { fits = fits_now; given = given_now; uncalled = (and_parts (is_uncalled party) (list_all is_uncalled rest) true_to.uncalled).1; ours = ours_now }
 
   -- ONE IS HERE AGAIN: its transaction has it
 
@@ -268,4 +280,13 @@ module _ (world : World) (sound : IsSound world) where
     given_here k fine is = true_to.given k fine (elim (or_cases (next_word k).commit (next_word k).abort is) [
       | inl commit ↦ or_left (first_word k).commit _ ((back_less k).commit commit)
       | inr abort ↦ or_right (first_word k).commit _ ((back_less k).abort abort)
+    ])
+
+    pub ours_here : (id : List ℕ) → is_named world.state.head.name rest later id ≡ true → IsOurs world.state.head.name id
+    ours_here id is = true_to.ours id (elim (or_cases (list_any any_verdict (told world.state.head.name id later)) (list_any (λ (q : PartyNotes). bytes_eq id q.id) rest) is) [
+      | inr out ↦ or_right (list_any any_verdict (told world.state.head.name id shown)) _ (or_right (bytes_eq id party.id) _ out)
+      | inl said ↦ elim (heard any_verdict id (sym (any_told any_verdict world.state.head.name id later) ∙ said)) [
+        | inl before ↦ or_left (list_any any_verdict (told world.state.head.name id shown)) _ (any_told any_verdict world.state.head.name id shown ∙ before)
+        | inr will ↦ or_right (list_any any_verdict (told world.state.head.name id shown)) _ (or_left (bytes_eq id party.id) _ (and_parts (bytes_eq id party.id) _ will).0)
+      ]
     ])

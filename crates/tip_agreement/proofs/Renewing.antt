@@ -41,7 +41,7 @@ use Rattle.tip_machine.specs.declared.transaction.PartyPlace.TheVariants.{Here, 
 use Rattle.tip_machine.proofs.Identifiers.{given_later}
 use Rattle.tip_machine.proofs.Lists.{find_any}
 use Rattle.tip_machine.proofs.Walks.{found_passes}
-use Rattle.tip_agreement.specs.Truth.{IsTrueTo, Word, fits, fits_in, verdict_of, will_tell}
+use Rattle.tip_agreement.specs.Truth.{IsTrueTo, Word, fits, fits_in, verdict_of, will_tell, IsOurs}
 use Rattle.tip_agreement.proofs.Apart.{all_found}
 use Rattle.tip_agreement.proofs.Bounded.{AreSpelled, in_bounds, spelled_at}
 use Rattle.tip_agreement.proofs.Closing.{is_stoppable}
@@ -57,8 +57,8 @@ use Rattle.tip_agreement.proofs.Sound.{found_by}
 use Rattle.tip_agreement.proofs.Speaking.{stopped_fits}
 use Rattle.tip_agreement.proofs.Spelling.{keys_told}
 use Rattle.tip_agreement.proofs.Spoken.{has_word}
-use Rattle.tip_agreement.proofs.Telling.{any_told, are_told, drops_told, told_either}
-use Rattle.tip_agreement.proofs.Truthful.{word_by}
+use Rattle.tip_agreement.proofs.Telling.{any_told, are_told, drops_told, told_either, IsRolledBack}
+use Rattle.tip_agreement.proofs.Truthful.{word_by, any_verdict, is_named}
 
 -- What a row makes is in doubt, or committed
 
@@ -156,36 +156,58 @@ module _ (boxes : Key → List Badge) (world : World) (sound : IsSound world) (c
 
   -- Branches that are rolled back at the start
 
-  abbrev is_dropped : (Verdict → Bool) → Key → Transaction → Bool
-  is_dropped test k t = are_told test world.state.head.name (id_at k) (drops_at t.place)
+  abbrev is_dropped : (Verdict → Bool) → List ℕ → Transaction → Bool
+  is_dropped test id t = are_told test world.state.head.name id (drops_at t.place)
 
-  dropped_any : (test : Verdict → Bool) (k : Key) (ts : List Transaction) → are_told test world.state.head.name (id_at k) (flat_map (λ (t : Transaction). drops_at t.place) ts) ≡ true → list_any (is_dropped test k) ts ≡ true
-  dropped_any test k [] is = is
-  dropped_any test k (t ∷ ts) is = elim (told_either test world.state.head.name (id_at k) (drops_at t.place) (flat_map (λ (t : Transaction). drops_at t.place) ts) is) [
-    | inl first ↦ or_left (is_dropped test k t) _ first
-    | inr rest ↦ or_right (is_dropped test k t) _ (dropped_any test k ts rest)
+  dropped_any : (test : Verdict → Bool) (id : List ℕ) (ts : List Transaction) → are_told test world.state.head.name id (flat_map (λ (t : Transaction). drops_at t.place) ts) ≡ true → list_any (is_dropped test id) ts ≡ true
+  dropped_any test id [] is = is
+  dropped_any test id (t ∷ ts) is = elim (told_either test world.state.head.name id (drops_at t.place) (flat_map (λ (t : Transaction). drops_at t.place) ts) is) [
+    | inl first ↦ or_left (is_dropped test id t) _ first
+    | inr rest ↦ or_right (is_dropped test id t) _ (dropped_any test id ts rest)
   ]
 
-  dropped_at : (test : Verdict → Bool) (k : Key) → is_spelled k ≡ true → (t : Transaction) → transaction_of t.key world.state ≡ Some t → (place : PartyPlace) → t.place ≡ place → are_told test world.state.head.name (id_at k) (drops_at place) ≡ true → (test Verdict.Abort ≡ true) × Stoppable k world.state
-  dropped_at test k fine t found (Out e) at is = absurd (cc)
-  dropped_at test k fine t found Spent at is = absurd (cc)
-  dropped_at test k fine t found (Here party) at is =
-      let rolled = drops_told test world.state.head.name (id_at k) party is in
-      let whole = sound_whole world sound in
-      let own : is_its_own world.state t (Here party) ≡ true = subst (λ p. is_its_own world.state t p ≡ true) at (ready_of world.state t whole found).own in
-      let its = and_parts (party.epoch == now) (has_id world.state.head.name party.id t) own in
-      let same : k ≡ t.key = keys_told world.state.head.name k t.key fine (spelled_at world.state t spelled_all found) (same_text (id_at k) party.id rolled.id_is ∙ same_text party.id (id_at t.key) its.1) in
-      let said = said_at party t (entered world.state) (entered_whole world.state whole) found (record { epoch = its.0; id = its.1 }) (Here party) at in
-      (rolled.aborts, record { transaction = t; found = subst (λ x. transaction_of x world.state ≡ Some t) (sym same) found; can = active_here t.phase party said.0 said.1 rolled.active })
+  -- the transaction whose party is here
+  record Dropped (test : Verdict → Bool) (id : List ℕ) : Type 0 where
+    transaction : Transaction
+    found : transaction_of transaction.key world.state ≡ Some transaction
+    party : PartyNotes
+    here : transaction.place ≡ Here party
+    rolled : IsRolledBack test world.state.head.name id party
+
+  dropped_place : (test : Verdict → Bool) (id : List ℕ) (t : Transaction) → transaction_of t.key world.state ≡ Some t → (place : PartyPlace) → t.place ≡ place → are_told test world.state.head.name id (drops_at place) ≡ true → Dropped test id
+  dropped_place test id t found (Out e) at is = absurd (cc)
+  dropped_place test id t found Spent at is = absurd (cc)
+  dropped_place test id t found (Here party) at is = record { transaction = t; found = found; party = party; here = at; rolled = drops_told test world.state.head.name id party is }
+
+  dropped : (test : Verdict → Bool) (id : List ℕ) → are_told test world.state.head.name id (drops_here world.state) ≡ true → Dropped test id
+  dropped test id is = step (find (is_dropped test id) world.state.transactions) refl (find_any (is_dropped test id) world.state.transactions) where
+    any : list_any (is_dropped test id) world.state.transactions ≡ true
+    any = dropped_any test id world.state.transactions is
+
+    step : (found : Option Transaction) → find (is_dropped test id) world.state.transactions ≡ found → is_some (find (is_dropped test id) world.state.transactions) ≡ list_any (is_dropped test id) world.state.transactions → Dropped test id
+    step None is same = absurd (let wrong : false ≡ true = sym (ap is_some is) ∙ (same ∙ any) in cc)
+    step (Some t) is same = dropped_place test id t (found_by (is_dropped test id) world.state t (sound_whole world sound) is) t.place refl (found_passes (is_dropped test id) world.state.transactions t is)
+
+  -- its identifier is that of the transaction
+  dropped_id : (test : Verdict → Bool) (id : List ℕ) (d : Dropped test id) → ((d.party.epoch == now) ≡ true) × (has_id world.state.head.name d.party.id d.transaction ≡ true) × (id ≡ id_at d.transaction.key)
+  dropped_id test id d =
+      let own : is_its_own world.state d.transaction (Here d.party) ≡ true = subst (λ p. is_its_own world.state d.transaction p ≡ true) d.here (ready_of world.state d.transaction (sound_whole world sound) d.found).own in
+      let its = and_parts (d.party.epoch == now) (has_id world.state.head.name d.party.id d.transaction) own in
+      (its.0, its.1, same_text id d.party.id d.rolled.id_is ∙ same_text d.party.id (id_at d.transaction.key) its.1)
 
   dropped_so : (test : Verdict → Bool) (k : Key) → is_spelled k ≡ true → are_told test world.state.head.name (id_at k) (drops_here world.state) ≡ true → (test Verdict.Abort ≡ true) × Stoppable k world.state
-  dropped_so test k fine is = step (find (is_dropped test k) world.state.transactions) refl (find_any (is_dropped test k) world.state.transactions) where
-    any : list_any (is_dropped test k) world.state.transactions ≡ true
-    any = dropped_any test k world.state.transactions is
+  dropped_so test k fine is =
+      let d = dropped test (id_at k) is in
+      let t = d.transaction in
+      let its = dropped_id test (id_at k) d in
+      let same : k ≡ t.key = keys_told world.state.head.name k t.key fine (spelled_at world.state t spelled_all d.found) its.2 in
+      let said = said_at d.party t (entered world.state) (entered_whole world.state (sound_whole world sound)) d.found (record { epoch = its.0; id = its.1 }) (Here d.party) d.here in
+      (d.rolled.aborts, record { transaction = t; found = subst (λ x. transaction_of x world.state ≡ Some t) (sym same) d.found; can = active_here t.phase d.party said.0 said.1 d.rolled.active })
 
-    step : (found : Option Transaction) → find (is_dropped test k) world.state.transactions ≡ found → is_some (find (is_dropped test k) world.state.transactions) ≡ list_any (is_dropped test k) world.state.transactions → (test Verdict.Abort ≡ true) × Stoppable k world.state
-    step None is same = absurd (let wrong : false ≡ true = sym (ap is_some is) ∙ (same ∙ any) in cc)
-    step (Some t) is same = dropped_at test k fine t (found_by (is_dropped test k) world.state t (sound_whole world sound) is) t.place refl (found_passes (is_dropped test k) world.state.transactions t is)
+  dropped_ours : (id : List ℕ) → are_told any_verdict world.state.head.name id (drops_here world.state) ≡ true → IsOurs world.state.head.name id
+  dropped_ours id is =
+      let d = dropped any_verdict id is in
+      (d.transaction.key, spelled_at world.state d.transaction spelled_all d.found, (dropped_id any_verdict id d).2)
 
   -- Parties that stay out
 
@@ -333,9 +355,19 @@ module _ (boxes : Key → List Badge) (world : World) (sound : IsSound world) (c
     ]
   ]
 
+  ours_now : (id : List ℕ) → is_named world.state.head.name world.errands later id ≡ true → IsOurs world.state.head.name id
+  ours_now id is = elim (or_cases (list_any any_verdict (told world.state.head.name id later)) (list_any (λ (party : PartyNotes). bytes_eq id party.id) world.errands) is) [
+    | inr out ↦ true_to.ours id (or_right (list_any any_verdict (told world.state.head.name id shown)) _ out)
+    | inl said ↦ elim (told_either any_verdict world.state.head.name id shown (drops_here world.state) (sym (any_told any_verdict world.state.head.name id later) ∙ said)) [
+      | inl before ↦ true_to.ours id (or_left (list_any any_verdict (told world.state.head.name id shown)) _ (any_told any_verdict world.state.head.name id shown ∙ before))
+      | inr rolled ↦ dropped_ours id rolled
+    ]
+  ]
+
   pub renewed_true : IsTrueTo later (record { state = next; rows = world.rows; errands = world.errands })
   renewed_true = record {
     fits = fits_now;
     given = λ k fine is. given_later world.state next k (omega arith) (given_before k fine is);
     uncalled = true_to.uncalled;
+    ours = ours_now;
   }

@@ -29,7 +29,7 @@ use Rattle.tip_agreement.proofs.Around.{found_altered, other_found}
 use Rattle.tip_agreement.proofs.Closing.{is_stoppable}
 use Rattle.tip_agreement.proofs.Keys.{key_self}
 use Rattle.tip_agreement.proofs.Spelling.{keys_told}
-use Rattle.tip_agreement.proofs.Wording.{Fits, IsMute, Less, fits_less, fits_so, fits_still, mute_said, no_fourth, no_second, no_third, no_third_of_four, not_less, rolls_back, word_at, word_in}
+use Rattle.tip_agreement.proofs.Wording.{Fits, IsMute, Less, fits_less, fits_so, fits_still, mute_said, no_fourth, no_second, no_third, no_third_of_four, not_less, rolls_back, word_at, word_in, is_of, speaks_of}
 
 -- Identifiers of other keys are others
 
@@ -308,3 +308,28 @@ module _ (key : Key) (w : Work) (t : Transaction) (found : transaction_of key w.
         let old : fits_in Aborted t.place (word_at before key w) ≡ true = subst (λ f. fits_in f t.place (word_at before key w) ≡ true) aborted (subst (λ o. fits o (word_at before key w) ≡ true) found fit) in
         let new : fits_in Aborted t.place (word_at before key (react aborts key w)) ≡ true = (λ i. not (before.commit || (said i || option_map_or (will_tell is_commit w.state.head.epoch (id_of_key key)) w.answer.work false))) ∙ old in
         subst (λ o. fits o (word_at before key (react aborts key w)) ≡ true) (sym found) (subst (λ f. fits_in f t.place (word_at before key (react aborts key w)) ≡ true) (sym aborted) new)
+
+-- a reaction speaks of its transaction alone
+
+silent_said : (reaction : Reaction) → IsSilent reaction → (key : Key) (w : Work) (test : Verdict → Bool) (realm id : List ℕ) → speaks_of test realm id (react reaction key w).answer ≡ speaks_of test realm id w.answer
+unfolding react
+silent_said reaction silent key w test realm id = ap (λ b. b || is_of id w.answer.spent) (mute_said test realm id reaction key (silent test realm id key) w.answer.sent w.state.connections)
+
+pub silent_ours : (reaction : Reaction) → IsSilent reaction → (key : Key) (w : Work) (test : Verdict → Bool) (realm id : List ℕ) → speaks_of test realm id (react reaction key w).answer ≡ true → speaks_of test realm id w.answer ≡ true
+silent_ours reaction silent key w test realm id is = sym (silent_said reaction silent key w test realm id) ∙ is
+
+mute_ours : (reaction : Reaction) (key : Key) (w : Work) (test : Verdict → Bool) (realm id : List ℕ) → IsMute test realm id reaction key → speaks_of test realm id (react reaction key w).answer ≡ true → speaks_of test realm id w.answer ≡ true
+unfolding react
+mute_ours reaction key w test realm id mute is = sym (ap (λ b. b || is_of id w.answer.spent) (mute_said test realm id reaction key mute w.answer.sent w.state.connections)) ∙ is
+
+pub commits_ours : (key : Key) (w : Work) (test : Verdict → Bool) (realm id : List ℕ) → speaks_of test realm id (react commits key w).answer ≡ true → (speaks_of test realm id w.answer ≡ true) ⊎ (bytes_eq id (identifier realm key) ≡ true)
+commits_ours key w test realm id is = elim (cases_Bool (bytes_eq id (identifier realm key))) [
+  | inl same ↦ inr same
+  | inr differ ↦ inl (mute_ours commits key w test realm id (commits_mute test realm id key differ) is)
+]
+
+pub aborts_ours : (key : Key) (w : Work) (test : Verdict → Bool) (realm id : List ℕ) → speaks_of test realm id (react aborts key w).answer ≡ true → (speaks_of test realm id w.answer ≡ true) ⊎ (bytes_eq id (identifier realm key) ≡ true)
+aborts_ours key w test realm id is = elim (cases_Bool (bytes_eq id (identifier realm key))) [
+  | inl same ↦ inr same
+  | inr differ ↦ inl (mute_ours aborts key w test realm id (aborts_mute test realm id key differ) is)
+]

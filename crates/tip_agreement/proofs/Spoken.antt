@@ -15,7 +15,10 @@ use Rattle.tip_machine.specs.Types.{Transaction}
 use Rattle.tip_machine.specs.declared.event.Change.{Change}
 use Rattle.tip_machine.specs.declared.event.Outcome.{Outcome}
 use Rattle.tip_machine.specs.declared.event.Outcome.TheVariants.{NoChange, Refused, Stored}
-use Rattle.tip_agreement.specs.Truth.{Word, fits, fits_in, is_uncalled, will_tell}
+use Rattle.std.specs.Str.{bytes_eq}
+use Rattle.tip_rows.proofs.MemoryLemmas.{same_text}
+use Rattle.tip_agreement.proofs.Onward.{Onward, Sends}
+use Rattle.tip_agreement.specs.Truth.{Word, fits, fits_in, is_uncalled, will_tell, IsOurs}
 use Rattle.tip_agreement.proofs.Apart.{all_found}
 use Rattle.tip_agreement.proofs.Bounded.{AreSpelled}
 use Rattle.tip_agreement.proofs.Commanded.{EndsGo, Grown}
@@ -23,7 +26,7 @@ use Rattle.tip_agreement.proofs.Concluding.{Goes}
 use Rattle.tip_agreement.proofs.Making.{found_before}
 use Rattle.tip_agreement.proofs.Owned.{key_found}
 use Rattle.tip_agreement.proofs.Telling.{ordered_quiet}
-use Rattle.tip_agreement.proofs.Wording.{Fits, are_said, fits_still, rolls_back, word_at}
+use Rattle.tip_agreement.proofs.Wording.{Fits, are_said, fits_still, rolls_back, word_at, is_of, speaks_of}
 
 -- WHAT A RULE SAYS
 
@@ -36,11 +39,13 @@ pub record IsQuiet (w : Work) : Type 0 where
 abbrev pub has_word : Word → Bool
 has_word word = word.commit || word.abort
 
--- what is said fits each transaction; a new one has no word
+-- what is said fits each transaction; a new one has no word; and no identifier is spoken of but ours
 pub record Spoke (w v : Work) : Type 0 where
   pub epoch : v.state.head.epoch ≡ w.state.head.epoch
   pub name : v.state.head.name ≡ w.state.head.name
   pub uncalled : option_map_or is_uncalled v.answer.work true ≡ true
+  pub ours : (test : Verdict → Bool) (id : List ℕ) → speaks_of test w.state.head.name id v.answer ≡ true → IsOurs w.state.head.name id
+  pub works : (id : List ℕ) → is_of id v.answer.work ≡ true → IsOurs w.state.head.name id
   pub fits : (k : Key) → is_spelled k ≡ true → (before : Word) → (transaction_of k w.state ≡ None → is_some (transaction_of k v.state) ≡ true → has_word before ≡ false) → Fits before k w → Fits before k v
 
 module _ (w : Work) (spelled : AreSpelled w.state) (quiet : IsQuiet w) where
@@ -50,6 +55,20 @@ module _ (w : Work) (spelled : AreSpelled w.state) (quiet : IsQuiet w) where
     step None is there = absurd (cc)
     step (Some t) is there = subst (λ k. is_spelled k ≡ true) (sym (key_found key t w.state is)) (all_found (λ (u : Transaction). is_spelled u.key) (has_key key) w.state.transactions t spelled is)
 
+  -- nothing was spoken of before
+  none_spoken : (test : Verdict → Bool) (realm id : List ℕ) → speaks_of test realm id w.answer ≡ true → ⊥
+  none_spoken test realm id is = let wrong : false ≡ true = sym (λ i. are_said test realm id (quiet.sent i) || is_of id (quiet.spent i)) ∙ is in cc
+
+  none_works : (id : List ℕ) → is_of id w.answer.work ≡ true → ⊥
+  none_works id is = let wrong : false ≡ true = sym (ap (is_of id) quiet.work) ∙ is in cc
+
+  -- the party that goes out is of the transaction
+  sent_ours : (change : Option Change) (key : Key) (v : Work) → Onward change key w v → Sends key w v → (id : List ℕ) → is_of id v.answer.work ≡ true → IsOurs w.state.head.name id
+  sent_ours change key v onward s id is =
+      let named : bytes_eq id s.party.id ≡ true = sym (ap (is_of id) s.now) ∙ is in
+      let same : s.party.id ≡ identifier w.state.head.name key = same_text s.party.id (identifier w.state.head.name s.transaction.key) s.id ∙ ap (identifier w.state.head.name) (sym (key_found key s.transaction v.state s.found)) in
+      (key, spelled_there key ((onward.turns key).was (ap is_some s.found)), same_text id s.party.id named ∙ same)
+
   spoke_goes : (change : Option Change) (v : Work) → Goes change w v → Spoke w v
   spoke_goes change v goes = record {
     epoch = goes.1.epoch;
@@ -58,7 +77,15 @@ module _ (w : Work) (spelled : AreSpelled w.state) (quiet : IsQuiet w) where
       | inl same ↦ subst (λ o. option_map_or is_uncalled o true ≡ true) (sym (same ∙ quiet.work)) refl
       | inr s ↦ subst (λ o. option_map_or is_uncalled o true ≡ true) (sym s.now) s.uncalled
     ];
-    fits = λ k fine before new. goes.1.fits (spelled_there goes.0) k fine before;
+    ours = λ test id is. elim (goes.1.says.ours test w.state.head.name id refl is) [
+      | inl before ↦ absurd (none_spoken test w.state.head.name id before)
+      | inr now ↦ (goes.0, spelled_there goes.0 now.1, same_text id (identifier w.state.head.name goes.0) now.0)
+    ];
+    works = λ id is. elim goes.1.sends [
+      | inl same ↦ absurd (none_works id (sym (ap (is_of id) same) ∙ is))
+      | inr s ↦ sent_ours change goes.0 v goes.1 s id is
+    ];
+    fits = λ k fine before new. goes.1.says.fits (spelled_there goes.0) k fine before;
   }
 
   -- a transaction more, of which nothing was said
@@ -101,6 +128,8 @@ module _ (w : Work) (spelled : AreSpelled w.state) (quiet : IsQuiet w) where
       epoch = grown.epoch;
       name = grown.name;
       uncalled = subst (λ o. option_map_or is_uncalled o true ≡ true) (sym (grown.work ∙ quiet.work)) refl;
+      ours = λ test id is. absurd (none_spoken test w.state.head.name id ((λ i. (sym (grown.said test w.state.head.name id)) i || is_of id ((sym grown.spent) i)) ∙ is));
+      works = λ id is. absurd (none_works id (sym (ap (is_of id) grown.work) ∙ is));
       fits = λ k fine before new is. grown_at before k (transaction_of k w.state) refl new (fits_still before k w before_it grown.epoch grown.name refl grown.work grown.spent grown.said is);
     }
 
@@ -117,5 +146,7 @@ spoke_ordered s w v spoke = record {
   epoch = spoke.epoch;
   name = spoke.name;
   uncalled = spoke.uncalled;
+  ours = λ test id is. spoke.ours test id (ap (λ b. b || is_of id v.answer.spent) (sym (ordered_quiet (turn s) v.answer.sent test w.state.head.name id)) ∙ is);
+  works = spoke.works;
   fits = λ k fine before new is. fits_still before k v (ordered s v) refl refl refl refl refl (ordered_quiet (turn s) v.answer.sent) (spoke.fits k fine before new is);
 }

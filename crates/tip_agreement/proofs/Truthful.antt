@@ -3,7 +3,7 @@ use Rattle.std.proofs.Common.{◌≡◌, Bool, true, false, ℕ, List, ◌++◌,
 use Rattle.std.specs.Prelude.{◌&&◌, ◌||◌, not, is_some}
 use Rattle.std.specs.List.{list_all, list_any}
 use Rattle.std.specs.Option.{option_map_or, option_to_list}
-use Rattle.std.proofs.lemmas.Bool.{and_from, both_ways, or_cases, or_left, or_right}
+use Rattle.std.proofs.lemmas.Bool.{and_from, both_ways, or_cases, or_left, or_right, and_parts}
 use Rattle.std.proofs.lemmas.List.Folds.{list_all-append, list_any-append}
 use Rattle.tip_branch.specs.Notes.{PartyNotes}
 use Rattle.tip_rows.specs.Keys.{Key}
@@ -15,10 +15,11 @@ use Rattle.tip_machine.specs.Invariants.Bounds.{is_spelled}
 use Rattle.tip_machine.specs.Outputs.{Output}
 use Rattle.tip_machine.specs.States.{Work, transaction_of}
 use Rattle.tip_machine.specs.Types.{Transaction}
-use Rattle.tip_agreement.specs.Truth.{IsTrueTo, Word, fits, is_uncalled, will_tell, will_vote}
+use Rattle.std.specs.Str.{bytes_eq}
+use Rattle.tip_agreement.specs.Truth.{IsTrueTo, Word, fits, is_uncalled, will_tell, will_vote, IsOurs}
 use Rattle.tip_agreement.proofs.Spoken.{IsQuiet, Spoke, has_word}
 use Rattle.tip_agreement.proofs.Telling.{any_told, are_told, drops_told, let_go_told}
-use Rattle.tip_agreement.proofs.Wording.{Fits, Less, are_said, fits_less, rolls_back, word_at, word_in}
+use Rattle.tip_agreement.proofs.Wording.{Fits, Less, are_said, fits_less, rolls_back, word_at, word_in, is_of}
 
 -- the word by what was shown, and by the parties that are out
 abbrev pub word_by : List ℕ → ℕ → List PartyNotes → List Output → List ℕ → Word
@@ -27,6 +28,13 @@ word_by realm now errands shown id = record {
   abort = list_any is_abort (told realm id shown) || list_any (will_tell is_abort now id) errands;
   awaited = list_any (will_vote now id) errands;
 }
+
+-- the same of what is spoken of
+abbrev pub any_verdict : Verdict → Bool
+any_verdict verdict = true
+
+abbrev pub is_named : List ℕ → List PartyNotes → List Output → List ℕ → Bool
+is_named realm errands shown id = list_any any_verdict (told realm id shown) || list_any (λ party. bytes_eq id party.id) errands
 
 pub any_listed : (p : PartyNotes → Bool) (o : Option PartyNotes) → list_any p (option_to_list o) ≡ true → option_map_or p o false ≡ true
 any_listed p None is = absurd (cc)
@@ -60,6 +68,7 @@ pub record Went (rows : List (Key × Row)) (errands : List PartyNotes) (shown la
   pub fits : (k : Key) → is_spelled k ≡ true → fits (transaction_of k w.state) (word_by w.state.head.name w.state.head.epoch errands shown (identifier w.state.head.name k)) ≡ true
   pub given : (k : Key) → is_spelled k ≡ true → has_word (word_by w.state.head.name w.state.head.epoch errands shown (identifier w.state.head.name k)) ≡ true → was_given w.state k ≡ true
   pub uncalled : list_all is_uncalled errands ≡ true
+  pub ours : (id : List ℕ) → is_named w.state.head.name errands shown id ≡ true → IsOurs w.state.head.name id
 
 module _ (rows : List (Key × Row)) (errands : List PartyNotes) (shown later : List Output) (w v : Work) (went : Went rows errands shown later w v) where
   abbrev id_of : Key → List ℕ
@@ -215,6 +224,26 @@ module _ (rows : List (Key × Row)) (errands : List PartyNotes) (shown later : L
     one None is = refl
     one (Some party) is = and_from _ _ is refl
 
+  -- no identifier is spoken of but ours
+  rolled_named : (id : List ℕ) (spent : Option PartyNotes) → rolls_back id spent ≡ true → is_of id spent ≡ true
+  rolled_named id None is = is
+  rolled_named id (Some party) is = (and_parts (bytes_eq id party.id) _ is).0
+
+  ours_after : (id : List ℕ) → is_named w.state.head.name (errands ++ option_to_list v.answer.work) later id ≡ true → IsOurs w.state.head.name id
+  ours_after id is = elim (or_cases (list_any any_verdict (told w.state.head.name id later)) (list_any (λ (party : PartyNotes). bytes_eq id party.id) (errands ++ option_to_list v.answer.work)) is) [
+    | inl now ↦ elim (went.heard any_verdict id (sym (any_told any_verdict w.state.head.name id later) ∙ now)) [
+      | inl before ↦ went.ours id (or_left (list_any any_verdict (told w.state.head.name id shown)) _ (any_told any_verdict w.state.head.name id shown ∙ before))
+      | inr here ↦ elim here [
+        | inl said ↦ went.spoke.ours any_verdict id (or_left (are_said any_verdict w.state.head.name id v.answer.sent) _ said)
+        | inr rolled ↦ went.spoke.ours any_verdict id (or_right (are_said any_verdict w.state.head.name id v.answer.sent) _ (rolled_named id v.answer.spent (let_go_rolls any_verdict w.state.head.name id v.answer.spent rolled).1))
+      ]
+    ]
+    | inr out ↦ elim (any_behind (λ (party : PartyNotes). bytes_eq id party.id) errands v.answer.work out) [
+      | inl old ↦ went.ours id (or_right (list_any any_verdict (told w.state.head.name id shown)) _ old)
+      | inr new ↦ went.spoke.works id new
+    ]
+  ]
+
   -- IT IS TRUE TO ITS WORD AFTER IT
   pub true_after : IsTrueTo later (record { state = v.state; rows = rows; errands = errands ++ option_to_list v.answer.work })
   true_after =
@@ -224,4 +253,5 @@ module _ (rows : List (Key × Row)) (errands : List PartyNotes) (shown later : L
         fits = λ k fine. (λ i. fits (transaction_of k v.state) (word_by (name i) (epoch i) (errands ++ option_to_list v.answer.work) later (identifier (name i) k))) ∙ fits_after k fine;
         given = λ k fine is. given_after k fine ((λ i. has_word (word_by (sym name i) (sym epoch i) (errands ++ option_to_list v.answer.work) later (identifier (sym name i) k))) ∙ is);
         uncalled = uncalled_after;
+        ours = λ id is. subst (λ n. IsOurs n id) (sym name) (ours_after id ((λ i. is_named (sym name i) (errands ++ option_to_list v.answer.work) later id) ∙ is));
       }

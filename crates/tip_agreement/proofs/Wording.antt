@@ -22,7 +22,7 @@ use Rattle.tip_machine.specs.Connections.{is_on}
 use Rattle.tip_machine.specs.Reactions.{Demand, Reacted, Reaction, answers, demanded, demanded_as, demands, reacts, sent_by, stays}
 use Rattle.tip_machine.specs.States.{Work}
 use Rattle.tip_machine.specs.Transactions.{has_key}
-use Rattle.tip_machine.specs.Types.{Connection, PartyPlace, Transaction}
+use Rattle.tip_machine.specs.Types.{Connection, PartyPlace, Transaction, Answer}
 use Rattle.tip_machine.specs.Changes.{tell}
 use Rattle.tip_machine.specs.declared.answer.Asked.{Asked}
 use Rattle.tip_machine.specs.declared.answer.Item.TheVariants.{Ask, Close, Say}
@@ -118,6 +118,13 @@ abbrev pub word_at : Word → Key → Work → Word
 word_at before key w =
     let id = identifier w.state.head.name key in
     word_in before w.state.head.epoch id (are_said is_commit w.state.head.name id w.answer.sent) (are_said is_abort w.state.head.name id w.answer.sent) w.answer.work w.answer.spent
+
+-- an answer says such a verdict of this identifier, or lets a party of it go
+abbrev pub is_of : List ℕ → Option PartyNotes → Bool
+is_of id party = option_map_or (λ party. bytes_eq id party.id) party false
+
+abbrev pub speaks_of : (Verdict → Bool) → List ℕ → List ℕ → Answer → Bool
+speaks_of test realm id answer = are_said test realm id answer.sent || is_of id answer.spent
 
 -- no verdict more is said
 abbrev pub Quiet : List Sent → List Sent → Type 0

@@ -83,9 +83,19 @@ fits (Some t) word = fits_in t.phase t.place word
 abbrev pub is_uncalled : PartyNotes → Bool
 is_uncalled party = list_all (λ member. is_none member.call) party.members
 
+-- it is the identifier of a key of this realm, one that fits
+abbrev pub IsOurs : List ℕ → List ℕ → Type 0
+IsOurs realm id = (key : Key) × (is_spelled key ≡ true) × (id ≡ identifier realm key)
+
+-- a branch of the transaction of this identifier was told a verdict, or a party of it is out
+abbrev pub is_spoken_of : World → List Output → List ℕ → Bool
+is_spoken_of world shown id = list_any (λ verdict. true) (told world.state.head.name id shown) || list_any (λ party. bytes_eq id party.id) world.errands
+
 -- ALL OF IT, of a world that was reached once so much was shown
 pub record IsTrueTo (shown : List Output) (world : World) : Type 0 where
   pub fits : (key : Key) → is_spelled key ≡ true → fits (transaction_of key world.state) (word_of world shown (identifier world.state.head.name key)) ≡ true
   -- none but a transaction that was made has any word
   pub given : (key : Key) → is_spelled key ≡ true → let word = word_of world shown (identifier world.state.head.name key) in word.commit || word.abort ≡ true → was_given world.state key ≡ true
   pub uncalled : list_all is_uncalled world.errands ≡ true
+  -- no other identifier is spoken of
+  pub ours : (id : List ℕ) → is_spoken_of world shown id ≡ true → IsOurs world.state.head.name id

@@ -1,14 +1,11 @@
 //! Laws of a realm's runs, each carried by a function that does nothing. They hold whatever is served.
-ghost use Rattle.std.specs.Prelude.{◌≡◌, ◌++◌, List, [], true};
+ghost use Rattle.std.specs.Prelude.{◌≡◌, ℕ, ◌++◌, List, [], true};
 ghost use Rattle.tip_agreement.specs.Truth.{IsTrueTo};
 ghost use Rattle.tip_machine.specs.Agreement.{is_one};
 ghost use Rattle.tip_machine.specs.Agreement.Traces.{traced};
-ghost use Rattle.tip_machine.specs.Answers.{identifier};
 ghost use Rattle.tip_machine.specs.Given.{are_numbered};
 ghost use Rattle.tip_machine.specs.Honest.{is_honest, is_run};
 ghost use Rattle.tip_machine.specs.Invariants.{IsSound, are_keyed};
-ghost use Rattle.tip_machine.specs.Invariants.Bounds.{is_spelled};
-ghost use Rattle.tip_rows.specs.Keys.{Key};
 ghost use Rattle.tip_machine.specs.Moves.{Move, World, led_to, moved};
 ghost use Rattle.tip_machine.specs.Outputs.{Output};
 ghost use Rattle.tip_machine.specs.Served.{Serving};
@@ -56,6 +53,5 @@ pub fn each_move_leaves_a_realm_true_to_its_word()
 /// branch is told to abort, whatever is served, whatever the store answers, over restarts and renewals, lost parties and lost
 /// connections.
 pub fn no_branch_commits_where_one_aborts()
-    ensures { (serving : Serving) (world : World) (moves : List Move) (key : Key) → IsStart world → is_run serving world moves ≡ true → is_spelled key ≡ true →
-        is_one world.state.head.name (identifier world.state.head.name key) (traced serving world moves) ≡ true }
+    ensures { (serving : Serving) (world : World) (moves : List Move) (id : List ℕ) → IsStart world → is_run serving world moves ≡ true → is_one world.state.head.name id (traced serving world moves) ≡ true }
 {}
