@@ -1,8 +1,7 @@
 -- AGREEMENT OF A RUN: a realm stays true to its word, so no branch is told to commit where one is told to abort.
 use Rattle.std.proofs.Common.{◌≡◌, true, false, List, [], ◌∷◌, ◌++◌, Option, Some, None, refl, ap, subst, sym, ◌∙◌, inl, inr, ℕ, Bool}
-use Rattle.std.specs.Prelude.{◌&&◌, filter, flat_map, not}
-use Rattle.std.specs.List.{list_all, list_any}
-use Rattle.std.specs.Str.{bytes_eq}
+use Rattle.std.specs.Prelude.{◌&&◌, flat_map, not}
+use Rattle.std.specs.List.{list_any}
 use Rattle.std.proofs.lemmas.Bool.{and_parts, or_left}
 use Rattle.std.proofs.lemmas.List.{append-nil, append_assoc}
 use Rattle.tip_branch.specs.Notes.{PartyNotes}
@@ -18,8 +17,7 @@ use Rattle.tip_machine.specs.Answers.{identifier}
 use Rattle.tip_machine.specs.Honest.{brings_no_party, is_honest, is_run}
 use Rattle.tip_machine.specs.Invariants.{IsSound}
 use Rattle.tip_machine.specs.Invariants.Bounds.{is_spelled}
-use Rattle.tip_machine.specs.Invariants.Links.{are_distinct}
-use Rattle.tip_machine.specs.Invariants.Parties.{are_out, is_due, is_of_this_start}
+use Rattle.tip_machine.specs.Invariants.Parties.{are_out}
 use Rattle.tip_machine.specs.Moves.{Move, World, drops_here, gone_for, led_to, lost_from, moved, renewed, restarted_from, stepped}
 use Rattle.tip_machine.specs.Outputs.{Output, drops_of}
 use Rattle.tip_machine.specs.Returns.{Back, event_of}
@@ -35,7 +33,7 @@ use Rattle.tip_machine.proofs.Stepping.{step-went}
 use Rattle.tip_machine.proofs.Walks.{either}
 use Rattle.tip_agreement.proofs.Truthful.{any_verdict}
 use Rattle.tip_agreement.specs.Truth.{IsTrueTo, Word, fits, word_of}
-use Rattle.tip_agreement.proofs.Errands.{out_behind}
+use Rattle.tip_agreement.proofs.Errands.{out_behind, first_due}
 use Rattle.tip_agreement.proofs.Holding.{back_true, event_true, lost_true, still_true}
 use Rattle.tip_agreement.proofs.Kept.{moved_sound}
 use Rattle.tip_agreement.proofs.Renewing.{renewed_true}
@@ -70,9 +68,6 @@ start_true world start = subst (λ ps. IsTrueTo [] (record { state = world.state
 })
 
 -- EACH MOVE
-
-first_due : (state : State) (party : PartyNotes) (errands : List PartyNotes) → are_out state (party ∷ errands) ≡ true → is_due state party ≡ true
-first_due state party errands out = (and_parts (is_due state party) (list_all (is_due state) errands) (and_parts (are_distinct (λ (this that : PartyNotes). bytes_eq this.id that.id) (filter (is_of_this_start state) (party ∷ errands))) (list_all (is_due state) (party ∷ errands)) out).1).0
 
 gone_true : (serving : Serving) (back : Back) (outcome : Outcome) (world : World) (errands : List PartyNotes) (shown : List Output) → IsSound world → are_out world.state errands ≡ true → IsTrueTo shown (record { state = world.state; rows = world.rows; errands = errands }) → world.errands ≡ errands → IsTrueTo (shown ++ (gone_for errands serving back outcome world).shown) (gone_for errands serving back outcome world).world
 gone_true serving back outcome world [] shown sound out true_to same = subst (λ xs. IsTrueTo xs world) (sym (append-nil shown)) (subst (λ ps. IsTrueTo shown (record { state = world.state; rows = world.rows; errands = ps })) (sym same) true_to)

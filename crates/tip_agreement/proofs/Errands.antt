@@ -16,6 +16,10 @@ apart_behind : (test same : Bool) (state : State) (party : PartyNotes) (errands 
 apart_behind true same state party errands apart = (and_parts _ _ apart).1
 apart_behind false same state party errands apart = apart
 
+-- the first of those that are out is due
+pub first_due : (state : State) (party : PartyNotes) (errands : List PartyNotes) → are_out state (party ∷ errands) ≡ true → is_due state party ≡ true
+first_due state party errands out = (and_parts (is_due state party) (list_all (is_due state) errands) (and_parts (are_distinct (λ (this that : PartyNotes). bytes_eq this.id that.id) (filter (is_of_this_start state) (party ∷ errands))) (list_all (is_due state) (party ∷ errands)) out).1).0
+
 pub out_behind : (state : State) (party : PartyNotes) (errands : List PartyNotes) → are_out state (party ∷ errands) ≡ true → are_out state errands ≡ true
 out_behind state party errands out =
     let both = and_parts (are_distinct (λ (this that : PartyNotes). bytes_eq this.id that.id) (filter (is_of_this_start state) (party ∷ errands))) (list_all (is_due state) (party ∷ errands)) out in

@@ -1,6 +1,6 @@
 -- Each event, and each party that comes back, leaves a realm true to its word.
 use Rattle.std.proofs.Common.{◌≡◌, Bool, true, false, ℕ, List, [], ◌∷◌, ◌++◌, Option, Some, None, cond, refl, ap, subst, sym, ◌∙◌, ◌⊎◌, inl, inr}
-use Rattle.std.specs.Prelude.{◌||◌, not, is_some, map}
+use Rattle.std.specs.Prelude.{◌||◌, not, is_some}
 use Rattle.std.specs.List.{list_all, list_any}
 use Rattle.std.specs.Option.{option_to_list}
 use Rattle.std.proofs.lemmas.Bool.{and_parts, or_cases, or_left, or_right, cases_Bool}
@@ -16,8 +16,7 @@ use Rattle.tip_machine.specs.Answers.{identifier}
 use Rattle.tip_machine.specs.Changes.{alter}
 use Rattle.tip_machine.specs.Given.{was_given}
 use Rattle.tip_machine.specs.Honest.{brings_no_party}
-use Rattle.tip_machine.specs.Invariants.{IsSound, are_keyed}
-use Rattle.tip_machine.specs.Invariants.Links.{are_distinct}
+use Rattle.tip_machine.specs.Invariants.{IsSound}
 use Rattle.tip_machine.specs.Invariants.Bounds.{is_spelled}
 use Rattle.tip_machine.specs.Invariants.Parties.{are_out, is_due, is_sent}
 use Rattle.tip_machine.specs.Moves.{World, rows_after, stepped}
@@ -39,7 +38,7 @@ use Rattle.tip_rows.proofs.OrderLemmas.{same_key}
 use Rattle.tip_machine.specs.declared.event.Change.{Change}
 use Rattle.std.specs.Str.{bytes_eq}
 use Rattle.tip_agreement.specs.Truth.{IsTrueTo, Word, is_uncalled, will_tell, will_vote}
-use Rattle.tip_agreement.proofs.Apart.{all_changed, all_found}
+use Rattle.tip_agreement.proofs.Apart.{all_changed}
 use Rattle.tip_agreement.proofs.Around.{found_altered, other_found}
 use Rattle.tip_agreement.proofs.Bounded.{AreSpelled, in_bounds}
 use Rattle.tip_agreement.proofs.Calling.{calls_told, drops_back_told, drops_lost_told}
@@ -49,8 +48,7 @@ use Rattle.tip_agreement.proofs.Keys.{keys_kept}
 use Rattle.tip_agreement.proofs.Lasting.{next_fits}
 use Rattle.tip_agreement.proofs.Moving.{due_awaited, sound_whole}
 use Rattle.tip_agreement.proofs.Occurring.{back_goes, event_goes}
-use Rattle.tip_agreement.proofs.Owned.{key_found}
-use Rattle.tip_agreement.proofs.Parting.{fits_here, given_here, is_given_there, true_without, ours_here}
+use Rattle.tip_agreement.proofs.Parting.{fits_here, given_here, is_given_there, true_without, ours_here, given_in}
 use Rattle.tip_agreement.proofs.Returned.{Owns}
 use Rattle.tip_agreement.proofs.Spoken.{IsQuiet, spoke_ends, spoke_ordered}
 use Rattle.tip_agreement.proofs.Telling.{any_told, are_told, event_told, let_go_told, told_either, told_more}
@@ -92,13 +90,6 @@ record StepKeys (old new : State) : Type 0 where
   given_new : (k : Key) → is_some (transaction_of k new) ≡ true → was_given new k ≡ true
   stays : (k : Key) → was_given old k ≡ true → was_given new k ≡ true
   fresh : (k : Key) → transaction_of k old ≡ None → is_some (transaction_of k new) ≡ true → was_given old k ≡ false
-
--- each open transaction's key was given
-given_in : (s : State) → are_keyed s ≡ true → (k : Key) → is_some (transaction_of k s) ≡ true → was_given s k ≡ true
-given_in s keyed k = step (transaction_of k s) refl where
-  step : (found : Option Transaction) → transaction_of k s ≡ found → is_some found ≡ true → was_given s k ≡ true
-  step None is there = absurd (cc)
-  step (Some t) is there = subst (λ x. was_given s x ≡ true) (sym (key_found k t s is)) (all_found (λ (u : Transaction). was_given s u.key) (has_key k) s.transactions t (and_parts (are_distinct is_same (map (λ (u : Transaction). u.key) s.transactions)) _ keyed).1 is)
 
 no_party : (event : Event) → brings_no_party event ≡ true → (brought event ≡ []) × ((returned Frozen event).spent ≡ None)
 no_party (Open boxes) is = (refl, refl)

@@ -1,24 +1,18 @@
 -- THE INVARIANTS ARE KEPT by each move of an honest run, and so by the whole run.
 use Rattle.std.proofs.Common.{◌≡◌, true, List, [], ◌∷◌}
-use Rattle.std.specs.List.{list_all}
 use Rattle.std.proofs.lemmas.Bool.{and_parts}
 use Rattle.tip_branch.specs.Notes.{PartyNotes}
 use Rattle.tip_machine.specs.Honest.{brings_no_party, is_honest, is_run}
 use Rattle.tip_machine.specs.Invariants.{IsSound}
-use Rattle.tip_machine.specs.Invariants.Parties.{are_out, is_due}
+use Rattle.tip_machine.specs.Invariants.Parties.{are_out}
 use Rattle.tip_machine.specs.Moves.{Move, World, gone_for, led_to, moved}
 use Rattle.tip_machine.specs.Returns.{Back}
 use Rattle.tip_machine.specs.Served.{Serving}
 use Rattle.tip_machine.specs.Starting.{IsStart}
-use Rattle.tip_machine.specs.States.{State}
 use Rattle.tip_machine.specs.declared.event.Outcome.{Outcome}
-use Rattle.tip_agreement.proofs.Errands.{lost_sound}
+use Rattle.tip_agreement.proofs.Errands.{lost_sound, first_due}
 use Rattle.tip_agreement.proofs.Lasting.{back_sound, event_sound}
 use Rattle.tip_agreement.proofs.Restarts.{renewing_sound, restarting_sound, start_sound}
-
--- the first of those that are out is due
-first_due : (state : State) (party : PartyNotes) (errands : List PartyNotes) → are_out state (party ∷ errands) ≡ true → is_due state party ≡ true
-first_due state party errands out = (and_parts (is_due state party) (list_all (is_due state) errands) (and_parts _ (list_all (is_due state) (party ∷ errands)) out).1).0
 
 gone_sound : (serving : Serving) (back : Back) (outcome : Outcome) (world : World) (errands : List PartyNotes) → IsSound world → are_out world.state errands ≡ true → IsSound (gone_for errands serving back outcome world).world
 gone_sound serving back outcome world [] sound out = sound

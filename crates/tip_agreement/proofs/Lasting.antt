@@ -1,10 +1,9 @@
 -- The invariants last over each step of a realm.
-use Rattle.std.proofs.Common.{◌≡◌, Bool, true, false, ℕ, ◌+◌, List, [], ◌∷◌, ◌++◌, Option, Some, None, cond, refl, ap, subst, sym, arith, ◌∙◌, ◌⊎◌, inl, inr}
+use Rattle.std.proofs.Common.{◌≡◌, Bool, true, false, ℕ, ◌+◌, List, ◌∷◌, ◌++◌, Option, Some, None, cond, refl, ap, subst, sym, arith, ◌∙◌, ◌⊎◌, inl, inr}
 use Rattle.std.specs.Prelude.{find, nat_le, nat_lt}
 use Rattle.std.specs.List.{list_all}
 use Rattle.std.specs.Option.{option_to_list}
 use Rattle.std.proofs.lemmas.Bool.Decides.{nat_tests}
-use Rattle.std.proofs.lemmas.Option.{none-some}
 use Rattle.tip_branch.specs.Notes.{PartyNotes}
 use Rattle.tip_rows.specs.Keys.{Key, is_same}
 use Rattle.tip_rows.specs.Logs.{is_rising, last_epoch, row_at}
@@ -50,7 +49,7 @@ use Rattle.tip_agreement.proofs.Homecoming.{BackGoes, CameHome, placed, placed_k
 use Rattle.tip_agreement.proofs.Keys.{keys_changed, keys_kept, keys_of}
 use Rattle.tip_agreement.proofs.Known.{from_known, known_grown, known_onward, to_known}
 use Rattle.tip_agreement.proofs.Lines.{event_whole}
-use Rattle.tip_agreement.proofs.Making.{found_before}
+use Rattle.tip_agreement.proofs.Making.{found_before, found_new}
 use Rattle.tip_agreement.proofs.Moving.{back_whole, due_awaited, sound_given, sound_whole}
 use Rattle.tip_agreement.proofs.Occurring.{IsNextSpelled, back_goes, event_goes}
 use Rattle.tip_agreement.proofs.Onward.{says}
@@ -103,15 +102,8 @@ grew rows errands w v base apart grown =
       new_fits k found none true is = subst (λ f. is_stored_as f grown.new (row_at k rows) ≡ true) (sym grown.active) is
       new_fits k found none false is = is
 
-      last : (k : Key) (ts : List Transaction) → find (has_key k) ts ≡ None → find (has_key k) (ts ++ grown.new ∷ []) ≡ cond (has_key k grown.new) (Some grown.new) None
-      last k [] none = refl
-      last k (t ∷ ts) none = step (has_key k t) none (last k ts) where
-        step : (b : Bool) → cond b (Some t) (find (has_key k) ts) ≡ None → (find (has_key k) ts ≡ None → find (has_key k) (ts ++ grown.new ∷ []) ≡ cond (has_key k grown.new) (Some grown.new) None) → cond b (Some t) (find (has_key k) (ts ++ grown.new ∷ [])) ≡ cond (has_key k grown.new) (Some grown.new) None
-        step true is later = absurd (none-some t (sym is))
-        step false is later = later is
-
       fits : (k : Key) (found : Option Transaction) → transaction_of k w.state ≡ found → says (transaction_of k v.state) (row_at k rows) ≡ true
-      fits k None none = subst (λ ts. says (find (has_key k) ts) (row_at k rows) ≡ true) (sym grown.transactions) (subst (λ o. says o (row_at k rows) ≡ true) (sym (last k w.state.transactions none)) (new_fits k None refl (has_key k grown.new) (subst (λ o. says o (row_at k rows) ≡ true) none (base.fits k))))
+      fits k None none = subst (λ ts. says (find (has_key k) ts) (row_at k rows) ≡ true) (sym grown.transactions) (subst (λ o. says o (row_at k rows) ≡ true) (sym (found_new (has_key k) w.state.transactions grown.new none)) (new_fits k None refl (has_key k grown.new) (subst (λ o. says o (row_at k rows) ≡ true) none (base.fits k))))
       fits k (Some t) found = subst (λ ts. says (find (has_key k) ts) (row_at k rows) ≡ true) (sym grown.transactions) (subst (λ o. says o (row_at k rows) ≡ true) (sym (found_before (has_key k) w.state.transactions grown.new t found)) (subst (λ o. says o (row_at k rows) ≡ true) found (base.fits k)))
 
 -- nothing became of it

@@ -43,6 +43,14 @@ found_before p (u ∷ ts) new t is = step (p u) is (found_before p ts new t) whe
   step true is later = is
   step false is later = later is
 
+-- where nothing was found, the one behind it is, if it passes
+pub found_new : (p : Transaction → Bool) (ts : List Transaction) (new : Transaction) → find p ts ≡ None → find p (ts ++ new ∷ []) ≡ cond (p new) (Some new) None
+found_new p [] new none = refl
+found_new p (u ∷ ts) new none = step (p u) none (found_new p ts new) where
+  step : (b : Bool) → cond b (Some u) (find p ts) ≡ None → (find p ts ≡ None → find p (ts ++ new ∷ []) ≡ cond (p new) (Some new) None) → cond b (Some u) (find p (ts ++ new ∷ [])) ≡ cond (p new) (Some new) None
+  step true is later = absurd (cc)
+  step false is later = later is
+
 pub found_last : (p : Transaction → Bool) (ts : List Transaction) (new : Transaction) → list_any p ts ≡ false → p new ≡ true → find p (ts ++ new ∷ []) ≡ Some new
 found_last p [] new none is = rw is refl
 found_last p (u ∷ ts) new none is = let parts = or_parts (p u) (list_any p ts) none in rw parts.0 (found_last p ts new parts.1 is)

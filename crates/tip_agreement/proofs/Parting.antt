@@ -1,6 +1,6 @@
 -- A realm stays true to its word where a party that was out is let go, or is here again.
 use Rattle.std.proofs.Common.{◌≡◌, Bool, true, false, ℕ, List, [], ◌∷◌, Option, Some, None, cond, refl, ap, subst, sym, ◌∙◌, ◌⊎◌, inl, inr}
-use Rattle.std.specs.Prelude.{◌&&◌, ◌||◌, ◌==◌, filter, not, is_some}
+use Rattle.std.specs.Prelude.{◌&&◌, ◌||◌, ◌==◌, filter, not, is_some, map}
 use Rattle.std.specs.List.{list_all, list_any}
 use Rattle.std.specs.Str.{bytes_eq}
 use Rattle.std.proofs.lemmas.Bool.{and_from, and_left, and_parts, and_right, both_ways, cases_Bool, not-true, or_cases, or_from, or_left, or_parts, or_right}
@@ -16,7 +16,7 @@ use Rattle.tip_txn.specs.declared.answer.Phase.TheVariants.{Active, Asking, Prep
 use Rattle.tip_machine.specs.Agreement.Verdicts.{Verdict, is_abort, is_commit, told}
 use Rattle.tip_machine.specs.Answers.{identifier}
 use Rattle.tip_machine.specs.Given.{was_given}
-use Rattle.tip_machine.specs.Invariants.{IsSound}
+use Rattle.tip_machine.specs.Invariants.{IsSound, are_keyed}
 use Rattle.tip_machine.specs.Invariants.Bounds.{is_spelled}
 use Rattle.tip_machine.specs.Invariants.Links.{are_distinct}
 use Rattle.tip_machine.specs.Invariants.Parties.{are_out, is_due, is_of_this_start}
@@ -28,15 +28,16 @@ use Rattle.tip_machine.specs.Steps.{entered}
 use Rattle.tip_machine.specs.Transactions.{has_key, standing_at}
 use Rattle.tip_machine.specs.Types.{Transaction, PartyPlace}
 use Rattle.tip_machine.specs.declared.transaction.PartyPlace.TheVariants.{Out, Here}
-use Rattle.tip_machine.proofs.Walks.{found_passes}
 use Rattle.std.proofs.lemmas.Option.{same_Some}
 use Rattle.tip_table.specs.Lists.{changed}
+use Rattle.tip_agreement.proofs.Owned.{key_found}
+use Rattle.tip_agreement.proofs.Errands.{first_due}
 use Rattle.tip_agreement.proofs.Around.{found_altered, other_found}
 use Rattle.tip_agreement.specs.Truth.{IsTrueTo, Word, fits, fits_in, is_lost, is_to_vote, is_uncalled, will_tell, will_vote, IsOurs}
 use Rattle.tip_agreement.proofs.Apart.{all_found}
 use Rattle.tip_agreement.proofs.Bounded.{AreSpelled, in_bounds, spelled_at}
 use Rattle.tip_agreement.proofs.Events.{entered_whole}
-use Rattle.tip_agreement.proofs.Moving.{sound_given, sound_whole}
+use Rattle.tip_agreement.proofs.Moving.{sound_whole}
 use Rattle.tip_agreement.proofs.Returned.{said_at, Owns}
 use Rattle.tip_agreement.proofs.Spelling.{keys_told}
 use Rattle.tip_agreement.proofs.Spoken.{has_word}
@@ -44,6 +45,13 @@ use Rattle.tip_agreement.proofs.Telling.{any_told, are_told}
 use Rattle.tip_agreement.proofs.Truthful.{word_by, any_verdict, is_named}
 use Rattle.tip_agreement.proofs.Waiting.{waits_for}
 use Rattle.tip_agreement.proofs.Wording.{Less, fits_less, not_less}
+
+-- Each open transaction's key was given
+pub given_in : (s : State) → are_keyed s ≡ true → (k : Key) → is_some (transaction_of k s) ≡ true → was_given s k ≡ true
+given_in s keyed k = step (transaction_of k s) refl where
+  step : (found : Option Transaction) → transaction_of k s ≡ found → is_some found ≡ true → was_given s k ≡ true
+  step None is there = absurd (cc)
+  step (Some t) is there = subst (λ x. was_given s x ≡ true) (sym (key_found k t s is)) (all_found (λ (u : Transaction). was_given s u.key) (has_key k) s.transactions t (and_parts (are_distinct is_same (map (λ (u : Transaction). u.key) s.transactions)) _ keyed).1 is)
 
 -- A vote that is out is of a transaction that asks, or was aborted
 voting_phase : (phase : Phase) (answer : Option Ballot) → is_party phase (Out errand.Vote) answer ≡ true → (phase ≡ Asking) ⊎ (phase ≡ Aborted)
@@ -76,16 +84,8 @@ module _ (world : World) (sound : IsSound world) where
   spelled_all : AreSpelled world.state
   spelled_all = (in_bounds world.state sound.bounded).spelled
 
-  given_there : (k : Key) (t : Transaction) → transaction_of k world.state ≡ Some t → was_given world.state k ≡ true
-  given_there k t found = subst (λ x. was_given world.state x ≡ true) (sym (key_of_found k t found)) (all_found (λ (u : Transaction). was_given world.state u.key) (has_key k) world.state.transactions t (sound_given world sound) found) where
-    key_of_found : (k : Key) (t : Transaction) → transaction_of k world.state ≡ Some t → k ≡ t.key
-    key_of_found k t found = same_key k t.key (found_passes (has_key k) world.state.transactions t found)
-
   pub is_given_there : (k : Key) → is_some (transaction_of k world.state) ≡ true → was_given world.state k ≡ true
-  is_given_there k = step (transaction_of k world.state) refl where
-    step : (found : Option Transaction) → transaction_of k world.state ≡ found → is_some found ≡ true → was_given world.state k ≡ true
-    step None is there = absurd (cc)
-    step (Some t) is there = given_there k t is
+  is_given_there = given_in world.state sound.keyed
 
   pub votes_for : (k : Key) → is_spelled k ≡ true → (party : PartyNotes) → is_due world.state party ≡ true → will_vote now (id_at k) party ≡ true → Votes k world.state
   votes_for k fine party due will =
@@ -117,7 +117,7 @@ module _ (world : World) (sound : IsSound world) where
     new_word k = word_by world.state.head.name now rest later (id_at k)
 
     due : is_due world.state party ≡ true
-    due = (and_parts (is_due world.state party) (list_all (is_due world.state) rest) (and_parts (are_distinct (λ (this that : PartyNotes). bytes_eq this.id that.id) (filter (is_of_this_start world.state) (party ∷ rest))) (list_all (is_due world.state) (party ∷ rest)) is_out).1).0
+    due = first_due world.state party rest is_out
 
     commit_less : (k : Key) → (new_word k).commit ≡ true → (old_word k).commit ≡ true
     commit_less k is = elim (or_cases (list_any is_commit (told world.state.head.name (id_at k) later)) (list_any (will_tell is_commit now (id_at k)) rest) is) [
@@ -188,7 +188,7 @@ module _ (world : World) (sound : IsSound world) where
       | inl commit ↦ true_to.given k fine (or_left (old_word k).commit _ (commit_less k commit))
       | inr abort ↦ elim (abort_less k abort) [
         | inl old ↦ true_to.given k fine (or_right (old_word k).commit _ old)
-        | inr will ↦ let votes = votes_for k fine party due will in given_there k votes.transaction votes.found
+        | inr will ↦ let votes = votes_for k fine party due will in is_given_there k (ap is_some votes.found)
       ]
     ]
 
@@ -231,13 +231,10 @@ module _ (world : World) (sound : IsSound world) where
     back_less : (k : Key) → Less (next_word k) (first_word k)
     back_less k = record { commit = told_less is_commit k; abort = told_less is_abort k; awaited = λ is. or_right (will_vote now (id_at k) party) _ is }
 
-    due_back : is_due world.state party ≡ true
-    due_back = (and_parts (is_due world.state party) (list_all (is_due world.state) rest) (and_parts (are_distinct (λ (this that : PartyNotes). bytes_eq this.id that.id) (filter (is_of_this_start world.state) (party ∷ rest))) (list_all (is_due world.state) (party ∷ rest)) is_out).1).0
-
     -- it waited for this party
     was_out : t.place ≡ Out party.errand
     was_out =
-        let waits = waits_for world.state party (sound_whole world sound).keys due_back its.epoch in
+        let waits = waits_for world.state party (sound_whole world sound).keys (first_due world.state party rest is_out) its.epoch in
         let u = waits.transaction in
         let same : u.key ≡ t.key = keys_told world.state.head.name u.key t.key (spelled_at world.state u spelled_all waits.found) (spelled_at world.state t spelled_all found) (sym (same_text party.id (id_at u.key) waits.id) ∙ same_text party.id (id_at t.key) its.id) in
         let one : u ≡ t = same_Some u t (sym (subst (λ x. transaction_of x world.state ≡ Some u) same waits.found) ∙ found) in

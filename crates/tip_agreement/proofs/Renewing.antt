@@ -4,7 +4,7 @@ use Rattle.std.specs.Prelude.{◌==◌, find, flat_map, is_some, map, not}
 use Rattle.std.specs.List.{list_all, list_any}
 use Rattle.std.specs.Option.{option_map_or}
 use Rattle.std.specs.Str.{bytes_eq}
-use Rattle.std.proofs.lemmas.Bool.{and_from, and_parts, both_ways, cases_Bool, not-true, or_cases, or_left, or_right}
+use Rattle.std.proofs.lemmas.Bool.{and_from, and_parts, both_ways, cases_Bool, not-true, or_cases, or_left, or_right, not_from_false, false_from_ne_true}
 use Rattle.std.proofs.lemmas.Option.{same_Some}
 use Rattle.tip_branch.specs.Members.{is_active}
 use Rattle.tip_branch.specs.Notes.{PartyNotes}
@@ -278,12 +278,10 @@ module _ (boxes : Key → List Badge) (world : World) (sound : IsSound world) (c
   -- Each transaction
 
   not_from : (b : Bool) → (b ≡ true → ⊥) → not b ≡ true
-  not_from true never = absurd (never refl)
-  not_from false never = refl
+  not_from b never = not_from_false b (false_from_ne_true b never)
 
-  not_true : (b : Bool) → not b ≡ true → b ≡ true → ⊥
-  not_true true is on = cc
-  not_true false is on = cc
+  clash : (b : Bool) → not b ≡ true → b ≡ true → ⊥
+  clash b is on = both_ways b (not-true b is) on
 
   says_old : (k : Key) → says (transaction_of k world.state) (row_at k world.rows) ≡ true
   says_old k = (to_says world.state world.rows sound.stored).1 k
@@ -293,14 +291,14 @@ module _ (boxes : Key → List Badge) (world : World) (sound : IsSound world) (c
 
   gone_now : (k : Key) → is_spelled k ≡ true → (found : Option Transaction) → transaction_of k world.state ≡ found → says found (row_at k world.rows) ≡ true → says None (row_at k world.rows) ≡ true → fits None (new_word k) ≡ true
   gone_now k fine None is this that = not_from _ (λ both. let parts = and_parts (new_word k).commit (new_word k).abort both in elim (abort_less k fine parts.1) [
-    | inl old ↦ not_true _ (subst (λ o. fits o (old_word k) ≡ true) is (true_to.fits k fine)) (and_from _ _ (commit_less k fine parts.0) old)
+    | inl old ↦ clash _ (subst (λ o. fits o (old_word k) ≡ true) is (true_to.fits k fine)) (and_from _ _ (commit_less k fine parts.0) old)
     | inr stops ↦ let wrong : false ≡ true = sym (ap is_some is) ∙ ap is_some stops.found in cc
   ])
   gone_now k fine (Some t) is this that =
       let none : row_at k world.rows ≡ None = no_row (row_at k world.rows) that in
       let can_stop = rowless t.phase t (subst (λ r. is_stored_as t.phase t r ≡ true) none this) in
       let silent : not (old_word k).commit ≡ true = stopped_fits t can_stop (old_word k) (subst (λ o. fits o (old_word k) ≡ true) is (true_to.fits k fine)) in
-      not_from _ (λ both. not_true _ silent (commit_less k fine (and_parts (new_word k).commit (new_word k).abort both).0)) where
+      not_from _ (λ both. clash _ silent (commit_less k fine (and_parts (new_word k).commit (new_word k).abort both).0)) where
         no_row : (r : Option Row) → says None r ≡ true → r ≡ None
         no_row None is = refl
         no_row (Some r) is = absurd (cc)
@@ -329,13 +327,13 @@ module _ (boxes : Key → List Badge) (world : World) (sound : IsSound world) (c
           wrong Aborted lasts can = cc
 
         no_abort : (phase : Phase) → is_lasting phase ≡ true → t.phase ≡ phase → not (old_word k).abort ≡ true → not (new_word k).abort ≡ true
-        no_abort phase lasts at none = not_from _ (λ aborts. elim (abort_less k fine aborts) [ inl old ↦ not_true _ none old | inr stops ↦ never_stops phase lasts at stops ])
+        no_abort phase lasts at none = not_from _ (λ aborts. elim (abort_less k fine aborts) [ inl old ↦ clash _ none old | inr stops ↦ never_stops phase lasts at stops ])
 
         step : (phase : Phase) → is_lasting phase ≡ true → t.phase ≡ phase → fits_in phase t.place (old_word k) ≡ true → fits_in phase u.place (new_word k) ≡ true
         step Committed lasts at old = no_abort Committed lasts at old
         step Prepared lasts at old =
             let parts = and_parts (not (old_word k).commit) (not (old_word k).abort) old in
-            and_from _ _ (not_from _ (λ commits. not_true _ parts.0 (commit_less k fine commits))) (no_abort Prepared lasts at parts.1)
+            and_from _ _ (not_from _ (λ commits. clash _ parts.0 (commit_less k fine commits))) (no_abort Prepared lasts at parts.1)
         step Active lasts at old = absurd (cc)
         step Asking lasts at old = absurd (cc)
         step Aborted lasts at old = absurd (cc)

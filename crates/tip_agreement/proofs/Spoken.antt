@@ -1,5 +1,5 @@
 -- A realm is true to its word after an event, if it was before.
-use Rattle.std.proofs.Common.{◌≡◌, Bool, true, false, ℕ, List, [], ◌∷◌, ◌++◌, Option, Some, None, cond, refl, ap, subst, sym, ◌∙◌, inl, inr}
+use Rattle.std.proofs.Common.{◌≡◌, Bool, true, false, ℕ, List, [], Option, Some, None, cond, refl, ap, subst, sym, ◌∙◌, inl, inr}
 use Rattle.std.specs.Prelude.{◌&&◌, ◌||◌, not, find, is_some}
 use Rattle.std.specs.Option.{option_map_or}
 use Rattle.std.proofs.lemmas.Bool.{or_parts}
@@ -23,7 +23,7 @@ use Rattle.tip_agreement.proofs.Apart.{all_found}
 use Rattle.tip_agreement.proofs.Bounded.{AreSpelled}
 use Rattle.tip_agreement.proofs.Commanded.{EndsGo, Grown}
 use Rattle.tip_agreement.proofs.Concluding.{Goes}
-use Rattle.tip_agreement.proofs.Making.{found_before}
+use Rattle.tip_agreement.proofs.Making.{found_before, found_new}
 use Rattle.tip_agreement.proofs.Owned.{key_found}
 use Rattle.tip_agreement.proofs.Telling.{ordered_quiet}
 use Rattle.tip_agreement.proofs.Wording.{Fits, are_said, fits_still, rolls_back, word_at, is_of, speaks_of}
@@ -90,13 +90,6 @@ module _ (w : Work) (spelled : AreSpelled w.state) (quiet : IsQuiet w) where
 
   -- a transaction more, of which nothing was said
   module _ (v : Work) (grown : Grown w v) where
-    last : (k : Key) (ts : List Transaction) → find (has_key k) ts ≡ None → find (has_key k) (ts ++ grown.new ∷ []) ≡ cond (has_key k grown.new) (Some grown.new) None
-    last k [] none = refl
-    last k (t ∷ ts) none = step (has_key k t) none (last k ts) where
-      step : (b : Bool) → cond b (Some t) (find (has_key k) ts) ≡ None → (find (has_key k) ts ≡ None → find (has_key k) (ts ++ grown.new ∷ []) ≡ cond (has_key k grown.new) (Some grown.new) None) → cond b (Some t) (find (has_key k) (ts ++ grown.new ∷ [])) ≡ cond (has_key k grown.new) (Some grown.new) None
-      step true is later = absurd (cc)
-      step false is later = later is
-
     -- the state before, with what was said
     abbrev before_it : Work
     before_it = record v { state = record v.state { transactions = w.state.transactions } }
@@ -117,7 +110,7 @@ module _ (w : Work) (spelled : AreSpelled w.state) (quiet : IsQuiet w) where
     grown_at before k (Some t) is new old = subst (λ ts. fits (find (has_key k) ts) (word_at before k v) ≡ true) (sym grown.transactions) (subst (λ o. fits o (word_at before k v) ≡ true) (sym (found_before (has_key k) w.state.transactions grown.new t is)) old)
     grown_at before k None is new old = subst (λ o. fits o (word_at before k v) ≡ true) (sym now) (step (has_key k grown.new) refl) where
       now : transaction_of k v.state ≡ cond (has_key k grown.new) (Some grown.new) None
-      now = ap (find (has_key k)) grown.transactions ∙ last k w.state.transactions is
+      now = ap (find (has_key k)) grown.transactions ∙ found_new (has_key k) w.state.transactions grown.new is
 
       step : (b : Bool) → has_key k grown.new ≡ b → fits (cond b (Some grown.new) None) (word_at before k v) ≡ true
       step true has = none_said before k (new refl (ap is_some now ∙ ap (λ b. is_some (cond b (Some grown.new) None)) has))

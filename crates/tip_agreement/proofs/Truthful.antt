@@ -3,7 +3,7 @@ use Rattle.std.proofs.Common.{◌≡◌, Bool, true, false, ℕ, List, ◌++◌,
 use Rattle.std.specs.Prelude.{◌&&◌, ◌||◌, not, is_some}
 use Rattle.std.specs.List.{list_all, list_any}
 use Rattle.std.specs.Option.{option_map_or, option_to_list}
-use Rattle.std.proofs.lemmas.Bool.{and_from, both_ways, or_cases, or_left, or_right, and_parts}
+use Rattle.std.proofs.lemmas.Bool.{and_from, both_ways, or_cases, or_left, or_right, and_parts, not-true}
 use Rattle.std.proofs.lemmas.List.Folds.{list_all-append, list_any-append}
 use Rattle.tip_branch.specs.Notes.{PartyNotes}
 use Rattle.tip_rows.specs.Keys.{Key}
@@ -190,21 +190,15 @@ module _ (rows : List (Key × Row)) (errands : List PartyNotes) (shown later : L
   gone_fits : (before : Word) (k : Key) → is_spelled k ≡ true → fits None before ≡ true → transaction_of k w.state ≡ None → transaction_of k v.state ≡ None → fits None (work_word before k) ≡ true
   gone_fits before k fine is none still = subst (λ o. fits o (work_word before k) ≡ true) still (renamed before k (went.spoke.fits k fine before (λ same there. absurd (let wrong : false ≡ true = sym (ap is_some still) ∙ there in cc)) (first_fits before k (subst (λ o. fits o before ≡ true) (sym none) is))))
 
-  not_true : (b : Bool) → not b ≡ true → b ≡ true → ⊥
-  not_true b is on = both_ways b (flip b is) on where
-    flip : (b : Bool) → not b ≡ true → b ≡ false
-    flip true is = absurd (cc)
-    flip false is = refl
-
   old_word_then : (k : Key) → is_spelled k ≡ true → transaction_of k w.state ≡ None → transaction_of k v.state ≡ None → has_word (new_word k) ≡ true → has_word (old_word k) ≡ true
   old_word_then k fine none still is = elim (or_cases (new_word k).commit (new_word k).abort is) [
     | inl commit ↦ elim (or_cases (old_word k).commit _ ((new_less k).commit commit)) [
       | inl old ↦ or_left (old_word k).commit _ old
-      | inr new ↦ absurd (not_true (work_word aborted_once k).commit (alone (work_word aborted_once k).commit (gone_fits aborted_once k fine refl none still)) new)
+      | inr new ↦ absurd (both_ways (work_word aborted_once k).commit (not-true _ (alone (work_word aborted_once k).commit (gone_fits aborted_once k fine refl none still))) new)
     ]
     | inr abort ↦ elim (or_cases (old_word k).abort _ ((new_less k).abort abort)) [
       | inl old ↦ or_right (old_word k).commit _ old
-      | inr new ↦ absurd (not_true (work_word committed_once k).abort (gone_fits committed_once k fine refl none still) new)
+      | inr new ↦ absurd (both_ways (work_word committed_once k).abort (not-true _ (gone_fits committed_once k fine refl none still)) new)
     ]
   ] where
     alone : (b : Bool) → not (b && true) ≡ true → not b ≡ true
