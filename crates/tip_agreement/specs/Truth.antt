@@ -8,8 +8,10 @@ use Rattle.tip_branch.specs.Notes.{PartyNotes}
 use Rattle.tip_branch.specs.declared.member.Errand.{Errand}
 use Rattle.tip_branch.specs.declared.member.Errand.TheVariants as errand
 use Rattle.tip_rows.specs.Keys.{Key}
+use Rattle.tip_rows.specs.Logs.{row_at}
 use Rattle.tip_txn.specs.declared.answer.Phase.{Phase}
 use Rattle.tip_txn.specs.declared.answer.Phase.TheVariants.{Active, Asking, Prepared, Committed, Aborted}
+use Rattle.tip_machine.specs.Agreement.{is_committed_row}
 use Rattle.tip_machine.specs.Agreement.Verdicts.{Verdict, is_abort, is_commit, told}
 use Rattle.tip_machine.specs.Answers.{identifier}
 use Rattle.tip_machine.specs.Given.{was_given}
@@ -99,3 +101,9 @@ pub record IsTrueTo (shown : List Output) (world : World) : Type 0 where
   pub uncalled : list_all is_uncalled world.errands ≡ true
   -- no other identifier is spoken of
   pub ours : (id : List ℕ) → is_spoken_of world shown id ≡ true → IsOurs world.state.head.name id
+
+-- Its row
+
+-- the row of this key is a committed one
+abbrev pub has_committed_row : Key → World → Bool
+has_committed_row key world = option_map_or is_committed_row (row_at key world.rows) false

@@ -1,8 +1,11 @@
 //! Laws of a realm's runs, each carried by a function that does nothing. They hold whatever is served.
 ghost use Rattle.std.specs.Prelude.{◌≡◌, ℕ, ◌++◌, List, [], true};
-ghost use Rattle.tip_agreement.specs.Truth.{IsTrueTo};
-ghost use Rattle.tip_machine.specs.Agreement.{is_one};
-ghost use Rattle.tip_machine.specs.Agreement.Traces.{traced};
+ghost use Rattle.tip_agreement.specs.Truth.{IsTrueTo, has_committed_row};
+ghost use Rattle.tip_machine.specs.Agreement.{is_one, was_committed};
+ghost use Rattle.tip_machine.specs.Agreement.Traces.{shown_in, traced};
+ghost use Rattle.tip_machine.specs.Answers.{identifier};
+ghost use Rattle.tip_machine.specs.Invariants.Bounds.{is_spelled};
+ghost use Rattle.tip_rows.specs.Keys.{Key};
 ghost use Rattle.tip_machine.specs.Given.{are_numbered};
 ghost use Rattle.tip_machine.specs.Honest.{is_honest, is_run};
 ghost use Rattle.tip_machine.specs.Invariants.{IsSound, are_keyed};
@@ -54,4 +57,10 @@ pub fn each_move_leaves_a_realm_true_to_its_word()
 /// connections.
 pub fn no_branch_commits_where_one_aborts()
     ensures { (serving : Serving) (world : World) (moves : List Move) (id : List ℕ) → IsStart world → is_run serving world moves ≡ true → is_one world.state.head.name id (traced serving world moves) ≡ true }
+{}
+
+/// A committed row stands only where it was stored in the run, or stood at its start.
+pub fn a_committed_row_was_stored()
+    ensures { (serving : Serving) (world : World) (moves : List Move) (key : Key) → IsStart world → is_run serving world moves ≡ true → is_spelled key ≡ true → has_committed_row key (led_to serving world moves) ≡ true →
+        was_committed world.state.head.name (identifier world.state.head.name key) world (shown_in (traced serving world moves)) ≡ true }
 {}
