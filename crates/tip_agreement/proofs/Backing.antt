@@ -12,6 +12,7 @@ use Rattle.tip_branch.specs.declared.branch.Badge.{Badge}
 use Rattle.tip_rows.specs.Keys.{Key, is_same}
 use Rattle.tip_rows.specs.Logs.{is_rising, row_at}
 use Rattle.tip_rows.specs.declared.row.Row.{Row}
+use Rattle.tip_rows.specs.declared.row.Row.TheVariants as row
 use Rattle.tip_rows.proofs.MemoryLemmas.{bytes_eq-self}
 use Rattle.tip_rows.proofs.OrderLemmas.{same_key}
 use Rattle.tip_machine.specs.Agreement.{is_committed_row, row_in, stores_commit, was_committed}
@@ -26,13 +27,17 @@ use Rattle.tip_machine.specs.Returns.{Back, event_of}
 use Rattle.tip_machine.specs.Served.{Serving}
 use Rattle.tip_machine.specs.Starting.{IsStart}
 use Rattle.tip_machine.specs.Steps.{step_serving, wants_serving}
-use Rattle.tip_machine.specs.Types.{Answer, Event}
+use Rattle.tip_machine.specs.Types.{Answer, Event, Transaction}
 use Rattle.tip_machine.specs.declared.event.Change.{Change}
 use Rattle.tip_machine.specs.declared.event.Change.TheVariants.{Put, Remove}
 use Rattle.tip_machine.specs.declared.event.Outcome.{Outcome}
 use Rattle.tip_machine.specs.declared.event.Outcome.TheVariants.{NoChange, Refused, Stored}
+use Rattle.tip_machine.specs.Invariants.Stored.{is_stored_as}
+use Rattle.tip_machine.specs.States.{transaction_of}
+use Rattle.tip_txn.specs.declared.answer.Phase.TheVariants.{Committed}
+use Rattle.tip_agreement.proofs.Onward.{says}
 use Rattle.tip_agreement.specs.Truth.{has_committed_row}
-use Rattle.tip_agreement.proofs.Kept.{moved_sound}
+use Rattle.tip_agreement.proofs.Kept.{moved_sound, reached_sound}
 use Rattle.tip_agreement.proofs.Restarts.{start_sound}
 use Rattle.tip_agreement.proofs.Rows.{put_at, removed_at, to_says}
 use Rattle.tip_agreement.proofs.Speaking.{ids_differ}
@@ -150,3 +155,16 @@ module _ (realm : List ℕ) (k : Key) (fine : is_spelled k ≡ true) where
 
 pub row_was_stored : (serving : Serving) (world : World) (moves : List Move) (key : Key) → IsStart world → is_run serving world moves ≡ true → is_spelled key ≡ true → has_committed_row key (led_to serving world moves) ≡ true → was_committed world.state.head.name (identifier world.state.head.name key) world (shown_in (traced serving world moves)) ≡ true
 row_was_stored serving world moves key start honest fine is = run_stored world.state.head.name key fine serving world world moves [] (start_sound world start) (λ stands. or_left _ false (ap (λ r. option_map_or is_committed_row r false) (same_row world.state.head.name key fine world.rows start.rows.spelled) ∙ stands)) honest is
+
+-- a committed transaction has its row
+row_of : (t : Transaction) (r : Option Row) → is_stored_as Committed t r ≡ true → option_map_or is_committed_row r false ≡ true
+row_of t (Some (row.Committed branches subordinates)) is = refl
+row_of t (Some (row.Prepared address superior branches subordinates)) is = absurd (cc)
+row_of t None is = absurd (cc)
+
+pub committed_was_stored : (serving : Serving) (world : World) (moves : List Move) (key : Key) (t : Transaction) → IsStart world → is_run serving world moves ≡ true → is_spelled key ≡ true → transaction_of key (led_to serving world moves).state ≡ Some t → t.phase ≡ Committed → was_committed world.state.head.name (identifier world.state.head.name key) world (shown_in (traced serving world moves)) ≡ true
+committed_was_stored serving world moves key t start honest fine found committed =
+    let last = led_to serving world moves in
+    let stored = (to_says last.state last.rows (reached_sound serving world moves start honest).stored).1 key in
+    let its : is_stored_as t.phase t (row_at key last.rows) ≡ true = subst (λ o. says o (row_at key last.rows) ≡ true) found stored in
+    row_was_stored serving world moves key start honest fine (row_of t (row_at key last.rows) (subst (λ f. is_stored_as f t (row_at key last.rows) ≡ true) committed its))

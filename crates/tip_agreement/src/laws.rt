@@ -1,5 +1,6 @@
 //! Laws of a realm's runs, each carried by a function that does nothing. They hold whatever is served.
-ghost use Rattle.std.specs.Prelude.{◌≡◌, ℕ, ◌++◌, List, [], true};
+ghost use Rattle.std.specs.Prelude.{◌≡◌, ℕ, ◌++◌, List, [], Some, true};
+ghost use Rattle.tip_txn.specs.declared.answer.Phase.TheVariants.{Committed};
 ghost use Rattle.tip_agreement.specs.Truth.{IsTrueTo, has_committed_row};
 ghost use Rattle.tip_machine.specs.Agreement.{is_one, was_committed};
 ghost use Rattle.tip_machine.specs.Agreement.Traces.{shown_in, traced};
@@ -13,9 +14,9 @@ ghost use Rattle.tip_machine.specs.Moves.{Move, World, led_to, moved};
 ghost use Rattle.tip_machine.specs.Outputs.{Output};
 ghost use Rattle.tip_machine.specs.Served.{Serving};
 ghost use Rattle.tip_machine.specs.Starting.{IsStart};
-ghost use Rattle.tip_machine.specs.States.{State};
+ghost use Rattle.tip_machine.specs.States.{State, transaction_of};
 ghost use Rattle.tip_machine.specs.Steps.{step_serving};
-ghost use Rattle.tip_machine.specs.Types.{Event};
+ghost use Rattle.tip_machine.specs.Types.{Event, Transaction};
 ghost use Rattle.tip_machine.specs.declared.event.Outcome.{Outcome};
 
 /// The invariants hold where a run begins.
@@ -59,8 +60,11 @@ pub fn no_branch_commits_where_one_aborts()
     ensures { (serving : Serving) (world : World) (moves : List Move) (id : List ℕ) → IsStart world → is_run serving world moves ≡ true → is_one world.state.head.name id (traced serving world moves) ≡ true }
 {}
 
-/// A committed row stands only where it was stored in the run, or stood at its start.
+/// A committed row stands, and a transaction is committed, only where that row was stored in the run, or stood at its start.
 pub fn a_committed_row_was_stored()
-    ensures { (serving : Serving) (world : World) (moves : List Move) (key : Key) → IsStart world → is_run serving world moves ≡ true → is_spelled key ≡ true → has_committed_row key (led_to serving world moves) ≡ true →
+    ensures row { (serving : Serving) (world : World) (moves : List Move) (key : Key) → IsStart world → is_run serving world moves ≡ true → is_spelled key ≡ true → has_committed_row key (led_to serving world moves) ≡ true →
+        was_committed world.state.head.name (identifier world.state.head.name key) world (shown_in (traced serving world moves)) ≡ true }
+    ensures phase { (serving : Serving) (world : World) (moves : List Move) (key : Key) (transaction : Transaction) → IsStart world → is_run serving world moves ≡ true → is_spelled key ≡ true →
+        transaction_of key (led_to serving world moves).state ≡ Some transaction → transaction.phase ≡ Committed →
         was_committed world.state.head.name (identifier world.state.head.name key) world (shown_in (traced serving world moves)) ≡ true }
 {}
