@@ -29,7 +29,7 @@ use Rattle.tip_agreement.proofs.Around.{found_altered, other_found}
 use Rattle.tip_agreement.proofs.Closing.{is_stoppable}
 use Rattle.tip_agreement.proofs.Keys.{key_self}
 use Rattle.tip_agreement.proofs.Spelling.{keys_told}
-use Rattle.tip_agreement.proofs.Wording.{Fits, IsMute, Less, fits_less, fits_so, fits_still, mute_said, no_fourth, no_second, no_third, no_third_of_four, not_less, rolls_back, word_at, word_in, is_of, speaks_of}
+use Rattle.tip_agreement.proofs.Wording.{Fits, IsMute, Less, fits_less, fits_so, fits_still, mute_said, no_fourth, no_second, no_third, no_third_of_four, not_less, rolls_back, word_at, word_in, is_of, speaks_of, or_none}
 
 -- Identifiers of other keys are others
 
@@ -62,10 +62,7 @@ leaves_here Active party place word is = is
 leaves_here Prepared party place word is = is
 leaves_here Committed party place word is = is
 leaves_here Aborted party place word is = is
-leaves_here Asking party place word is = let parts = and_parts (not word.commit) (not word.abort || false) is in and_from _ _ parts.0 (or_left _ _ (alone (not word.abort) parts.1)) where
-  alone : (b : Bool) → b || false ≡ true → b ≡ true
-  alone true is = refl
-  alone false is = is
+leaves_here Asking party place word is = let parts = and_parts (not word.commit) (not word.abort || false) is in and_from _ _ parts.0 (or_left _ _ (sym (or_none (not word.abort)) ∙ parts.1))
 
 pub placed_fits : (t : Transaction) (party : PartyNotes) (place : PartyPlace) → t.place ≡ Here party → StillFits t (standing_at place t)
 placed_fits t party place here word is = leaves_here t.phase party place word (subst (λ p. fits_in t.phase p word ≡ true) here is)
@@ -205,16 +202,12 @@ module _ (key : Key) (w : Work) (t : Transaction) (party : PartyNotes) (found : 
     no_abort : (e : Errand) → will_tell is_abort w.state.head.epoch id_here (given party e) ≡ false → not (before.abort || (a || (option_map_or (will_tell is_abort w.state.head.epoch id_here) work false || rolls_back id_here spent))) ≡ true → not (before.abort || (a || (will_tell is_abort w.state.head.epoch id_here (given party e) || rolls_back id_here spent))) ≡ true
     no_abort e none = not_less (before.abort || (a || (will_tell is_abort w.state.head.epoch id_here (given party e) || rolls_back id_here spent))) (before.abort || (a || (option_map_or (will_tell is_abort w.state.head.epoch id_here) work false || rolls_back id_here spent))) (no_third_of_four before.abort a (will_tell is_abort w.state.head.epoch id_here (given party e)) (option_map_or (will_tell is_abort w.state.head.epoch id_here) work false) (rolls_back id_here spent) none)
 
-    alone : (b : Bool) → b || false ≡ true → b ≡ true
-    alone true is = refl
-    alone false is = is
-
     step : (phase : Phase) (e : Errand) → may_go phase e ≡ true → fits_in phase (Here party) (word_in before w.state.head.epoch id_here c a work spent) ≡ true → fits_in phase (Out e) (word_in before w.state.head.epoch id_here c a (Some (given party e)) spent) ≡ true
     step Committed errand.Commit may is = no_abort errand.Commit (and_right (bytes_eq id_here party.id) false refl) is
     step Aborted errand.Abort may is = no_commit errand.Abort (and_right (bytes_eq id_here party.id) false refl) is
     step Asking errand.Vote may is =
         let parts = and_parts (not (word_in before w.state.head.epoch id_here c a work spent).commit) (not (word_in before w.state.head.epoch id_here c a work spent).abort || false) is in
-        and_from _ _ (no_commit errand.Vote (fresh_vote is_commit) parts.0) (or_left _ _ (no_abort errand.Vote (fresh_vote is_abort) (alone (not (word_in before w.state.head.epoch id_here c a work spent).abort) parts.1)))
+        and_from _ _ (no_commit errand.Vote (fresh_vote is_commit) parts.0) (or_left _ _ (no_abort errand.Vote (fresh_vote is_abort) (sym (or_none (not (word_in before w.state.head.epoch id_here c a work spent).abort)) ∙ parts.1)))
     step phase e may is = absurd (cc)
 
   pub give_fits : (e : Errand) → may_go t.phase e ≡ true → (k : Key) → is_spelled k ≡ true → (before : Word) → Fits before k w → Fits before k (give_out e party key w)

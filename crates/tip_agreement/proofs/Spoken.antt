@@ -1,4 +1,4 @@
--- A realm is true to its word after an event, if it was before.
+-- What a rule has said once it is done: what fits each transaction, and of which one.
 use Rattle.std.proofs.Common.{◌≡◌, Bool, true, false, ℕ, List, [], Option, Some, None, cond, refl, ap, subst, sym, ◌∙◌, inl, inr}
 use Rattle.std.specs.Prelude.{◌&&◌, ◌||◌, not, find, is_some}
 use Rattle.std.specs.Option.{option_map_or}

@@ -71,6 +71,11 @@ pub fits_less : (found : Option Transaction) (v w : Word) → Less v w → fits 
 fits_less None v w less is = not_less (v.commit && v.abort) (w.commit && w.abort) (and_less _ _ _ _ less.commit less.abort) is
 fits_less (Some t) v w less is = in_less t.phase t.place v w less is
 
+-- with nothing more
+pub or_none : (b : Bool) → b || false ≡ b
+or_none true = refl
+or_none false = refl
+
 -- where nothing more is there, less is true
 pub no_second : (a b c : Bool) → b ≡ false → a || b ≡ true → a || c ≡ true
 no_second a b c none = or_less a b a c (λ is. is) (λ is. absurd (both_ways b none is))
@@ -134,10 +139,7 @@ pub silent : (xs : List Sent) → Quiet xs xs
 silent xs test realm id = refl
 
 pub one_more : (xs : List Sent) (x : Sent) → ((realm id : List ℕ) → of_item realm id x.item ≡ None) → Quiet xs (xs ++ x ∷ [])
-one_more xs x none test realm id = list_any-append (says test realm id) xs (x ∷ []) ∙ ap (λ o. are_said test realm id xs || (option_map_or test o false || false)) (none realm id) ∙ or_nothing (are_said test realm id xs) where
-  or_nothing : (b : Bool) → b || (false || false) ≡ b
-  or_nothing true = refl
-  or_nothing false = refl
+one_more xs x none test realm id = list_any-append (says test realm id) xs (x ∷ []) ∙ ap (λ o. are_said test realm id xs || (option_map_or test o false || false)) (none realm id) ∙ or_none (are_said test realm id xs)
 
 pub says_more : (w : Work) (number : ℕ) (said : Said) → Quiet w.answer.sent (tell number (Say said) w).answer.sent
 says_more w number said = one_more w.answer.sent (record { connection = number; item = Say said }) (λ realm id. refl)
@@ -210,7 +212,4 @@ module _ (test : Verdict → Bool) (realm id : List ℕ) (reaction : Reaction) (
   all_mute (c ∷ cs) = list_any-append (says test realm id) (sent_by reaction key c) (flat_map (sent_by reaction key) cs) ∙ or_from _ _ (one_mute c) (all_mute cs)
 
   pub mute_said : (sent : List Sent) (cs : List Connection) → are_said test realm id (sent ++ flat_map (sent_by reaction key) cs) ≡ are_said test realm id sent
-  mute_said sent cs = list_any-append (says test realm id) sent (flat_map (sent_by reaction key) cs) ∙ ap (λ b. are_said test realm id sent || b) (all_mute cs) ∙ or_false (are_said test realm id sent) where
-    or_false : (b : Bool) → b || false ≡ b
-    or_false true = refl
-    or_false false = refl
+  mute_said sent cs = list_any-append (says test realm id) sent (flat_map (sent_by reaction key) cs) ∙ ap (λ b. are_said test realm id sent || b) (all_mute cs) ∙ or_none (are_said test realm id sent)

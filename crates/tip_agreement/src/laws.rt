@@ -1,14 +1,13 @@
 //! Laws of a realm's runs, each carried by a function that does nothing. They hold whatever is served.
 ghost use Rattle.std.specs.Prelude.{◌≡◌, ℕ, ◌++◌, List, [], Some, true};
-ghost use Rattle.tip_txn.specs.declared.answer.Phase.TheVariants.{Committed};
-ghost use Rattle.tip_agreement.specs.Truth.{IsTrueTo, has_committed_row};
-ghost use Rattle.tip_machine.specs.Agreement.{is_one, was_committed};
-ghost use Rattle.tip_machine.specs.Agreement.Traces.{shown_in, traced};
-ghost use Rattle.tip_machine.specs.Answers.{identifier};
-ghost use Rattle.tip_machine.specs.Invariants.Bounds.{is_spelled};
 ghost use Rattle.tip_rows.specs.Keys.{Key};
+ghost use Rattle.tip_txn.specs.declared.answer.Phase.TheVariants.{Committed};
+ghost use Rattle.tip_machine.specs.Agreement.Traces.{shown_in, traced};
+ghost use Rattle.tip_machine.specs.Agreement.{is_one, was_committed};
+ghost use Rattle.tip_machine.specs.Answers.{identifier};
 ghost use Rattle.tip_machine.specs.Given.{are_numbered};
 ghost use Rattle.tip_machine.specs.Honest.{is_honest, is_run};
+ghost use Rattle.tip_machine.specs.Invariants.Bounds.{is_spelled};
 ghost use Rattle.tip_machine.specs.Invariants.{IsSound, are_keyed};
 ghost use Rattle.tip_machine.specs.Moves.{Move, World, led_to, moved};
 ghost use Rattle.tip_machine.specs.Outputs.{Output};
@@ -18,6 +17,7 @@ ghost use Rattle.tip_machine.specs.States.{State, transaction_of};
 ghost use Rattle.tip_machine.specs.Steps.{step_serving};
 ghost use Rattle.tip_machine.specs.Types.{Event, Transaction};
 ghost use Rattle.tip_machine.specs.declared.event.Outcome.{Outcome};
+ghost use Rattle.tip_agreement.specs.Truth.{IsTrueTo, has_committed_row};
 
 /// The invariants hold where a run begins.
 pub fn a_start_has_the_invariants()
@@ -54,8 +54,8 @@ pub fn each_move_leaves_a_realm_true_to_its_word()
 {}
 
 /// So agreement, the first of its sentences: in an honest run from a start no branch of a transaction is told to commit where a
-/// branch is told to abort, whatever is served, whatever the store answers, over restarts and renewals, lost parties and lost
-/// connections.
+/// branch is told to abort, whatever is served, whatever the store answers and other managers say, over restarts and renewals,
+/// lost parties and lost connections.
 pub fn no_branch_commits_where_one_aborts()
     ensures { (serving : Serving) (world : World) (moves : List Move) (id : List ℕ) → IsStart world → is_run serving world moves ≡ true → is_one world.state.head.name id (traced serving world moves) ≡ true }
 {}
