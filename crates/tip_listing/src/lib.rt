@@ -3,6 +3,8 @@
 
 mod fault;
 mod listing;
+mod writing;
 
 pub use fault::RowsFault;
 pub use listing::listed;
+pub use writing::rows;

@@ -1,9 +1,9 @@
 //! The listing of a store, realm by realm.
-ghost use Rattle.std.specs.Prelude.{◌≡◌, ◌++◌, ℕ, List, OnOk, IfOk, string_bytes};
+ghost use Rattle.std.specs.Prelude.{◌≡◌, ◌++◌, ℕ, List, All, IsSome, OnOk, IfOk, IfErr, string_bytes};
 ghost use Rattle.std.specs.List.{flat_map};
 ghost use Rattle.tip_rows.specs.Keys.{Key};
-ghost use Rattle.tip_rows.specs.Logs.{Log};
-ghost use Rattle.tip_listing.specs.Listing.{row_text, part_text, IsListing, ListsAll, ListsPart};
+ghost use Rattle.tip_rows.specs.Logs.{Log, IsSpoiled, LeavesSame};
+ghost use Rattle.tip_listing.specs.Listing.{row_text, part_text, IsListing, ListsAll, ListsPart, HasBadRow, Fails};
 
 use crate::fault::RowsFault;
 use std::alloc::{AllocError, Global};
@@ -13,6 +13,8 @@ use tip_rows::{Key, Loaded, Row, RowLog};
 /// What is stored: each realm by name with its epoch, and then its rows by rising key, in version 2. Nothing stored changes.
 pub fn listed<L: RowLog>(alloc: Global, log: &mut L) -> Result<String, RowsFault>
     ensures lists { (now : Log) → L.stands log.old now → L.is_true log.new → IfOk result (λ text. IsListing now (string_bytes text)) }
+    ensures fault { (now : Log) → L.stands log.old now → L.is_true log.new → IfErr result (Fails (HasBadRow now)) }
+    ensures stop { LeavesSame L.stands L.is_true L.may_leave log.old log.new }
     ensures same { (now : Log) → L.stands log.old now → L.stands log.new now }
     ensures truth { L.is_true log.new → L.is_true log.old }
 {
@@ -24,6 +26,8 @@ pub fn listed<L: RowLog>(alloc: Global, log: &mut L) -> Result<String, RowsFault
 #[tactic(auto, using(crate::proofs::Listings::lists_all))]
 fn list_all<L: RowLog>(alloc: Global, log: &mut L, names: &[Realm]) -> Result<String, RowsFault>
     ensures lists { (now : Log) → L.stands log.old now → L.is_true log.new → IfOk result (λ text. ListsAll now names.now (string_bytes text)) }
+    ensures fault { (now : Log) → L.stands log.old now → L.is_true log.new → All (λ name. IsSome (now.epochs name)) names.now → IfErr result (Fails (HasBadRow now)) }
+    ensures stop { LeavesSame L.stands L.is_true L.may_leave log.old log.new }
     ensures same { (now : Log) → L.stands log.old now → L.stands log.new now }
     ensures truth { L.is_true log.new → L.is_true log.old }
 {
@@ -42,6 +46,8 @@ fn list_part<L: RowLog>(
     text: &mut String,
 ) -> Result<(), RowsFault>
     ensures lists { (now : Log) → L.stands log.old now → L.is_true log.new → OnOk result (ListsPart now name.now (string_bytes text.old) (string_bytes text.new)) }
+    ensures fault { (now : Log) → L.stands log.old now → L.is_true log.new → IfErr result (Fails (IsSpoiled now name.now)) }
+    ensures stop { LeavesSame L.stands L.is_true L.may_leave log.old log.new }
     ensures same { (now : Log) → L.stands log.old now → L.stands log.new now }
     ensures truth { L.is_true log.new → L.is_true log.old }
 {
