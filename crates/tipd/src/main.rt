@@ -1,27 +1,39 @@
 //! `tipd`: the command line, and the input and output of the process.
 #![tactic(auto)]
 
+mod store;
 mod words;
 
+use crate::store::list_store;
 use crate::words::{Order, read_words};
 use clap::Error;
 use clap::error::ErrorKind;
 use std::env;
+use std::fmt::Display;
 use std::io::{self, BufWriter};
 use std::process::ExitCode;
+use tip_listing::RowsFault;
 use tip_play::{PlayFault, play};
 
 /// Says what is wrong, and how the process ends: where the text can't be written, the status still tells.
-fn fail(rt: &HostRuntime, fault: PlayFault) -> ExitCode {
+fn fail<F: Display + Drop>(rt: &HostRuntime, fault: F, status: u8) -> ExitCode {
     let _written = eprintln!(rt; "tipd: {fault}");
-    ExitCode::from(fault.status())
+    ExitCode::from(status)
+}
+
+fn fail_play(rt: &HostRuntime, fault: PlayFault) -> ExitCode {
+    fail(rt, fault, fault.status())
+}
+
+fn fail_rows(rt: &HostRuntime, fault: RowsFault) -> ExitCode {
+    fail(rt, fault, fault.status())
 }
 
 /// Prints what `clap` says: help on standard output, what is wrong on standard error.
 fn show(rt: &HostRuntime, error: Error) -> ExitCode {
     let status = error.exit_code() as u8;
     match error.print(rt) {
-        Err(_) if status == 0 => fail(rt, PlayFault::Write),
+        Err(_) if status == 0 => fail_play(rt, PlayFault::Write),
         _ => ExitCode::from(status),
     }
 }
@@ -43,14 +55,18 @@ fn given_words(rt: &HostRuntime) -> Result<Vec<String>, PlayFault> {
 fn obey(rt: &HostRuntime) -> ExitCode {
     let words = match given_words(rt) {
         Ok(words) => words,
-        Err(fault) => return fail(rt, fault),
+        Err(fault) => return fail_play(rt, fault),
     };
     match read_words(rt.alloc(), &words) {
         Ok(Order::Play) => match play_all(rt) {
             Ok(()) => ExitCode::SUCCESS,
-            Err(fault) => fail(rt, fault),
+            Err(fault) => fail_play(rt, fault),
         },
-        Err(error) if error.kind() == ErrorKind::OutOfMemory => fail(rt, PlayFault::Memory),
+        Ok(Order::Rows { store }) => match list_store(rt, store) {
+            Ok(()) => ExitCode::SUCCESS,
+            Err(fault) => fail_rows(rt, fault),
+        },
+        Err(error) if error.kind() == ErrorKind::OutOfMemory => fail_play(rt, PlayFault::Memory),
         Err(error) => show(rt, error),
     }
 }
