@@ -12,10 +12,10 @@ pub fn list_store(rt: &HostRuntime, path: &str) -> Result<(), RowsFault> {
     rows(rt.alloc(), &mut store, &mut output)
 }
 
-/// Opens a store that is there. One that is not would be made, so it is refused before.
+/// Opens a store that is there. A file that is missing or empty would be made one, so it is refused before.
 fn open_store(rt: &HostRuntime, path: &str) -> Result<SqlRows<FileStore<File>>, RowsFault> {
-    match fs::exists(rt, path) {
-        Ok(true) => {}
+    match fs::metadata(rt, path) {
+        Ok(found) if found.len() > 0 => {}
         _ => return Err(RowsFault::Refused),
     }
     let conn = Connection::open(rt, path).map_err(why)?;
