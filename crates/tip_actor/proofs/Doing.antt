@@ -1,8 +1,12 @@
 -- What a realm at work has done.
 use Rattle.std.proofs.Common.{◌≡◌, ◌∙◌, ◌++◌, ◌∷◌, [], ℕ, Bool, true, false, List, Option, Some, None, refl, ap, sym, subst}
-use Rattle.std.specs.Prelude.{if◌then◌else◌}
+use Rattle.std.specs.Prelude.{is_some, if◌then◌else◌}
 use Rattle.std.specs.Option.{option_to_list}
 use Rattle.std.proofs.lemmas.Bool.{false≢true}
+use Rattle.std.proofs.lemmas.List.{append-nil}
+use Rattle.tip_core.specs.Hosted.{HaveNames, realm}
+use Rattle.tip_rows.specs.Memory.{IsDemanded, is_due_in, log_of}
+use Rattle.tip_actor.proofs.Serving.{itself}
 use Rattle.tip_branch.specs.Notes.{PartyNotes}
 use Rattle.tip_machine.proofs.Stepping.{step-named}
 use Rattle.tip_machine.specs.Moves.{stepped}
@@ -12,7 +16,7 @@ use Rattle.tip_machine.specs.Served.{today}
 use Rattle.tip_machine.specs.Steps.{step, wants}
 use Rattle.tip_machine.specs.Types.{Answer, Event}
 use Rattle.tip_transcript.specs.Printing.{idle_text, shown_text}
-use Rattle.tip_actor.specs.Acting.{Acting, Done, Reading, after_sent, answer_in, drops_from, goes_for, happens, outcome_in, quiet, still_due, with_opened}
+use Rattle.tip_actor.specs.Acting.{Acting, Done, Reading, after_sent, answer_in, drops_from, goes_for, happens, outcome_in, quiet, refuses, still_due, with_opened}
 use Rattle.tip_actor.specs.Promises.{answers_of, are_foretold}
 use Rattle.tip_actor.specs.Standing.{Actor, AreReadings, Happened, Host, IsActing, IsDone, IsServed, Leaves, Serves, Tells}
 
@@ -138,3 +142,32 @@ has_none_to_go host place actor actor' printed printed' acting is out name due r
       name = name;
       text = text ∙ ap (λ n. printed ++ idle_text n) is.name;
     })
+
+-- Refusals
+
+pub has_refused : (host host' : Host) (place : ℕ) (actor actor' : Actor) (printed : List ℕ) (acting : Acting) → IsActing host place actor acting → host'.core ≡ host.core → actor'.name ≡ actor.name → actor'.readers ≡ actor.readers → actor'.errands ≡ actor.errands → actor'.is_due ≡ true →
+    (log_of host'.store).epochs ≡ (log_of host.store).epochs → IsDemanded host.store host'.store actor.name → IsDone host host' place actor actor' printed printed (refuses acting)
+has_refused host host' place actor actor' printed acting is core name readers errands due epochs demanded =
+    let own_name : actor.name ≡ acting.world.state.head.name = is.name ∙ sym is.named in
+    record {
+      own = record {
+        served = record {
+          state_is = ap (λ c. realm c place) core ∙ is.served.state_is;
+          names = subst HaveNames (sym core) is.served.names;
+          due_is = ap (is_due_in host'.store) (sym own_name) ∙ demanded actor.name ∙ ap (λ b. if b then is_some ((log_of host.store).epochs actor.name) else is_due_in host.store actor.name) (itself actor.name) ∙ ap (λ n. is_some ((log_of host.store).epochs n)) own_name ∙ is.served.known;
+          known = ap (λ f. is_some (f acting.world.state.head.name)) epochs ∙ is.served.known;
+        };
+        named = is.named;
+        name = name ∙ is.name;
+        errands = ap (λ e. e.items) errands ∙ is.errands;
+        due = due;
+        readings = subst (λ r. AreReadings r.items acting.readings) (sym readers) is.readings;
+      };
+      leaves = record {
+        realms = λ other differ. ap (λ c. realm c other) core;
+        due = λ other differ. demanded other ∙ ap (λ b. if b then is_some ((log_of host.store).epochs other) else is_due_in host.store other) differ;
+        known = λ other. ap (λ f. f other) epochs;
+      };
+      name = name;
+      text = sym (append-nil printed);
+    }

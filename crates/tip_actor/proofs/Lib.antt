@@ -4,3 +4,6 @@ pub mod Promised
 pub mod Serving
 pub mod Doing
 pub mod Taking
+pub mod Counting
+pub mod Settling
+pub mod Connecting

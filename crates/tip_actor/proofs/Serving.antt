@@ -47,7 +47,7 @@ and_false : (b : Bool) → b && false ≡ false
 and_false true = refl
 and_false false = refl
 
-itself : (name : List ℕ) → bytes_eq name name ≡ true
+pub itself : (name : List ℕ) → bytes_eq name name ≡ true
 itself name = (bytes_eq-Decides name name).1 refl
 
 pub serves : (old new : Host) (place : ℕ) (state : State) (due : Bool) (event : Event) (happened : Happened) → IsServed old place state due →

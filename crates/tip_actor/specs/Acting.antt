@@ -170,6 +170,20 @@ abbrev pub forgets_on : Bool → ℕ → Acting → Acting
 forgets_on true number acting = record acting { readings = lost_on number acting.readings }
 forgets_on false number acting = acting
 
+-- what has come on the connection of a number
+abbrev pub reading_on : ℕ → List Reading → Option Reading
+reading_on zero readings = None
+reading_on (suc index) readings = slice_get readings index
+
+-- on a connection that the realm has given; no other may be named
+abbrev pub on_reading : (ℕ → Reading → Acting → Done) → ℕ → Option Reading → Acting → Option Done
+on_reading f index None acting = None
+on_reading f index (Some reading) acting = Some (f index reading acting)
+
+abbrev pub on_connection : (ℕ → Reading → Acting → Done) → ℕ → Acting → Option Done
+on_connection f zero acting = None
+on_connection f (suc index) acting = on_reading f index (reading_on (suc index) acting.readings) acting
+
 -- a connection is lost, and what was read on it, unless that is refused
 abbrev pub loses : ℕ → Reading → Acting → Done
 loses index reading acting =
@@ -194,3 +208,7 @@ drops_from (party ∷ errands) acting = record {
   printed = shown_text acting.name (drops_of party);
   acting = record acting { world = record acting.world { errands = errands } };
 }
+
+-- the next change of its rows is to be refused
+abbrev pub refuses : Acting → Done
+refuses acting = quiet (record acting { due = true })

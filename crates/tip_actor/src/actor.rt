@@ -3,8 +3,9 @@ ghost use Rattle.std.specs.Prelude.{◌≡◌, ◌++◌, ℕ, List, [], true, fa
 ghost use Rattle.std.specs.Option.{option_to_list};
 ghost use Rattle.tip_machine.specs.States.{State};
 ghost use Rattle.tip_machine.specs.declared.event.Outcome.TheVariants.{Refused};
-ghost use Rattle.tip_actor.specs.Acting.{Acting, Reading, after_sent, answer_in, happens, lost_on, still_due, with_opened};
-ghost use Rattle.tip_actor.specs.Standing.{Acts, AreReadings, IsActing, IsServed, Serves};
+ghost use Rattle.tip_branch.specs.Always.{Always};
+ghost use Rattle.tip_actor.specs.Acting.{Acting, Reading, after_sent, answer_in, happens, lost_on, refuses, still_due, with_opened};
+ghost use Rattle.tip_actor.specs.Standing.{Acts, AreReadings, IsActing, IsDone, IsServed, Serves};
 
 use crate::reader::Reader;
 use std::alloc::{AllocError, Global};
@@ -30,17 +31,19 @@ pub struct Actor<P = HeldParty> {
 }
 
 impl Actor<HeldParty> {
-    /// A realm at its start.
-    pub fn new(alloc: Global, name: Realm) -> Actor<HeldParty>
+    /// A realm at its start, with the parties that are out.
+    // A function that takes nothing that can hold boxes must not give out what can.
+    pub fn new(alloc: Global, name: Realm, errands: VecDeque<HeldParty>) -> Actor<HeldParty>
+        requires { Always }
         ensures name { result.name ≡ name }
         ensures readers { result.readers.items ≡ [] }
-        ensures errands { result.errands.items ≡ [] }
+        ensures errands { result.errands ≡ errands }
         ensures due { result.is_due ≡ false }
     {
         Actor {
             name,
             readers: Vec::new(alloc),
-            errands: VecDeque::new(alloc),
+            errands,
             is_due: false,
         }
     }
@@ -54,6 +57,7 @@ impl Actor<HeldParty> {
         event: Event,
         printed: &mut String,
     ) -> Result<bool, AllocError>
+        requires { Always }
         ensures acts { OnOk result (Acts host.old host.new place self.old self.new (string_bytes printed.old) (string_bytes printed.new) (happens event)) }
         ensures refused { (acting : Acting) → IsActing host.old place self.old acting → IfOk result (λ refused. refused ≡ is_some (answer_in acting event).refusal) }
     {
@@ -64,6 +68,15 @@ impl Actor<HeldParty> {
         let is_refused = happened.answer.refusal.is_some();
         self.learn(happened)?;
         Ok(is_refused)
+    }
+
+    /// The next change of its rows is to be refused.
+    pub fn refuse(&mut self, host: &mut Host<MemRows>)
+        requires { Always }
+        ensures { (place : ℕ) (printed : List ℕ) (acting : Acting) → IsActing host.old place self.old acting → IsDone host.old host.new place self.old self.new printed printed (refuses acting) }
+    {
+        host.store.refuse_next(&self.name);
+        self.is_due = true;
     }
 
     /// Takes in what an event has come to: a refusal that was due is over, what was read on closed connections is gone, a new
@@ -115,7 +128,7 @@ impl Actor<HeldParty> {
     }
 
     /// What was read on a connection is gone.
-    pub fn forget(&mut self, connection: u32)
+    pub(crate) fn forget(&mut self, connection: u32)
         ensures same { (self.new.name ≡ self.old.name) × (self.new.errands ≡ self.old.errands) × (self.new.is_due ≡ self.old.is_due) }
         ensures readings { (readings : List Reading) → AreReadings self.old.readers.items readings → AreReadings self.new.readers.items (lost_on connection readings) }
     {

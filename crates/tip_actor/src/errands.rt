@@ -4,6 +4,7 @@ ghost use Rattle.std.specs.List.{list_all};
 ghost use Rattle.tip_branch.specs.declared.member.Errand.TheVariants as Errand;
 ghost use Rattle.tip_host.specs.Errands.{are_untold};
 ghost use Rattle.tip_machine.specs.Returns.{event_of};
+ghost use Rattle.tip_branch.specs.Always.{Always};
 ghost use Rattle.tip_actor.specs.Acting.{Acting, drops_from, goes_for};
 ghost use Rattle.tip_actor.specs.Promises.{answers_of, are_foretold, is_promised};
 ghost use Rattle.tip_actor.specs.Standing.{IsActing, IsDone, Tells};
@@ -26,6 +27,7 @@ impl Actor<HeldParty> {
         place: usize,
         printed: &mut String,
     ) -> Result<bool, AllocError>
+        requires { Always }
         ensures { (acting : Acting) → IsActing host.old place self.old acting → IfOk result (λ told. Tells host.old host.new place self.old self.new (string_bytes printed.old) (string_bytes printed.new) told (goes_for acting.world.errands acting)) }
     {
         let Some(party) = self.errands.pop_front() else {
@@ -46,6 +48,7 @@ impl Actor<HeldParty> {
         place: usize,
         printed: &mut String,
     ) -> Result<(), AllocError>
+        requires { Always }
         ensures { (acting : Acting) → IsActing host.now place self.old acting → OnOk result (IsDone host.now host.now place self.old self.new (string_bytes printed.old) (string_bytes printed.new) (drops_from acting.world.errands acting)) }
     {
         match self.errands.pop_front() {

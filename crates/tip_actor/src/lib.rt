@@ -2,6 +2,7 @@
 #![tactic(auto)]
 
 mod actor;
+mod connections;
 mod errands;
 mod lines;
 mod reader;

@@ -1,17 +1,42 @@
 //! Lines that come on the connections of a realm, and wait until they may be taken.
-ghost use Rattle.std.specs.Prelude.{◌≡◌, IfOk, Some};
+ghost use Rattle.std.specs.Prelude.{◌≡◌, IfOk, OnOk, Some, string_bytes};
 ghost use Rattle.tip_core.specs.Hosted.{realm as realm_at};
 ghost use Rattle.tip_machine.specs.States.{State};
-ghost use Rattle.tip_actor.specs.Acting.{Acting, Reading};
-ghost use Rattle.tip_actor.specs.Standing.{Finds, GivesNext, Host as AHost, IsActing, IsReading};
+ghost use Rattle.tip_branch.specs.Always.{Always};
+ghost use Rattle.tip_actor.specs.Acting.{Acting, Reading, count_of, takes};
+ghost use Rattle.tip_actor.specs.Standing.{Acts, Finds, GivesNext, Host as AHost, IsActing, IsReading};
 
 use crate::actor::Actor;
 use crate::reader::Reader;
 use std::alloc::{AllocError, Global};
+use tip_branch::HeldParty;
 use tip_core::Core;
+use tip_host::Host;
 use tip_machine::Event;
+use tip_rows::MemRows;
 
-impl Actor {
+impl Actor<HeldParty> {
+    /// Lines are taken, one after another, until none may be taken.
+    pub fn settle(
+        &mut self,
+        alloc: Global,
+        host: &mut Host<MemRows>,
+        place: usize,
+        printed: &mut String,
+    ) -> Result<(), AllocError>
+        requires { Always }
+        ensures { OnOk result (Acts host.old host.new place self.old self.new (string_bytes printed.old) (string_bytes printed.new) (λ acting. takes (count_of acting.readings) acting)) }
+    {
+        for _ in 0..u64::MAX {
+            match self.next_line(alloc, &host.core, place)? {
+                Some(event) => self.happen(alloc, host, place, event, printed)?,
+                None => return Ok(()),
+            };
+        }
+        // no memory holds so many lines
+        Err(AllocError)
+    }
+
     /// The next line that may be taken, of the first connection that has one. It is taken out of its reader.
     pub fn next_line(
         &mut self,
@@ -19,6 +44,7 @@ impl Actor {
         core: &Core,
         place: usize,
     ) -> Result<Option<Event>, AllocError>
+        requires { Always }
         ensures { (host : AHost) (acting : Acting) → host.core ≡ core.now → IsActing host place self.old acting → IfOk result (Finds host place self.new acting) }
     {
         for index in 0..self.readers.len() {

@@ -5,7 +5,7 @@ use Rattle.tip_core.specs.Hosted.{realm}
 use Rattle.tip_actor.specs.Standing.{GivesNext}
 use Rattle.tip_actor.proofs.Lists.{readings_length}
 use Rattle.tip_actor.proofs.Taking.{finds_none, finds_one, passes_on}
-use Rattle.tip_actor.proofs.lines.Actor.next_line.Goals as goal
+use Rattle.tip_actor.proofs.lines.Actor+HeldParty.next_line.Goals as goal
 
 pub returns-in-Some : goal.returns-in-Some
 returns-in-Some g c = λ host acting core is.

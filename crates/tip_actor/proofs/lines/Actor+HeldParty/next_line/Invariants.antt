@@ -2,7 +2,7 @@ use Rattle.std.proofs.Common.{◌≡◌, ◌<◌, ℕ, Some, false}
 use Rattle.std.specs.Prelude.{slice_get}
 use Rattle.tip_actor.specs.Acting.{Acting, Reading, is_next}
 use Rattle.tip_actor.specs.Standing.{Host, IsActing}
-use Rattle.tip_actor.proofs.lines.Actor.next_line.Given as goal
+use Rattle.tip_actor.proofs.lines.Actor+HeldParty.next_line.Given as goal
 
 -- no line may be taken on the connections so far
 abbrev pub invariant-loop-index : goal.invariant-loop-index

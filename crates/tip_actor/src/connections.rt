@@ -1,0 +1,66 @@
+//! What happens to the connections of a realm, which are known by their numbers.
+ghost use Rattle.std.specs.Prelude.{◌≡◌, ℕ, List, IfOk, option_map, string_bytes};
+ghost use Rattle.tip_script.specs.Moves.{octets_of};
+ghost use Rattle.tip_branch.specs.Always.{Always};
+ghost use Rattle.tip_actor.specs.Acting.{Acting, Reading, feeds, loses, on_connection, reading_on};
+ghost use Rattle.tip_actor.specs.Standing.{AreReadings, Host as AHost, IsActing, Tells};
+
+use crate::actor::Actor;
+use std::alloc::{AllocError, Global};
+use tip_branch::HeldParty;
+use tip_host::Host;
+use tip_machine::{Event, Seat};
+use tip_rows::MemRows;
+use tip_script::Octets;
+
+impl Actor<HeldParty> {
+    /// Octets come on a connection. It says whether the realm has given that connection.
+    pub fn feed(
+        &mut self,
+        alloc: Global,
+        connection: u32,
+        octets: Octets<'_>,
+    ) -> Result<bool, AllocError>
+        requires { Always }
+        ensures { (host : AHost) (place : ℕ) (printed : List ℕ) (acting : Acting) → IsActing host place self.old acting → IfOk result (λ told. Tells host host place self.old self.new printed printed told (on_connection (feeds (octets_of octets.entry)) connection acting)) }
+    {
+        let Some(index) = (connection as usize).checked_sub(1) else {
+            return Ok(false);
+        };
+        let Some(reader) = self.readers.get_mut(index) else {
+            return Ok(false);
+        };
+        reader.feed(alloc, octets)?;
+        Ok(true)
+    }
+
+    /// A connection is lost, and what was read on it, unless that is refused. It says whether the realm has given that connection.
+    pub fn lose_connection(
+        &mut self,
+        alloc: Global,
+        host: &mut Host<MemRows>,
+        place: usize,
+        connection: u32,
+        printed: &mut String,
+    ) -> Result<bool, AllocError>
+        requires { Always }
+        ensures { (acting : Acting) → IsActing host.old place self.old acting → IfOk result (λ told. Tells host.old host.new place self.old self.new (string_bytes printed.old) (string_bytes printed.new) told (on_connection loses connection acting)) }
+    {
+        let Some(seat) = self.seat(connection) else {
+            return Ok(false);
+        };
+        let is_refused = self.happen(alloc, host, place, Event::Lost { seat }, printed)?;
+        if !is_refused {
+            self.forget(connection);
+        }
+        Ok(true)
+    }
+
+    /// The seat of a connection, if the realm has given it.
+    fn seat(&self, connection: u32) -> Option<Seat>
+        ensures { (readings : List Reading) → AreReadings self.now.readers.items readings → result ≡ option_map (λ reading. reading.seat) (reading_on connection readings) }
+    {
+        let index = (connection as usize).checked_sub(1)?;
+        Some(self.readers.get(index)?.seat)
+    }
+}
