@@ -1,6 +1,6 @@
 -- What commands come to, case by case.
 use Rattle.std.proofs.Common.{◌≡◌, ◌<◌, ◌≤◌, ◌+◌, Bool, true, false, cond, ℕ, List, [], ◌∷◌, Option, Some, None, length, refl, ap, arith, sym, subst, ◌∙◌, ◌⊎◌, inl, inr}
-use Rattle.std.specs.Prelude.{◌&&◌, filter, find, nat_le}
+use Rattle.std.specs.Prelude.{◌&&◌, filter, find, is_some, nat_le}
 use Rattle.std.specs.Option.{option_and_then, option_map_or}
 use Rattle.std.proofs.lemmas.Option.{same_Some}
 use Rattle.tip_line.specs.declared.command.CommandName.{CommandName}
@@ -12,7 +12,7 @@ use Rattle.tip_txn.specs.declared.answer.Phase.{Phase}
 use Rattle.tip_txn.specs.declared.answer.Phase.TheVariants.{Active, Asking, Prepared, Committed, Aborted}
 use Rattle.tip_machine.proofs.Walks.{found-number}
 use Rattle.tip_machine.specs.Changes.{attempt_on, change, reply, tell}
-use Rattle.tip_machine.specs.Commands.{decide_abort, decide_commit, exists, identify, obey, query, superior_role}
+use Rattle.tip_machine.specs.Commands.{decide_abort, decide_commit, exists, identify, obey, prepare, query, superior_role}
 use Rattle.tip_machine.specs.Connections.{has_number, identified, is_on, owing}
 use Rattle.tip_machine.specs.Failing.{closed, fail, gone, wrong}
 use Rattle.tip_machine.specs.Proceeding.{abort, ask, commit}
@@ -131,6 +131,26 @@ closed_owing : (command : CommandName) (connection : Connection) (w : Work) → 
 unfolding closed fail gone
 closed_owing command connection w = refl
 
+-- PREPARE by the phase
+module _ (b d : Held) (connection : Connection) (outcome : Outcome) (key : Key) (t : Transaction) (there : transaction_of key (work_of b).state ≡ Some t) where
+  prepares_so : (phase : Phase) (peer : Option (List ℕ)) → t.phase ≡ phase → connection.peer ≡ peer → Does b d (chosen (prepare phase peer connection t (work_of b)) outcome) → Does b d (chosen (prepare t.phase connection.peer connection t (work_of b)) outcome)
+  prepares_so phase peer is at does = subst (λ p. Does b d (chosen (prepare p connection.peer connection t (work_of b)) outcome)) (sym is) (subst (λ q. Does b d (chosen (prepare phase q connection t (work_of b)) outcome)) (sym at) does)
+
+  pub prepares_reachable : t.phase ≡ Active → is_some connection.peer ≡ true → ((u : Transaction) → transaction_of key (work_of b).state ≡ Some u → Does b d (chosen (ask u (work_of b)) outcome)) → Does b d (chosen (prepare t.phase connection.peer connection t (work_of b)) outcome)
+  prepares_reachable is reachable does = step connection.peer refl reachable where
+    step : (peer : Option (List ℕ)) → connection.peer ≡ peer → is_some peer ≡ true → Does b d (chosen (prepare t.phase connection.peer connection t (work_of b)) outcome)
+    step None at some = absurd (cc)
+    step (Some address) at some = prepares_so Active (Some address) is at (does t there)
+
+  pub prepares_nobody : t.phase ≡ Active → is_some connection.peer ≡ false → Does b d (abort key (work_of b)) → Does b d (chosen (prepare t.phase connection.peer connection t (work_of b)) outcome)
+  prepares_nobody is reachable does = step connection.peer refl reachable where
+    step : (peer : Option (List ℕ)) → connection.peer ≡ peer → is_some peer ≡ false → Does b d (chosen (prepare t.phase connection.peer connection t (work_of b)) outcome)
+    step None at none = prepares_so Active None is at (subst (λ k. Does b d (abort k (work_of b))) (key_is b key t there) does)
+    step (Some address) at none = absurd (cc)
+
+  pub prepares_aborted : t.phase ≡ Aborted → Does b d (abort key (work_of b)) → Does b d (chosen (prepare t.phase connection.peer connection t (work_of b)) outcome)
+  prepares_aborted is does = prepares_so Aborted connection.peer is refl (subst (λ k. Does b d (abort k (work_of b))) (key_is b key t there) does)
+
 -- COMMIT and ABORT by the phase
 module _ (b d : Held) (command : CommandName) (connection : Connection) (outcome : Outcome) (key : Key) (t : Transaction) (there : transaction_of key (work_of b).state ≡ Some t) where
   pub commits_active : t.phase ≡ Active → ((u : Transaction) → transaction_of key (work_of b).state ≡ Some u → Does b d (chosen (ask u (work_of b)) outcome)) → Does b d (chosen (decide_commit t.phase connection t (work_of b)) outcome)
@@ -154,6 +174,11 @@ module _ (b d : Held) (command : CommandName) (connection : Connection) (outcome
       (subst (λ w. Does b d (chosen (Attempt.Asks (Remove key) (abort key (work_of b)) w) outcome)) (closed_owing command connection (work_of b)) does))
 
 -- in the other phases it is never asked
+pub prepares_never : (b : Held) (connection : Connection) (outcome : Outcome) (t : Transaction) (phase : Phase) → phase ≡ t.phase → (phase ≡ Asking) ⊎ ((phase ≡ Prepared) ⊎ (phase ≡ Committed)) → Does b b (chosen (prepare t.phase connection.peer connection t (work_of b)) outcome)
+prepares_never b connection outcome t phase same (inl is) = subst (λ p. Does b b (chosen (prepare p connection.peer connection t (work_of b)) outcome)) (sym is ∙ same) (nothing b)
+prepares_never b connection outcome t phase same (inr (inl is)) = subst (λ p. Does b b (chosen (prepare p connection.peer connection t (work_of b)) outcome)) (sym is ∙ same) (nothing b)
+prepares_never b connection outcome t phase same (inr (inr is)) = subst (λ p. Does b b (chosen (prepare p connection.peer connection t (work_of b)) outcome)) (sym is ∙ same) (nothing b)
+
 pub commits_never : (b : Held) (connection : Connection) (outcome : Outcome) (t : Transaction) (phase : Phase) → phase ≡ t.phase → (phase ≡ Asking) ⊎ (phase ≡ Committed) → Does b b (chosen (decide_commit t.phase connection t (work_of b)) outcome)
 commits_never b connection outcome t phase same (inl is) = subst (λ p. Does b b (chosen (decide_commit p connection t (work_of b)) outcome)) (sym is ∙ same) (nothing b)
 commits_never b connection outcome t phase same (inr is) = subst (λ p. Does b b (chosen (decide_commit p connection t (work_of b)) outcome)) (sym is ∙ same) (nothing b)

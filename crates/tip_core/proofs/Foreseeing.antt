@@ -33,7 +33,7 @@ use Rattle.tip_txn.specs.declared.part.Participant.{Participant}
 use Rattle.tip_machine.proofs.Walks.{found_changed, found_passes, on_found, seated_there, there_by_key}
 use Rattle.tip_machine.specs.Answers.{identifier}
 use Rattle.tip_machine.specs.Changes.{alter, attempt_on, change, end, refuse}
-use Rattle.tip_machine.specs.Commands.{commanded, decide_abort, decide_commit, obey, serve_if, superior_role}
+use Rattle.tip_machine.specs.Commands.{commanded, decide_abort, decide_commit, obey, prepare, serve_if, superior_role}
 use Rattle.tip_machine.specs.Connections.{asks_for, has_number, is_superior_of, may_take, owing}
 use Rattle.tip_machine.specs.Proceeding.{agree, ask, asked_for_votes, conclude, dispatch, dispatched, enter, errand_in, finish, give_out, let_go, owed_to_superior, proceed, proceed_in}
 use Rattle.tip_machine.specs.Reactions.{commits, react}
@@ -56,7 +56,7 @@ use Rattle.tip_machine.specs.declared.transaction.Origin.TheVariants as origin
 use Rattle.tip_machine.specs.declared.transaction.PartyPlace.TheVariants.{Here, Out, Spent}
 use Rattle.tip_core.proofs.Outcomes.{acknowledged_all}
 use Rattle.tip_core.proofs.Proceeding.{dispatch_some}
-use Rattle.tip_core.specs.Wanting.{abort_for, abort_wanted, agreed_change, asked, away, back_at, command_wanted, commit_for, commit_wanted, committed_of, concluded, finished, foreseen, in_doubt_of, is_admitted, is_over, line_wanted, of_superior, outlook, owed_then, pair_at, pairs_of, promised_of, resume_wanted, resumed_at, settled_wanted, vote_wanted, wished, wished_in}
+use Rattle.tip_core.specs.Wanting.{abort_for, abort_wanted, agreed_change, asked, away, back_at, command_wanted, commit_for, commit_wanted, committed_of, concluded, finished, foreseen, in_doubt_of, is_admitted, is_over, line_wanted, of_superior, outlook, owed_then, pair_at, pairs_of, prepare_for, prepare_wanted, promised_of, resume_wanted, resumed_at, settled_wanted, vote_wanted, wished, wished_in}
 
 -- The rows
 
@@ -162,6 +162,16 @@ module _ (w : Work) (c : Connection) (there : connection_of c.number w.state ≡
       let same : key ≡ t.key = on_found (λ k. key ≡ k) key w.state.transactions t found refl in
       first_owed command c.number t.key w.state.connections c there (ap (asks_for t.key) on ∙ ap (is_same t.key) same ∙ same_self t.key)
 
+  prepare_wants : (key : Key) (t : Transaction) → c.role ≡ Some (Superior key) → transaction_of key w.state ≡ Some t → wanted (prepare t.phase c.peer c t (change c.number (owing command.Prepare) w)) ≡ prepare_for c.peer c.number w.state t
+  prepare_wants key t on found = step t.phase c.peer where
+    step : (phase : Phase) (peer : Option (List ℕ)) → wanted (prepare phase peer c t (change c.number (owing command.Prepare) w)) ≡ prepare_wanted phase peer (owed_then command.Prepare c.number t.key w.state) t
+    step Active (Some address) = ask_wants t (change c.number (owing command.Prepare) w) (there_by_key key w.state.transactions t found) ∙ ap (λ owed. wished owed (outlook (asked t))) (owed_now command.Prepare key t on found)
+    step Active None = refl
+    step Asking peer = refl
+    step Prepared peer = refl
+    step Committed peer = refl
+    step Aborted peer = refl
+
   commit_wants : (key : Key) (t : Transaction) → c.role ≡ Some (Superior key) → transaction_of key w.state ≡ Some t → wanted (decide_commit t.phase c t (change c.number (owing command.Commit) w)) ≡ commit_for c.number w.state t
   commit_wants key t on found = step t.phase where
     step : (phase : Phase) → wanted (decide_commit phase c t (change c.number (owing command.Commit) w)) ≡ commit_wanted phase (owed_then command.Commit c.number t.key w.state) t
@@ -199,7 +209,7 @@ module _ (w : Work) (c : Connection) (there : connection_of c.number w.state ≡
   served_wants commands.Begin = refl
   served_wants (commands.Push superior) = refl
   served_wants (commands.Pull superior subordinate) = refl
-  served_wants commands.Prepare = refl
+  served_wants commands.Prepare = obey_wants command.Prepare (λ t. prepare t.phase c.peer c t) (prepare_for c.peer c.number w.state) prepare_wants
   served_wants commands.Commit = obey_wants command.Commit (λ t. decide_commit t.phase c t) (commit_for c.number w.state) commit_wants
   served_wants commands.Abort = obey_wants command.Abort (λ t. decide_abort t.phase c t) abort_for (λ key t on found. abort_wants t (change c.number (owing command.Abort) w))
   served_wants (commands.Query superior) = refl

@@ -20,10 +20,7 @@ use Rattle.tip_txn.specs.declared.part.Participant.{Participant}
 use Rattle.tip_txn.proofs.DecisionLemmas.{decides_one}
 use Rattle.tip_machine.proofs.Deciding.{decides}
 use Rattle.tip_machine.specs.Connections.{has_number, is_superior_of}
-use Rattle.tip_line.specs.declared.command.Command.TheVariants as commands
 use Rattle.tip_machine.proofs.Walks.{on_found}
-use Rattle.tip_machine.specs.Commands.{superior_role}
-use Rattle.tip_txn.specs.declared.answer.Phase.TheVariants.{Active}
 use Rattle.tip_machine.specs.Proceeding.{owed_to_superior}
 use Rattle.tip_machine.specs.Requests.{owner}
 use Rattle.tip_machine.specs.States.{State, transaction_of}
@@ -34,7 +31,7 @@ use Rattle.tip_machine.specs.declared.event.Event.TheVariants.{Settled, Voted}
 use Rattle.tip_machine.specs.declared.transaction.Origin.{Origin}
 use Rattle.tip_machine.specs.declared.transaction.PartyPlace.TheVariants.{Here, Out, Spent}
 use Rattle.tip_table.proofs.Standing.{found as found_first}
-use Rattle.tip_core.specs.Wanting.{Outlook, agreed_change, asked, away, back_at, command_wanted, commit_for, commit_wanted, foreseen, outlook, owed_then, pair_at, pairs_of, settled_wanted, vote_wanted, wished}
+use Rattle.tip_core.specs.Wanting.{Outlook, agreed_change, away, back_at, foreseen, outlook, owed_then, pair_at, pairs_of, settled_wanted, vote_wanted, wished}
 use Rattle.tip_core.specs.Works.{is_aborting, is_committing, is_voting}
 
 -- Outlooks
@@ -130,13 +127,6 @@ module _ (command : CommandName) (number : ℕ) (key : Key) (state : State) wher
       ap (λ (o : Option Connection). option_and_then (λ c. if has_number number c then Some command else c.owed) o) there ∙ ap (λ b. cond b (Some command) connection.owed) other
 
 pub ruleset owed_later = (owed_none, owed_new, owed_still, found_first)
-
--- What COMMIT wants of an active transaction
-
-pub commit_ahead : (state : State) (connection : Connection) (key : Key) (t : Transaction) → superior_role connection.role ≡ Some key → transaction_of key state ≡ Some t → t.phase ≡ Active → wished (owed_then command.Commit connection.number key state) (outlook (asked t)) ≡ command_wanted commands.Commit connection state
-commit_ahead state connection key t role there is =
-    ap (λ k. wished (owed_then command.Commit connection.number k state) (outlook (asked t))) (on_found (λ k. key ≡ k) key state.transactions t there refl)
-    ∙ sym (ap (λ o. option_and_then (λ k. option_and_then (commit_for connection.number state) (transaction_of k state)) o) role ∙ ap (λ o. option_and_then (commit_for connection.number state) o) there ∙ ap (λ p. commit_wanted p (owed_then command.Commit connection.number t.key state) t) is)
 
 -- What a party wants that comes back
 

@@ -133,6 +133,11 @@ asked t = record t { phase = Asking; place = away t.place }
 abbrev pub owed_then : CommandName → ℕ → Key → State → Option CommandName
 owed_then command number key state = option_and_then (λ connection. if has_number number connection then Some command else connection.owed) (find (is_superior_of key) state.connections)
 
+-- who said no address could not be reached again, and is not promised to
+abbrev pub prepare_wanted : Phase → Option (List ℕ) → Option CommandName → Transaction → Option Change
+prepare_wanted Active (Some address) owed t = wished owed (outlook (asked t))
+prepare_wanted other peer owed t = None
+
 abbrev pub commit_wanted : Phase → Option CommandName → Transaction → Option Change
 commit_wanted Active owed t = wished owed (outlook (asked t))
 commit_wanted Prepared owed t = Some (Put t.key (committed_of (outlook t)))
@@ -142,7 +147,10 @@ abbrev pub abort_wanted : Phase → Transaction → Option Change
 abort_wanted Prepared t = Some (Remove t.key)
 abort_wanted other t = None
 
--- what the superior's COMMIT or ABORT wants for its transaction
+-- what the superior's PREPARE, COMMIT or ABORT wants for its transaction
+abbrev pub prepare_for : Option (List ℕ) → ℕ → State → Transaction → Option Change
+prepare_for peer number state t = prepare_wanted t.phase peer (owed_then command.Prepare number t.key state) t
+
 abbrev pub commit_for : ℕ → State → Transaction → Option Change
 commit_for number state t = commit_wanted t.phase (owed_then command.Commit number t.key state) t
 
@@ -155,6 +163,7 @@ of_superior wants connection state = option_and_then (λ key. option_and_then wa
 
 -- what a command wants that is valid
 abbrev pub command_wanted : ACommand → Connection → State → Option Change
+command_wanted commands.Prepare connection state = of_superior (prepare_for connection.peer connection.number state) connection state
 command_wanted commands.Commit connection state = of_superior (commit_for connection.number state) connection state
 command_wanted commands.Abort connection state = of_superior abort_for connection state
 command_wanted other connection state = None

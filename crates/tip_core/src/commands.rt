@@ -78,6 +78,7 @@ impl Work<Connection, Transaction, Making> {
                 secondary: _,
             } => self.greet(number, place, (low, high), primary),
             Command::Begin => self.begin(number, place),
+            Command::Prepare => self.obey_prepare(number, place),
             Command::Commit => self.obey_commit(number, place),
             Command::Abort => self.obey_abort(number, place),
             Command::Query { superior } => self.query(number, place, &superior),
@@ -86,10 +87,9 @@ impl Work<Connection, Transaction, Making> {
             }
             Command::Tls => self.reply(number, place, CommandName::Tls, Said::CantTls),
             Command::Error => self.close(number, place),
-            Command::Push { .. }
-            | Command::Pull { .. }
-            | Command::Prepare
-            | Command::Reconnect { .. } => unreachable!(),
+            Command::Push { .. } | Command::Pull { .. } | Command::Reconnect { .. } => {
+                unreachable!()
+            }
         }
     }
 
@@ -122,6 +122,32 @@ impl Work<Connection, Transaction, Making> {
             self.reply(number, place, CommandName::Query, Said::QueriedExists);
         } else {
             self.reply(number, place, CommandName::Query, Said::QueriedNotFound);
+        }
+    }
+
+    /// PREPARE from the superior: asks; who said no address could not be reached again, and is not promised to.
+    #[tactic(auto, using(crate::proofs::Commanding::obeying))]
+    pub fn obey_prepare(&mut self, number: u32, place: usize)
+        requires stands { StandsAt self.old.connections self.old.realm (has_number number) place }
+        requires lines { lines_at number (work_of self.old).state + 2 ≤ self.old.making.free }
+        requires none { IsIdle self.old.making.answer }
+        ensures { (connection : AConnection) → connection_of number (work_of self.old).state ≡ Some connection → Does self.old self.new (chosen (serve asked.Prepare connection (work_of self.old)) self.old.outcome) }
+    {
+        let connection = self.connection(number, place);
+        let role = connection.role;
+        let is_reachable = connection.peer.is_some();
+        self.owe(number, place, CommandName::Prepare);
+        let Some(key) = superior_role(role) else {
+            return;
+        };
+        let Some(at) = self.transaction(key) else {
+            return;
+        };
+        match self.at(key, at).txn.phase() {
+            Phase::Active if is_reachable => self.ask(key),
+            Phase::Active => self.abort(key),
+            Phase::Aborted => self.abort(key),
+            Phase::Asking | Phase::Prepared | Phase::Committed => {}
         }
     }
 

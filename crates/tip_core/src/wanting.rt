@@ -3,7 +3,7 @@ ghost use Rattle.std.specs.Prelude.{◌≡◌, ◌<◌, Some, length, IfOk};
 ghost use Rattle.tip_branch.specs.Notes.{PartyNotes};
 ghost use Rattle.tip_conn.specs.Table.{admit_of};
 ghost use Rattle.tip_line.specs.Command.{name_of};
-ghost use Rattle.tip_line.specs.declared.command.Command.TheVariants.{Commit};
+ghost use Rattle.tip_line.specs.declared.command.Command.TheVariants.{Commit, Prepare};
 ghost use Rattle.tip_table.specs.Kept.{StandsAt};
 ghost use Rattle.tip_txn.specs.Parts.{answered};
 ghost use Rattle.tip_machine.specs.Proceeding.{owed_to_superior};
@@ -12,7 +12,7 @@ ghost use Rattle.tip_machine.specs.Transactions.{noting, standing_at};
 ghost use Rattle.tip_machine.specs.Types.{seen, Transaction as ATransaction};
 ghost use Rattle.tip_machine.specs.declared.transaction.PartyPlace.TheVariants.{Here, Spent};
 ghost use Rattle.tip_machine.specs.declared.event.Event.TheVariants.{Line, Resume, Settled, Voted};
-ghost use Rattle.tip_core.specs.Wanting.{abort_for, command_wanted, foreseen, is_admitted, line_wanted, of_superior, outlook, owed_then, resume_wanted, wished};
+ghost use Rattle.tip_core.specs.Wanting.{abort_for, asked, command_wanted, foreseen, is_admitted, line_wanted, of_superior, outlook, owed_then, resume_wanted, wished};
 ghost use Rattle.tip_core.specs.Works.{is_keyed, work_of};
 
 use crate::commands::superior_role;
@@ -95,10 +95,49 @@ impl Work<Connection, Transaction, Making> {
         ensures { IfOk result (λ change. change ≡ command_wanted command.now connection.now (work_of self.now).state) }
     {
         match command {
+            Command::Prepare => self.wanted_by_prepare(alloc, connection),
             Command::Commit => self.wanted_by_commit(alloc, connection),
             Command::Abort => Ok(self.wanted_by_abort(connection)),
             _ => Ok(None),
         }
+    }
+
+    /// What the superior's PREPARE wants: the row that all agree on, where the superior can be reached again.
+    fn wanted_by_prepare(
+        &self,
+        alloc: Global,
+        connection: &Connection,
+    ) -> Result<Option<Change>, AllocError>
+        ensures { IfOk result (λ change. change ≡ command_wanted Prepare connection.now (work_of self.now).state) }
+    {
+        let Some(key) = superior_role(connection.role) else {
+            return Ok(None);
+        };
+        let Some(place) = self.transaction(key) else {
+            return Ok(None);
+        };
+        let transaction = self.at(key, place);
+        match (transaction.txn.phase(), &connection.peer) {
+            (Phase::Active, Some(_)) => {
+                self.wanted_once_asked(alloc, CommandName::Prepare, connection.number, transaction)
+            }
+            (Phase::Active, None)
+            | (Phase::Asking | Phase::Prepared | Phase::Committed | Phase::Aborted, _) => Ok(None),
+        }
+    }
+
+    /// What a transaction wants once all its parties are asked, by this command on the connection of a number.
+    fn wanted_once_asked(
+        &self,
+        alloc: Global,
+        command: CommandName,
+        number: u32,
+        transaction: &Transaction,
+    ) -> Result<Option<Change>, AllocError>
+        ensures { IfOk result (λ change. change ≡ wished (owed_then command number transaction.now.key (work_of self.now).state) (outlook (asked (seen transaction.now)))) }
+    {
+        let owed = self.owed_then(command, number, transaction.key);
+        Outlook::asked(transaction).wished(alloc, owed)
     }
 
     /// What the superior's COMMIT wants: the row that all agree on, or the committed one of a transaction in doubt.
@@ -118,8 +157,7 @@ impl Work<Connection, Transaction, Making> {
         let transaction = self.at(key, place);
         match transaction.txn.phase() {
             Phase::Active => {
-                let owed = self.owed_then(CommandName::Commit, connection.number, key);
-                Outlook::asked(transaction).wished(alloc, owed)
+                self.wanted_once_asked(alloc, CommandName::Commit, connection.number, transaction)
             }
             Phase::Prepared => Ok(Some(Outlook::of(transaction).committing(alloc)?)),
             Phase::Asking | Phase::Committed | Phase::Aborted => Ok(None),

@@ -11,14 +11,13 @@ pub fn is_served(command: CommandName) -> bool
     match command {
         CommandName::Identify
         | CommandName::Begin
+        | CommandName::Prepare
         | CommandName::Commit
         | CommandName::Abort
         | CommandName::Query
         | CommandName::Multiplex
         | CommandName::Tls
         | CommandName::Error => true,
-        CommandName::Push | CommandName::Pull | CommandName::Prepare | CommandName::Reconnect => {
-            false
-        }
+        CommandName::Push | CommandName::Pull | CommandName::Reconnect => false,
     }
 }
