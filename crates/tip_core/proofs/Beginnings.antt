@@ -1,10 +1,12 @@
 -- What becomes of a realm where a transaction begins.
-use Rattle.std.proofs.Common.{◌≡◌, ◌≤◌, ◌<◌, ◌+◌, Bool, true, false, cond, ℕ, suc, List, [], ◌∷◌, Some, None, Fits, w32, get_or, length, map, refl, ap, arith, sym, subst, ◌∙◌}
-use Rattle.std.specs.Prelude.{◌&&◌, drop, nat_le, nat_lt, take}
+use Rattle.std.proofs.Common.{◌≡◌, ◌≤◌, ◌<◌, ◌+◌, Bool, true, false, cond, ℕ, suc, List, [], ◌∷◌, Option, Some, None, Fits, w32, get_or, length, map, refl, ap, arith, sym, subst, ◌∙◌}
+use Rattle.std.specs.Prelude.{◌&&◌, drop, find, nat_le, nat_lt, option_map, take}
+use Rattle.std.specs.Option.{option_and_then, option_map_or}
 use Rattle.std.proofs.lemmas.Bool.Decides.{nat_tests}
-use Rattle.std.proofs.lemmas.Option.{same_Some, slice_get-get_or}
+use Rattle.std.proofs.lemmas.Option.{none-some, same_Some, slice_get-get_or}
 use Rattle.tip_branch.specs.Members.{fresh_members}
 use Rattle.tip_branch.specs.Notes.{PartyNotes, idle_party}
+use Rattle.tip_line.specs.declared.command.CommandName.{CommandName}
 use Rattle.tip_line.specs.declared.command.CommandName.TheVariants as command
 use Rattle.tip_rows.specs.Keys.{Key}
 use Rattle.tip_table.specs.Kept.{StandsAt, item_at, of, with_item_at}
@@ -12,11 +14,12 @@ use Rattle.tip_table.proofs.Standing.{stands_written}
 use Rattle.tip_table.proofs.Standing.{found as found_first}
 use Rattle.tip_machine.proofs.Walks.{found-number, found_passes}
 use Rattle.tip_machine.specs.Changes.{change, reply}
-use Rattle.tip_machine.specs.Commands.{begin, make, making}
+use Rattle.tip_machine.specs.Commands.{begin, make, making, push, push_new}
 use Rattle.tip_machine.specs.Connections.{has_number}
 use Rattle.tip_machine.specs.States.{Work, connection_of, has_room}
-use Rattle.tip_machine.specs.Transactions.{begun, next_key}
-use Rattle.tip_machine.specs.Types.{Connection, seen}
+use Rattle.tip_machine.specs.Transactions.{begun, is_known, next_key}
+use Rattle.tip_machine.specs.Types.{Connection, Transaction, seen}
+use Rattle.tip_machine.specs.declared.answer.Said.{Said}
 use Rattle.tip_machine.specs.declared.answer.Said.TheVariants as said
 use Rattle.tip_machine.specs.declared.connection.Role.TheVariants.{Superior}
 use Rattle.tip_machine.specs.declared.transaction.Origin.{Origin}
@@ -29,8 +32,8 @@ use Rattle.tip_txn.specs.Transactions.{fresh}
 use Rattle.tip_core.specs.Makings.{Made}
 use Rattle.tip_core.specs.Rooms.{room_for, TransactionRoom}
 use Rattle.tip_core.proofs.Losing.{same_room}
-use Rattle.tip_core.specs.Works.{beginning, CanMake, Does, Held, HeldTransaction, MayMake, no_head, work_of}
-use Rattle.tip_core.proofs.Works.{changed_at, then}
+use Rattle.tip_core.specs.Works.{beginning, CanMake, Does, Held, HeldTransaction, MayMake, key_where_room, make_where_room, no_head, peer_of, work_of}
+use Rattle.tip_core.proofs.Works.{changed_at, nothing, then}
 
 -- Room
 
@@ -93,30 +96,118 @@ made_all a b c number from connection key transaction found next is first second
     (subst (λ n. Does a c (beginning (begun (work_of a).state.head key from (take boxes connection.boxes)) (change n (making boxes key) (work_of a)))) (sym (found-number number (work_of a).state.connections connection found))
     (subst (λ t. Does a c (beginning t (change number (making boxes key) (work_of a)))) is both))
 
--- BEGIN
+-- Where there is room
 
-begins_so : (connection : Connection) (w : Work) (room : Bool) → has_room connection w.state ≡ room → begin connection w ≡ cond room (reply connection.number command.Begin (said.Begun (next_key w.state.head connection)) (make origin.Root connection w)) (reply connection.number command.Begin said.NotBegun w)
-unfolding begin
-begins_so connection w room is = ap (λ b. cond b (reply connection.number command.Begin (said.Begun (next_key w.state.head connection)) (make origin.Root connection w)) (reply connection.number command.Begin said.NotBegun w)) is
-
-module _ (a : Held) (number : ℕ) (connection : Connection) (found : connection_of number (work_of a).state ≡ Some connection) where
-  pub not_begun : (b : Held) → has_room connection (work_of a).state ≡ false → Does a b (reply number command.Begin said.NotBegun (work_of a)) → Does a b (begin connection (work_of a))
-  not_begun b full does = subst (Does a b) (sym (begins_so connection (work_of a) false full)) (subst (λ n. Does a b (reply n command.Begin said.NotBegun (work_of a))) (sym (found-number number (work_of a).state.connections connection found)) does)
-
-  pub begun_all : (b c : Held) (key : Key) → has_room connection (work_of a).state ≡ true → key ≡ next_key (work_of a).state.head connection → Does a b (make origin.Root connection (work_of a)) → Does b c (reply number command.Begin (said.Begun key) (work_of b)) → Does a c (begin connection (work_of a))
-  begun_all b c key room next first second =
-      subst (Does a c) (sym (begins_so connection (work_of a) true room))
-      (subst (λ n. Does a c (reply n command.Begin (said.Begun (next_key (work_of a).state.head connection)) (make origin.Root connection (work_of a)))) (sym (found-number number (work_of a).state.connections connection found))
-      (subst (λ k. Does a c (reply number command.Begin (said.Begun k) (make origin.Root connection (work_of a)))) next
-      (then a b c (reply number command.Begin (said.Begun key)) _ first second)))
-
-  pub boxes_enough : has_room connection (work_of a).state ≡ true → length (work_of a).state.head.branches ≤ length connection.boxes
-  boxes_enough room = grind (arith, nat_tests, room)
+pub boxes_enough : (a : Held) (connection : Connection) → has_room connection (work_of a).state ≡ true → length (work_of a).state.head.branches ≤ length connection.boxes
+boxes_enough a connection room = grind (arith, nat_tests, room)
 
 -- making a transaction takes no line
-pub room_made : (a b : Held) (from : Origin) (connection : Connection) → Does a b (make from connection (work_of a)) → 0 < a.making.free → 0 < b.making.free
+pub room_made : (a b : Held) (from : Origin) (connection : Connection) → Does a b (make from connection (work_of a)) → b.making.free ≡ a.making.free
 unfolding make
-room_made a b from connection does enough = let free = same_room a b (make from connection (work_of a)) does refl in omega (arith, free, enough)
+room_made a b from connection does = same_room a b (make from connection (work_of a)) does refl
+
+module _ (a : Held) (from : Origin) (connection : Connection) (room : Bool) (is : has_room connection (work_of a).state ≡ room) where
+  made_so : make_where_room from connection (work_of a) ≡ cond room (make from connection (work_of a)) (work_of a)
+  made_so = ap (λ b. cond b (make from connection (work_of a)) (work_of a)) is
+
+  key_so : key_where_room connection (work_of a).state ≡ cond room (Some (next_key (work_of a).state.head connection)) None
+  key_so = ap (λ b. cond b (Some (next_key (work_of a).state.head connection)) None) is
+
+  pub made_there : (b : Held) → room ≡ true → Does a b (make from connection (work_of a)) → Does a b (make_where_room from connection (work_of a))
+  made_there b so does = subst (Does a b) (sym (made_so ∙ ap (λ r. cond r (make from connection (work_of a)) (work_of a)) so)) does
+
+  pub made_nowhere : room ≡ false → Does a a (make_where_room from connection (work_of a))
+  made_nowhere so = subst (Does a a) (sym (made_so ∙ ap (λ r. cond r (make from connection (work_of a)) (work_of a)) so)) (nothing a)
+
+  pub key_there : (key : Key) → room ≡ true → key ≡ next_key (work_of a).state.head connection → Some key ≡ key_where_room connection (work_of a).state
+  key_there key so same = ap Some same ∙ sym (key_so ∙ ap (λ r. cond r (Some (next_key (work_of a).state.head connection)) None) so)
+
+  pub key_nowhere : room ≡ false → None ≡ key_where_room connection (work_of a).state
+  key_nowhere so = sym (key_so ∙ ap (λ r. cond r (Some (next_key (work_of a).state.head connection)) None) so)
+
+-- What is answered to BEGIN, and to PUSH of a transaction that is not known
+
+module _ (a b c : Held) (number : ℕ) (connection : Connection) (found : connection_of number (work_of a).state ≡ Some connection) (command : CommandName) (made : Key → Said) (full : Said) (from : Origin)
+    (first : Does a b (make_where_room from connection (work_of a))) where
+  -- where there is room, or there is none
+  abbrev answered : Bool → Work
+  answered room = cond room (reply connection.number command (made (next_key (work_of a).state.head connection)) (make from connection (work_of a))) (reply connection.number command full (work_of a))
+
+  pub answers_made : (key : Key) → Some key ≡ key_where_room connection (work_of a).state → Does b c (reply number command (made key) (work_of b)) → Does a c (answered (has_room connection (work_of a).state))
+  answers_made key is second = step (has_room connection (work_of a).state) refl where
+    step : (room : Bool) → has_room connection (work_of a).state ≡ room → Does a c (answered room)
+    step true room =
+        let same : key ≡ next_key (work_of a).state.head connection = same_Some key (next_key (work_of a).state.head connection) (is ∙ key_so a from connection true room) in
+        subst (λ n. Does a c (reply n command (made (next_key (work_of a).state.head connection)) (make from connection (work_of a)))) (sym (found-number number (work_of a).state.connections connection found))
+        (subst (λ k. Does a c (reply number command (made k) (make from connection (work_of a)))) same
+        (then a b c (reply number command (made key)) _ (subst (Does a b) (made_so a from connection true room) first) second))
+    step false room = absurd (none-some key (sym (is ∙ key_so a from connection false room)))
+
+  pub answers_full : None ≡ key_where_room connection (work_of a).state → Does b c (reply number command full (work_of b)) → Does a c (answered (has_room connection (work_of a).state))
+  answers_full is second = step (has_room connection (work_of a).state) refl where
+    step : (room : Bool) → has_room connection (work_of a).state ≡ room → Does a c (answered room)
+    step true room = absurd (none-some (next_key (work_of a).state.head connection) (is ∙ key_so a from connection true room))
+    step false room =
+        subst (λ n. Does a c (reply n command full (work_of a))) (sym (found-number number (work_of a).state.connections connection found))
+        (then a b c (reply number command full) _ (subst (Does a b) (made_so a from connection false room) first) second)
+
+module _ (a b c : Held) (number : ℕ) (connection : Connection) (found : connection_of number (work_of a).state ≡ Some connection) (first : Does a b (make_where_room origin.Root connection (work_of a))) where
+  pub begins_made : (key : Key) → Some key ≡ key_where_room connection (work_of a).state → Does b c (reply number command.Begin (said.Begun key) (work_of b)) → Does a c (begin connection (work_of a))
+  unfolding begin
+  begins_made key is second = answers_made a b c number connection found command.Begin said.Begun said.NotBegun origin.Root first key is second
+
+  pub begins_full : None ≡ key_where_room connection (work_of a).state → Does b c (reply number command.Begin said.NotBegun (work_of b)) → Does a c (begin connection (work_of a))
+  unfolding begin
+  begins_full is second = answers_full a b c number connection found command.Begin said.Begun said.NotBegun origin.Root first is second
+
+module _ (a b c : Held) (number : ℕ) (connection : Connection) (found : connection_of number (work_of a).state ≡ Some connection) (peer : Option (List ℕ)) (superior : List ℕ) (there : peer ≡ peer_of number (work_of a).state) (first : Does a b (make_where_room (origin.Subordinate peer superior) connection (work_of a))) where
+  from_peer : Does a b (make_where_room (origin.Subordinate connection.peer superior) connection (work_of a))
+  from_peer = subst (λ p. Does a b (make_where_room (origin.Subordinate p superior) connection (work_of a))) (there ∙ ap (λ o. option_and_then (λ (d : Connection). d.peer) o) found) first
+
+  pub pushes_made : (key : Key) → Some key ≡ key_where_room connection (work_of a).state → Does b c (reply number command.Push (said.Pushed key) (work_of b)) → Does a c (push_new superior connection (work_of a))
+  pushes_made key is second = answers_made a b c number connection found command.Push said.Pushed said.NotPushed (origin.Subordinate connection.peer superior) from_peer key is second
+
+  pub pushes_full : None ≡ key_where_room connection (work_of a).state → Does b c (reply number command.Push said.NotPushed (work_of b)) → Does a c (push_new superior connection (work_of a))
+  pushes_full is second = answers_full a b c number connection found command.Push said.Pushed said.NotPushed (origin.Subordinate connection.peer superior) from_peer is second
+
+-- the peer was taken before
+module _ (a : Held) (made : Made) (left : made ≡ record a.making { peer = None }) where
+  pub took_peer : (b : Held) (rule : Work → Work) → Does (record a { making = made }) b (rule (work_of (record a { making = made }))) → Does a b (rule (work_of a))
+  took_peer b rule does =
+      let d : Does (record a { making = record a.making { peer = None } }) b (rule (work_of a)) = subst (λ m. Does (record a { making = m }) b (rule (work_of (record a { making = m })))) left does in
+      record { own = d.own; others = d.others; realm = d.realm; count = d.count; connections = d.connections; transactions = d.transactions; lines = d.lines; outcome = d.outcome }
+
+  pub still_able : (number : ℕ) → MayMake number a → MayMake number (record a { making = made })
+  still_able number able = subst (λ m. MayMake number (record a { making = m })) (sym left) (λ connection found room. let can = able connection found room in record { made = can.made; number = can.number; epoch = can.epoch; place = can.place; room = can.room })
+
+-- PUSH
+
+module _ (a b : Held) (number : ℕ) (connection : Connection) (found : connection_of number (work_of a).state ≡ Some connection) (here : Connection) (there : connection_of number (work_of a).state ≡ Some here) (superior : List ℕ) where
+  abbrev known : Connection → Option Transaction
+  known connection = find (is_known connection.peer superior) (work_of a).state.transactions
+
+  push_so : (known_one : Option Transaction) → known connection ≡ known_one → Does a b (option_map_or (λ t. reply connection.number command.Push (said.AlreadyPushed t.key) (work_of a)) known_one (push_new superior connection (work_of a))) → Does a b (push superior connection (work_of a))
+  unfolding push
+  push_so known_one is does = subst (λ o. Does a b (option_map_or (λ t. reply connection.number command.Push (said.AlreadyPushed t.key) (work_of a)) o (push_new superior connection (work_of a)))) (sym is) does
+
+  same_known : known here ≡ known connection
+  same_known = ap known (same_Some here connection (sym there ∙ found))
+
+  pub pushed_already : (key : Key) → Some key ≡ option_map (λ (t : Transaction). t.key) (known here) → Does a b (reply number command.Push (said.AlreadyPushed key) (work_of a)) → Does a b (push superior connection (work_of a))
+  pushed_already key is does = step (known connection) refl (is ∙ ap (option_map (λ (t : Transaction). t.key)) same_known) where
+    step : (o : Option Transaction) → known connection ≡ o → Some key ≡ option_map (λ (t : Transaction). t.key) o → Does a b (push superior connection (work_of a))
+    step None at same = absurd (none-some key (sym same))
+    step (Some t) at same = push_so (Some t) at
+        (subst (λ n. Does a b (reply n command.Push (said.AlreadyPushed t.key) (work_of a))) (sym (found-number number (work_of a).state.connections connection found))
+        (subst (λ k. Does a b (reply number command.Push (said.AlreadyPushed k) (work_of a))) (same_Some key t.key same) does))
+
+  pub pushed_new : None ≡ option_map (λ (t : Transaction). t.key) (known here) → Does a b (push_new superior connection (work_of a)) → Does a b (push superior connection (work_of a))
+  pushed_new is does = step (known connection) refl (is ∙ ap (option_map (λ (t : Transaction). t.key)) same_known) where
+    step : (o : Option Transaction) → known connection ≡ o → None ≡ option_map (λ (t : Transaction). t.key) o → Does a b (push superior connection (work_of a))
+    step None at same = push_so None at does
+    step (Some t) at same = absurd (none-some t.key same)
+
+pub ruleset pushes = (pushed_already, pushed_new)
 
 -- there is room, and what it takes
 module _ (a : Held) (number boxes : ℕ) (room : Bool) (here : Connection) (there : connection_of number (work_of a).state ≡ Some here) (counted : boxes ≡ length here.boxes)
@@ -148,4 +239,4 @@ took_room a b made number key room left is does =
     subst (λ (r : TransactionRoom). Does a b (change number (making r.party key) (work_of a))) is
     (record { own = d.own; others = d.others; realm = d.realm; count = d.count; connections = d.connections; transactions = d.transactions; lines = d.lines; outcome = d.outcome })
 
-pub ruleset begins = (not_begun, room_made)
+pub ruleset making_where_room = (room_made, boxes_enough)

@@ -36,7 +36,7 @@ use Rattle.tip_machine.proofs.Counting.{entered_below}
 use Rattle.tip_machine.proofs.Walks.{found-number}
 use Rattle.tip_core.proofs.Openings.{first_found}
 use Rattle.tip_core.proofs.Works.{then}
-use Rattle.tip_core.specs.Needs.{HasNeeds, IsReady, begins, begins_on, happened, lines_needed, room_needed, room_on, transactions_for}
+use Rattle.tip_core.specs.Needs.{HasNeeds, IsReady, begins, begins_on, happened, lines_needed, peer_needed, room_needed, room_on, transactions_for}
 use Rattle.tip_core.specs.Rooms.{room_for}
 use Rattle.tip_core.specs.Works.{CanMake, Does, Held, IsIdle, MayMake, lines_as, lines_at, lines_for, lines_of, work_of}
 
@@ -155,6 +155,17 @@ needed_before (AskPush seat id) state = refl
 needed_before (AskPull seat superior) state = refl
 needed_before (Resume id) state = refl
 
+peer_before : (event : Event) (state : State) → peer_needed event (entered state).state ≡ peer_needed event state
+peer_before (Open boxes) state = refl
+peer_before (Dial address purpose boxes) state = refl
+peer_before (Line seat heard) state = refl
+peer_before (Voted party) state = refl
+peer_before (Settled party) state = refl
+peer_before (Lost seat) state = refl
+peer_before (AskPush seat id) state = refl
+peer_before (AskPull seat superior) state = refl
+peer_before (Resume id) state = refl
+
 module _ (a b : Held) (event : Event) (here : a.realm < length a.heads.items) (counts : HasCounts (work_of a).state) (silent : a.making.answer ≡ silence) (needs : HasNeeds event a) (open_is : is_open (work_of a).state ≡ true)
     (does : Does a b (entered (work_of a).state)) (rest : b ≡ record a { heads = b.heads; making = record a.making { answer = b.making.answer } }) where
   state_is : (work_of b).state ≡ (entered (work_of a).state).state
@@ -187,6 +198,7 @@ module _ (a b : Held) (event : Event) (here : a.realm < length a.heads.items) (c
     lines = let same = ap (lines_needed event) state_is ∙ needed_before event (work_of a).state in let free : b.making.free ≡ a.making.free = ap (λ (h : Held). h.making.free) rest in let enough = needs.lines in omega (arith, same, free, enough);
     connections = let free : b.connections.free ≡ a.connections.free = ap (λ (h : Held). h.connections.free) rest in let enough = needs.connections in omega (arith, free, enough);
     able = λ number begins_there c there room. able_at number begins_there c (sym (ap (connection_of number) state_is) ∙ there) (sym (ap (has_room c) state_is) ∙ room);
+    peer = ap (λ (h : Held). h.making.peer) rest ∙ needs.peer ∙ sym (peer_before event (work_of a).state) ∙ sym (ap (peer_needed event) state_is);
     idle = record { work = ap (λ w. w.answer.work) does.own; spent = ap (λ w. w.answer.spent) does.own };
   }
 

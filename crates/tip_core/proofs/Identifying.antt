@@ -23,9 +23,9 @@ use Rattle.tip_machine.specs.Requests.{owner}
 use Rattle.tip_machine.specs.States.{identified_by, transaction_of}
 use Rattle.tip_machine.specs.declared.head.Head.{Head}
 use Rattle.tip_txn.specs.Transactions.{exists_in}
-use Rattle.tip_machine.specs.Transactions.{has_id, has_key}
+use Rattle.tip_machine.specs.Transactions.{has_id, has_key, is_known}
 use Rattle.tip_machine.specs.Types.{Transaction, seen}
-use Rattle.tip_core.specs.Works.{Held, HeldTransaction, is_keyed, is_named, work_of}
+use Rattle.tip_core.specs.Works.{Held, HeldTransaction, is_keyed, is_named, is_pushed, work_of}
 use Rattle.tip_core.proofs.Beginnings.{head_there}
 use Rattle.tip_core.proofs.Works.{find-seen}
 
@@ -104,6 +104,20 @@ module _ (held : Held) (id : List ℕ) (place : ℕ) (item : HeldTransaction) (h
       ∙ sym (find-seen seen (has_key item.key) (of held.transactions held.realm) ∙ ap (option_map seen) (found_first held.transactions held.realm (is_keyed item.key) place named_key ∙ is))
 
 pub ruleset identifying = (named_key, named_same, sought_here, sought_none)
+
+-- By the superior that pushed it, or that it was pulled from
+
+module _ (held : Held) (peer : Option (List ℕ)) (superior : List ℕ) where
+  known_so : (found : Option HeldTransaction) → find (is_pushed peer superior) (of held.transactions held.realm) ≡ found → option_map (λ (t : Transaction). t.key) (find (is_known peer superior) (work_of held).state.transactions) ≡ option_map (λ (t : Transaction). t.key) (option_map seen found)
+  known_so found is = ap (option_map (λ (t : Transaction). t.key)) (find-seen seen (is_known peer superior) (of held.transactions held.realm) ∙ ap (option_map seen) is)
+
+  pub known_none : find (is_pushed peer superior) (of held.transactions held.realm) ≡ None → None ≡ option_map (λ (t : Transaction). t.key) (find (is_known peer superior) (work_of held).state.transactions)
+  known_none none = sym (known_so None none)
+
+  pub known_there : (place : ℕ) (item : HeldTransaction) → StandsAt held.transactions held.realm (is_pushed peer superior) place → item_at held.transactions place ≡ Some item → Some item.key ≡ option_map (λ (t : Transaction). t.key) (find (is_known peer superior) (work_of held).state.transactions)
+  known_there place item here is = sym (known_so (Some item) (found_first held.transactions held.realm (is_pushed peer superior) place here ∙ is))
+
+pub ruleset knowing = (known_none, known_there)
 
 -- By a party
 

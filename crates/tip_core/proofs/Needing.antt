@@ -1,5 +1,5 @@
 -- What an event needs is counted on the tables.
-use Rattle.std.proofs.Common.{◌≡◌, ◌<◌, ◌+◌, ℕ, Bool, true, false, cond, Option, Some, None, refl, ap, arith, subst, sym, ◌∙◌}
+use Rattle.std.proofs.Common.{◌≡◌, ◌<◌, ◌+◌, ℕ, List, Bool, true, false, cond, Option, Some, None, refl, ap, arith, subst, sym, ◌∙◌}
 use Rattle.std.specs.Prelude.{find, nat_lt, option_map}
 use Rattle.std.specs.Option.{option_and_then, option_map_or}
 use Rattle.std.proofs.lemmas.Bool.Decides.{nat_tests}
@@ -21,7 +21,7 @@ use Rattle.tip_machine.proofs.Counting.{entered_below}
 use Rattle.tip_machine.proofs.Walks.{found-number}
 use Rattle.tip_core.specs.Needs.{begins_on, room_needed, room_on}
 use Rattle.tip_core.specs.Rooms.{TransactionRoom, room_for}
-use Rattle.tip_core.specs.Works.{Held, HeldTransaction, is_keyed, lines_as, lines_at, lines_for, lines_of, work_of}
+use Rattle.tip_core.specs.Works.{Held, HeldTransaction, is_keyed, lines_as, lines_at, lines_for, lines_of, peer_of, work_of}
 
 pub lines_there : (held : Held) (number place : ℕ) (item : Connection) → StandsAt held.connections held.realm (has_number number) place → item_at held.connections place ≡ Some item → (lines : ℕ) → lines ≡ lines_as item.role (work_of held).state → lines ≡ lines_at number (work_of held).state
 lines_there held number place item here is lines same = same ∙ sym (ap (λ o. option_map_or (λ c. lines_as c.role (work_of held).state) o 0) (standing_number held number place item here is))
@@ -37,6 +37,16 @@ pub lines_with_owner : (held : Held) (party : PartyNotes) (key : Key) (place : �
 lines_with_owner held party key place here same lines is =
     let found = keyed_there held key place here in
     is ∙ ap (λ k. lines_for k (work_of held).state) (key_is held key found.0 found.1) ∙ sym (ap (λ o. lines_of o (work_of held).state) (same ∙ found.1))
+
+-- where the other side of a connection is
+
+pub peer_there : (held : Held) (number place : ℕ) (item : Connection) → StandsAt held.connections held.realm (has_number number) place → item_at held.connections place ≡ Some item → (peer : Option (List ℕ)) → peer ≡ item.peer → peer ≡ peer_of number (work_of held).state
+peer_there held number place item here is peer same = same ∙ sym (ap (λ o. option_and_then (λ c. c.peer) o) (standing_number held number place item here is))
+
+pub peer_nowhere : (held : Held) (number : ℕ) → connection_of number (work_of held).state ≡ None → None ≡ peer_of number (work_of held).state
+peer_nowhere held number none = sym (ap (λ o. option_and_then (λ (c : Connection). c.peer) o) none)
+
+pub ruleset peering = (peer_there, peer_nowhere)
 
 -- A transaction that may begin
 

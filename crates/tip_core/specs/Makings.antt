@@ -11,6 +11,8 @@ pub record Made : Type 0 where
   pub free : ℕ
   -- room for a transaction, where the event may begin one
   pub room : Option TransactionRoom
+  -- where the other side of the event's connection is, for what is made of it
+  pub peer : Option (List ℕ)
 
 -- these items on a connection
 abbrev pub items_on : ℕ → List Item → List Sent

@@ -1,5 +1,5 @@
 -- What an event needs, made before it happens, and what it comes to where it has that.
-use Rattle.std.specs.Prelude.{ℕ, ◌≡◌, ◌+◌, ◌<◌, ◌≤◌, Bool, true, false, Option, Some, None, is_some, length, if◌then◌else◌}
+use Rattle.std.specs.Prelude.{ℕ, ◌≡◌, ◌+◌, ◌<◌, ◌≤◌, Bool, true, false, List, Option, Some, None, is_some, length, if◌then◌else◌}
 use Rattle.std.specs.Option.{option_and_then}
 use Rattle.tip_line.specs.declared.command.Command.{Command as ACommand}
 use Rattle.tip_line.specs.declared.command.Command.TheVariants as commands
@@ -16,7 +16,7 @@ use Rattle.tip_machine.specs.declared.event.Heard.{Heard}
 use Rattle.tip_machine.specs.declared.event.Heard.TheVariants.{Command}
 use Rattle.tip_machine.specs.declared.event.Outcome.{Outcome}
 use Rattle.tip_core.specs.Rooms.{TransactionRoom, room_for}
-use Rattle.tip_core.specs.Works.{Held, IsIdle, MayMake, lines_at, lines_of, work_of}
+use Rattle.tip_core.specs.Works.{Held, IsIdle, MayMake, lines_at, lines_of, peer_of, work_of}
 
 -- how many lines and closings an answer may have: one for each connection on the transaction, and two on the event's own
 abbrev pub lines_needed : Event → State → ℕ
@@ -31,9 +31,10 @@ abbrev pub connections_for : Event → ℕ
 connections_for (Open boxes) = 1
 connections_for other = 0
 
--- is it BEGIN?
+-- may a transaction begin?
 abbrev pub begins : Heard → Bool
 begins (Command commands.Begin) = true
+begins (Command (commands.Push superior)) = true
 begins other = false
 
 -- the number of the connection on which an event may begin a transaction
@@ -52,11 +53,17 @@ room_on number state = option_and_then (λ connection. if has_room connection st
 abbrev pub room_needed : Event → State → Option TransactionRoom
 room_needed event state = option_and_then (λ number. room_on number state) (begins_on event)
 
+-- where the other side of the event's connection is
+abbrev pub peer_needed : Event → State → Option (List ℕ)
+peer_needed (Line seat heard) state = peer_of seat.number state
+peer_needed other state = None
+
 -- what a Room has
 pub record Granted : Type 0 where
   -- for so many lines and closings
   pub lines : ℕ
   pub transaction : Option TransactionRoom
+  pub peer : Option (List ℕ)
   -- the change of its row that the event wants
   pub change : Option Change
 
@@ -66,6 +73,7 @@ pub record Suits (state : State) (free_connections free_transactions : ℕ) (eve
   pub connections : connections_for event ≤ free_connections
   pub transactions : transactions_for event ≤ free_transactions
   pub transaction : is_open state ≡ true → room.transaction ≡ room_needed event state
+  pub peer : room.peer ≡ peer_needed event state
   pub change : room.change ≡ wants state event
 
 -- the work of an event has what it needs
@@ -74,6 +82,7 @@ pub record HasNeeds (event : Event) (held : Held) : Type 0 where
   pub connections : connections_for event ≤ held.connections.free
   pub transactions : transactions_for event ≤ held.transactions.free
   pub transaction : is_open (work_of held).state ≡ true → held.making.room ≡ room_needed event (work_of held).state
+  pub peer : held.making.peer ≡ peer_needed event (work_of held).state
 
 -- the same once the event has its entry
 pub record IsReady (event : Event) (held : Held) : Type 0 where
@@ -82,6 +91,7 @@ pub record IsReady (event : Event) (held : Held) : Type 0 where
   pub lines : lines_needed event (work_of held).state ≤ held.making.free
   pub connections : connections_for event ≤ held.connections.free
   pub able : (number : ℕ) → begins_on event ≡ Some number → MayMake number held
+  pub peer : held.making.peer ≡ peer_needed event (work_of held).state
   pub idle : IsIdle held.making.answer
 
 -- what an event comes to, before its lines are put in order

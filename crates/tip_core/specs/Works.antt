@@ -1,14 +1,15 @@
 -- How the tables stand for the work of an event in its realm.
-use Rattle.std.specs.Prelude.{ℕ, ◌≡◌, ◌≢◌, ◌+◌, ◌<◌, ◌∷◌, ◌++◌, Bool, true, false, List, [], Option, None, Some, filter, length, map, slice_index_or}
+use Rattle.std.specs.Prelude.{ℕ, ◌≡◌, ◌≢◌, ◌+◌, ◌<◌, ◌∷◌, ◌++◌, Bool, true, false, List, [], Option, None, Some, filter, length, map, slice_index_or, if◌then◌else◌}
 use Rattle.std.specs.Option.{option_and_then, option_map_or}
 use Rattle.tip_branch.specs.Notes.{PartyNotes}
 use Rattle.tip_branch.specs.declared.member.Errand.TheVariants as errand
 use Rattle.tip_rows.specs.Keys.{Key}
 use Rattle.tip_table.specs.Kept.{Kept, capacity, item_at, of}
+use Rattle.tip_machine.specs.Commands.{make}
 use Rattle.tip_machine.specs.Connections.{is_on}
 use Rattle.tip_machine.specs.Counts.{HasCounts}
 use Rattle.tip_machine.specs.States.{State, Work, connection_of, has_room, transaction_of}
-use Rattle.tip_machine.specs.Transactions.{has_id, has_key, next_key}
+use Rattle.tip_machine.specs.Transactions.{has_id, has_key, is_known, next_key}
 use Rattle.tip_machine.specs.Types.{Answer, Connection, PartyPlace, Transaction, seen}
 use Rattle.tip_machine.specs.declared.head.Head.{Head}
 use Rattle.tip_machine.specs.declared.connection.Role.{Role}
@@ -49,6 +50,10 @@ no_head = record {
   given = 0;
   entries = 0;
 }
+
+-- was this transaction pushed or pulled from that manager under that identifier, and has it no outcome yet?
+abbrev pub is_pushed : Option (List ℕ) → List ℕ → HeldTransaction → Bool
+is_pushed peer superior transaction = is_known peer superior (seen transaction)
 
 -- one realm
 abbrev pub realm_of : ℕ → Held → State
@@ -110,6 +115,10 @@ lines_at number state = option_map_or (λ connection. lines_as connection.role s
 -- the same, of a transaction, if there is one
 abbrev pub lines_of : Option Transaction → State → ℕ
 lines_of transaction state = option_map_or (λ transaction. lines_for transaction.key state) transaction 0
+
+-- where the other side of the connection of a number is
+abbrev pub peer_of : ℕ → State → Option (List ℕ)
+peer_of number state = option_and_then (λ connection. connection.peer) (connection_of number state)
 
 -- the party, where it is with its transaction
 abbrev pub party_at : PartyPlace → Option PartyNotes
@@ -185,3 +194,11 @@ pub record CanMake (held : Held) (connection : Connection) : Type 0 where
 -- the same of the connection of a number, where the realm has room
 abbrev pub MayMake : ℕ → Held → Type 0
 MayMake number held = (connection : Connection) → connection_of number (work_of held).state ≡ Some connection → has_room connection (work_of held).state ≡ true → CanMake held connection
+
+-- a transaction is made on a connection, where the realm has room
+abbrev pub make_where_room : Origin → Connection → Work → Work
+make_where_room from connection work = if has_room connection work.state then make from connection work else work
+
+-- the key of it
+abbrev pub key_where_room : Connection → State → Option Key
+key_where_room connection state = if has_room connection state then Some (next_key state.head connection) else None

@@ -1,16 +1,16 @@
-//! Transactions that begin (RFC 2371, section 13, BEGIN).
+//! Transactions that begin (RFC 2371, section 13, BEGIN and PUSH).
 ghost use Rattle.std.specs.Prelude.{◌≡◌, ◌+◌, ◌≤◌, ◌<◌, ◌&&◌, Some, length, nat_le, nat_lt, take};
 ghost use Rattle.tip_branch.specs.Members.{fresh_members};
 ghost use Rattle.tip_branch.specs.Notes.{idle_party};
 ghost use Rattle.tip_table.specs.Kept.{StandsAt};
 ghost use Rattle.tip_machine.specs.Changes.{change};
-ghost use Rattle.tip_machine.specs.Commands.{begin, make, making};
+ghost use Rattle.tip_machine.specs.Commands.{begin, make, making, push, push_new};
 ghost use Rattle.tip_machine.specs.Connections.{has_number};
 ghost use Rattle.tip_machine.specs.States.{connection_of};
 ghost use Rattle.tip_machine.specs.Transactions.{next_key};
 ghost use Rattle.tip_machine.specs.Types.{seen, Connection as AConnection};
 ghost use Rattle.tip_core.specs.Rooms.{room_for};
-ghost use Rattle.tip_core.specs.Works.{beginning, Does, MayMake, work_of};
+ghost use Rattle.tip_core.specs.Works.{beginning, Does, key_where_room, make_where_room, MayMake, peer_of, work_of};
 
 use crate::making::Making;
 use crate::transaction_room::TransactionRoom;
@@ -22,7 +22,6 @@ use tip_rows::Key;
 
 impl Work<Connection, Transaction, Making> {
     /// BEGIN: a transaction of our own, where the realm has room.
-    #[tactic(auto, using(crate::proofs::Beginnings::begins))]
     pub fn begin(&mut self, number: u32, place: usize)
         requires here { self.old.realm < length self.old.heads.items }
         requires stands { StandsAt self.old.connections self.old.realm (has_number number) place }
@@ -30,14 +29,65 @@ impl Work<Connection, Transaction, Making> {
         requires lines { 0 < self.old.making.free }
         ensures { (connection : AConnection) → connection_of number (work_of self.old).state ≡ Some connection → Does self.old self.new (begin connection (work_of self.old)) }
     {
+        match self.make_where_room(number, place, Origin::Root) {
+            Some(key) => self.reply(number, place, CommandName::Begin, Said::Begun(key)),
+            None => self.reply(number, place, CommandName::Begin, Said::NotBegun),
+        }
+    }
+
+    /// PUSH: the part that is there already, or a new one.
+    #[tactic(auto, using(crate::proofs::Beginnings::pushes))]
+    pub fn push(&mut self, number: u32, place: usize, superior: Id)
+        requires here { self.old.realm < length self.old.heads.items }
+        requires stands { StandsAt self.old.connections self.old.realm (has_number number) place }
+        requires able { MayMake number self.old }
+        requires peer { self.old.making.peer ≡ peer_of number (work_of self.old).state }
+        requires lines { 0 < self.old.making.free }
+        ensures { (connection : AConnection) → connection_of number (work_of self.old).state ≡ Some connection → Does self.old self.new (push superior connection (work_of self.old)) }
+    {
+        let connection = self.connection(number, place);
+        match self.known(&connection.peer, &superior) {
+            Some(key) => self.reply(number, place, CommandName::Push, Said::AlreadyPushed(key)),
+            None => self.push_new(number, place, superior),
+        }
+    }
+
+    /// PUSH of a transaction that is not known: it becomes a part of the primary's, where the realm has room.
+    fn push_new(&mut self, number: u32, place: usize, superior: Id)
+        requires here { self.old.realm < length self.old.heads.items }
+        requires stands { StandsAt self.old.connections self.old.realm (has_number number) place }
+        requires able { MayMake number self.old }
+        requires peer { self.old.making.peer ≡ peer_of number (work_of self.old).state }
+        requires lines { 0 < self.old.making.free }
+        ensures { (connection : AConnection) → connection_of number (work_of self.old).state ≡ Some connection → Does self.old self.new (push_new superior connection (work_of self.old)) }
+    {
+        let address = self.making.take_peer();
+        let origin = Origin::Subordinate { address, superior };
+        match self.make_where_room(number, place, origin) {
+            Some(key) => self.reply(number, place, CommandName::Push, Said::Pushed(key)),
+            None => self.reply(number, place, CommandName::Push, Said::NotPushed),
+        }
+    }
+
+    /// A transaction is made on a connection, of its first boxes, where the realm has room. Its key is given.
+    #[tactic(auto, using(crate::proofs::Beginnings::making_where_room))]
+    fn make_where_room(&mut self, number: u32, place: usize, origin: Origin) -> Option<Key>
+        requires here { self.old.realm < length self.old.heads.items }
+        requires stands { StandsAt self.old.connections self.old.realm (has_number number) place }
+        requires able { MayMake number self.old }
+        ensures key { (connection : AConnection) → connection_of number (work_of self.old).state ≡ Some connection → result ≡ key_where_room connection (work_of self.old).state }
+        ensures does { (connection : AConnection) → connection_of number (work_of self.old).state ≡ Some connection → Does self.old self.new (make_where_room origin connection (work_of self.old)) }
+        ensures stands { StandsAt self.new.connections self.new.realm (has_number number) place }
+        ensures lines { self.new.making.free ≡ self.old.making.free }
+    {
         let connection = self.connection(number, place);
         let made = connection.made;
         if !self.has_room(connection.boxes.len()) {
-            return self.reply(number, place, CommandName::Begin, Said::NotBegun);
+            return None;
         }
         let key = self.next_key(number, made);
-        self.make(number, place, key, Origin::Root);
-        self.reply(number, place, CommandName::Begin, Said::Begun(key));
+        self.make(number, place, key, origin);
+        Some(key)
     }
 
     /// Whether a transaction is free, and so many boxes are enough for each branch to have one.

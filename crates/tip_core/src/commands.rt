@@ -2,7 +2,6 @@
 ghost use Rattle.std.specs.Prelude.{◌≡◌, ◌≤◌, ◌<◌, ◌+◌, ◌&&◌, Some, length, nat_le, true};
 ghost use Rattle.tip_line.specs.Command.{name_of};
 ghost use Rattle.tip_line.specs.declared.command.Command.TheVariants as asked;
-ghost use Rattle.tip_line.specs.declared.command.CommandName.TheVariants.{Begin};
 ghost use Rattle.tip_conn.specs.declared.state.Admit.TheVariants.{Serve};
 ghost use Rattle.tip_table.specs.Kept.{StandsAt};
 ghost use Rattle.tip_machine.specs.Commands.{commanded, identify, query, serve, serve_if, superior_role};
@@ -15,7 +14,9 @@ ghost use Rattle.tip_machine.specs.States.{Attempt, connection_of};
 ghost use Rattle.tip_machine.specs.Steps.{chosen};
 ghost use Rattle.tip_machine.specs.Types.{Connection as AConnection};
 ghost use Rattle.tip_machine.specs.declared.event.Change.{Change};
-ghost use Rattle.tip_core.specs.Works.{Does, IsIdle, lines_at, lines_for, MayMake, work_of};
+ghost use Rattle.tip_machine.specs.declared.event.Heard.TheVariants.{Command as ACommand};
+ghost use Rattle.tip_core.specs.Needs.{begins};
+ghost use Rattle.tip_core.specs.Works.{Does, IsIdle, lines_at, lines_for, MayMake, peer_of, work_of};
 
 use crate::making::Making;
 use crate::work::Work;
@@ -31,7 +32,8 @@ impl Work<Connection, Transaction, Making> {
     pub fn command(&mut self, number: u32, place: usize, command: Command)
         requires here { self.old.realm < length self.old.heads.items }
         requires stands { StandsAt self.old.connections self.old.realm (has_number number) place }
-        requires able { name_of command ≡ Begin → MayMake number self.old }
+        requires able { begins (ACommand command) ≡ true → MayMake number self.old }
+        requires peer { self.old.making.peer ≡ peer_of number (work_of self.old).state }
         requires lines { lines_at number (work_of self.old).state + 2 ≤ self.old.making.free }
         requires none { IsIdle self.old.making.answer }
         ensures { (connection : AConnection) → connection_of number (work_of self.old).state ≡ Some connection → Does self.old self.new (chosen (commanded today command connection (work_of self.old)) self.old.outcome) }
@@ -47,7 +49,8 @@ impl Work<Connection, Transaction, Making> {
     fn serve_if_served(&mut self, number: u32, place: usize, command: Command)
         requires here { self.old.realm < length self.old.heads.items }
         requires stands { StandsAt self.old.connections self.old.realm (has_number number) place }
-        requires able { name_of command ≡ Begin → MayMake number self.old }
+        requires able { begins (ACommand command) ≡ true → MayMake number self.old }
+        requires peer { self.old.making.peer ≡ peer_of number (work_of self.old).state }
         requires lines { lines_at number (work_of self.old).state + 2 ≤ self.old.making.free }
         requires none { IsIdle self.old.making.answer }
         ensures { (connection : AConnection) → connection_of number (work_of self.old).state ≡ Some connection → Does self.old self.new (chosen (serve_if today Serve command connection (work_of self.old)) self.old.outcome) }
@@ -65,7 +68,8 @@ impl Work<Connection, Transaction, Making> {
         requires here { self.old.realm < length self.old.heads.items }
         requires stands { StandsAt self.old.connections self.old.realm (has_number number) place }
         requires served { is_served (name_of command) ≡ true }
-        requires able { name_of command ≡ Begin → MayMake number self.old }
+        requires able { begins (ACommand command) ≡ true → MayMake number self.old }
+        requires peer { self.old.making.peer ≡ peer_of number (work_of self.old).state }
         requires lines { lines_at number (work_of self.old).state + 2 ≤ self.old.making.free }
         requires none { IsIdle self.old.making.answer }
         ensures { (connection : AConnection) → connection_of number (work_of self.old).state ≡ Some connection → Does self.old self.new (chosen (serve command connection (work_of self.old)) self.old.outcome) }
@@ -78,6 +82,7 @@ impl Work<Connection, Transaction, Making> {
                 secondary: _,
             } => self.greet(number, place, (low, high), primary),
             Command::Begin => self.begin(number, place),
+            Command::Push { superior } => self.push(number, place, superior),
             Command::Prepare => self.obey_prepare(number, place),
             Command::Commit => self.obey_commit(number, place),
             Command::Abort => self.obey_abort(number, place),
@@ -87,9 +92,7 @@ impl Work<Connection, Transaction, Making> {
             }
             Command::Tls => self.reply(number, place, CommandName::Tls, Said::CantTls),
             Command::Error => self.close(number, place),
-            Command::Push { .. } | Command::Pull { .. } | Command::Reconnect { .. } => {
-                unreachable!()
-            }
+            Command::Pull { .. } | Command::Reconnect { .. } => unreachable!(),
         }
     }
 

@@ -1,17 +1,18 @@
 //! Transactions by their identifiers, and by the parties that they gave out.
-ghost use Rattle.std.specs.Prelude.{◌≡◌, ◌↔◌, ◌<◌, false, length, None, IfSome};
+ghost use Rattle.std.specs.Prelude.{◌≡◌, ◌↔◌, ◌<◌, false, find, length, None, IfSome, option_map};
 ghost use Rattle.std.specs.Option.{option_map_or};
 ghost use Rattle.tip_table.specs.Kept.{StandsAt};
 ghost use Rattle.tip_machine.specs.Commands.{exists};
 ghost use Rattle.tip_machine.specs.Requests.{owner};
 ghost use Rattle.tip_machine.specs.States.{identified_by, transaction_of};
+ghost use Rattle.tip_machine.specs.Transactions.{is_known};
 ghost use Rattle.tip_core.specs.Works.{is_keyed, work_of};
 
 use crate::making::Making;
-use crate::query::Named;
+use crate::query::{Known, Named};
 use crate::work::Work;
 use tip_branch::HeldParty;
-use tip_line::{Id, Realm};
+use tip_line::{Address, Id, Realm};
 use tip_machine::{Connection, Transaction};
 use tip_rows::Key;
 
@@ -40,6 +41,18 @@ impl Work<Connection, Transaction, Making> {
         ensures { result.now ≡ (work_of self.now).state.head.name }
     {
         &self.heads[self.realm].name
+    }
+
+    /// The key of the transaction that was pushed or pulled from the manager at an address, under this identifier, and has no
+    /// outcome yet.
+    #[tactic(auto, using(crate::proofs::Identifying::knowing))]
+    pub fn known(&self, peer: &Option<Address>, superior: &Id) -> Option<Key>
+        ensures { result ≡ option_map (λ transaction. transaction.key) (find (is_known peer.now superior.now) (work_of self.now).state.transactions) }
+    {
+        let place = self
+            .transactions
+            .find(self.realm, &Known { peer, superior })?;
+        Some(self.transactions.item(place).key)
     }
 
     /// The transaction that gave a party out in this start, and where it stands.

@@ -10,7 +10,7 @@ use crate::turns::Turns;
 use std::alloc::{AllocError, Global};
 use std::marker::Model;
 use tip_branch::{HeldFresh, HeldParty};
-use tip_line::Refusal;
+use tip_line::{Address, Refusal};
 use tip_machine::{Answer, Event, Item, Seat, Sent, SentLines};
 
 /// The answer as far as it goes, with room for what may still go out.
@@ -26,6 +26,7 @@ pub struct Making {
     unused: Option<HeldFresh>,
     entry: Option<u32>,
     room: Option<TransactionRoom>,
+    peer: Option<Address>,
 }
 
 impl Model for Making {
@@ -38,6 +39,7 @@ impl Model for Making {
       answer = record { refusal = m.refusal; opened = m.opened; sent = m.sent.items; work = m.work; spent = m.spent; unused = m.unused; entry = m.entry };
       free = vec_capacity m.sent - vec_len m.sent;
       room = m.room;
+      peer = m.peer;
     } };
 
     ghost invariant = { λ m. (m.ordered.items ≡ []) × (vec_capacity m.sent ≤ vec_capacity m.ordered) };
@@ -58,18 +60,22 @@ impl Making {
             unused: None,
             entry: None,
             room: None,
+            peer: None,
         }
     }
 
-    /// An answer with nothing in it, which has room for so many lines and closings, and for a transaction if it is given.
+    /// An answer with nothing in it, which has room for so many lines and closings, and for a transaction if it is given. The
+    /// other side of the event's connection is there, if it said where.
     pub fn new(
         alloc: Global,
         lines: usize,
         room: Option<TransactionRoom>,
+        peer: Option<Address>,
     ) -> Result<Making, AllocError>
         ensures answer { IfOk result (λ making. making.answer ≡ silence) }
         ensures lines { IfOk result (λ making. lines ≤ making.free) }
         ensures room { IfOk result (λ making. making.room ≡ room) }
+        ensures peer { IfOk result (λ making. making.peer ≡ peer) }
     {
         let sent = Vec::with_capacity(alloc, lines)?;
         let ordered = Vec::with_capacity(alloc, sent.capacity())?;
@@ -83,6 +89,7 @@ impl Making {
             unused: None,
             entry: None,
             room,
+            peer,
         })
     }
 
@@ -91,6 +98,7 @@ impl Making {
         ensures answer { self.new.answer ≡ record self.old.answer { sent = self.old.answer.sent ++ record { connection = connection; item = item } ∷ [] } }
         ensures free { self.new.free + 1 ≡ self.old.free }
         ensures room { self.new.room ≡ self.old.room }
+        ensures peer { self.new.peer ≡ self.old.peer }
     {
         self.sent.push_reserved(Sent { connection, item });
     }
@@ -105,6 +113,14 @@ impl Making {
             Some(room) => room,
             None => unreachable!(),
         }
+    }
+
+    /// Where the other side of the event's connection is.
+    pub fn take_peer(&mut self) -> Option<Address>
+        ensures taken { result ≡ self.old.peer }
+        ensures left { self.new ≡ record self.old { peer = None } }
+    {
+        self.peer.take()
     }
 
     pub fn refuse(&mut self, why: Refusal)
@@ -186,6 +202,7 @@ impl Making {
             unused,
             entry,
             room: _,
+            peer: _,
         } = self;
         Answer {
             refusal,

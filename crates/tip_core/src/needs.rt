@@ -4,8 +4,8 @@ ghost use Rattle.tip_table.specs.Kept.{of};
 ghost use Rattle.tip_machine.specs.Counts.{HasCounts};
 ghost use Rattle.tip_machine.specs.Steps.{is_open, wants};
 ghost use Rattle.tip_machine.specs.Requests.{owner};
-ghost use Rattle.tip_core.specs.Needs.{Suits, begins_on, connections_for, lines_needed, room_needed, transactions_for};
-ghost use Rattle.tip_core.specs.Works.{lines_as, lines_at, lines_for, lines_of, work_of};
+ghost use Rattle.tip_core.specs.Needs.{Suits, begins_on, connections_for, lines_needed, peer_needed, room_needed, transactions_for};
+ghost use Rattle.tip_core.specs.Works.{lines_as, lines_at, lines_for, lines_of, peer_of, work_of};
 
 use crate::making::Making;
 use crate::query::{Numbered, OnKey};
@@ -14,7 +14,7 @@ use crate::transaction_room::TransactionRoom;
 use crate::work::Work;
 use std::alloc::{AllocError, Global};
 use tip_branch::HeldParty;
-use tip_line::Command;
+use tip_line::{Address, Command};
 use tip_machine::{Change, Connection, Event, Heard, Role, Transaction};
 use tip_rows::Key;
 
@@ -31,8 +31,9 @@ impl Work<Connection, Transaction, Making> {
         self.reserve(event)?;
         let lines = self.lines_needed(event)?;
         let transaction = self.room_to_begin(alloc, event)?;
+        let peer = self.peer_needed(event)?;
         let change = self.wants(alloc, event)?;
-        Room::new(alloc, lines, transaction, change)
+        Room::new(alloc, lines, transaction, peer, change)
     }
 
     /// Makes a place for a connection or a transaction, where the event may add one.
@@ -91,6 +92,34 @@ impl Work<Connection, Transaction, Making> {
         }
         let key = self.next_key(number, connection.made);
         Ok(Some(self.room_for(alloc, key)?))
+    }
+
+    /// Where the other side of the event's connection is, for what may be made of it.
+    fn peer_needed(&self, event: &Event) -> Result<Option<Address>, AllocError>
+        ensures { IfOk result (λ peer. peer ≡ peer_needed event.now (work_of self.now).state) }
+    {
+        match event {
+            Event::Line { seat, heard: _ } => self.peer_of(seat.number),
+            Event::Open { .. }
+            | Event::Dial { .. }
+            | Event::Voted(_)
+            | Event::Settled(_)
+            | Event::Lost { .. }
+            | Event::AskPush { .. }
+            | Event::AskPull { .. }
+            | Event::Resume { .. } => Ok(None),
+        }
+    }
+
+    /// Where the other side of the connection of a number is.
+    #[tactic(auto, using(crate::proofs::Needing::peering))]
+    fn peer_of(&self, number: u32) -> Result<Option<Address>, AllocError>
+        ensures { IfOk result (λ peer. peer ≡ peer_of number (work_of self.now).state) }
+    {
+        match self.connections.find(self.realm, &Numbered { number }) {
+            Some(place) => copy_of(&self.connections.item(place).peer),
+            None => Ok(None),
+        }
     }
 
     /// How many lines and closings the answer may need: one for each connection on the transaction, and two on the event's own.
@@ -164,6 +193,16 @@ impl Work<Connection, Transaction, Making> {
     }
 }
 
+/// The same address, if there is one.
+fn copy_of(address: &Option<Address>) -> Result<Option<Address>, AllocError>
+    ensures { IfOk result (λ copy. copy ≡ address.now) }
+{
+    match address {
+        Some(address) => Ok(Some(address.copy()?)),
+        None => Ok(None),
+    }
+}
+
 /// The number of the connection on which the event may begin a transaction.
 fn begins_on(event: &Event) -> Option<u32>
     ensures { result ≡ begins_on event.now }
@@ -171,7 +210,7 @@ fn begins_on(event: &Event) -> Option<u32>
     match event {
         Event::Line {
             seat,
-            heard: Heard::Command(Command::Begin),
+            heard: Heard::Command(Command::Begin | Command::Push { .. }),
         } => Some(seat.number),
         _ => None,
     }

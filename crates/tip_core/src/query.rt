@@ -3,13 +3,15 @@ ghost use Rattle.std.specs.Prelude.{◌≡◌, ◌==◌, ◌&&◌};
 ghost use Rattle.std.specs.Str.{bytes_eq};
 ghost use Rattle.tip_machine.specs.Answers.{identifier};
 ghost use Rattle.tip_machine.specs.Connections.{asks_for, has_number, is_on, is_superior_of};
-ghost use Rattle.tip_core.specs.Works.{is_keyed, is_named};
+ghost use Rattle.tip_machine.specs.Transactions.{comes_from, is_undecided};
+ghost use Rattle.tip_core.specs.Works.{is_keyed, is_named, is_pushed};
 
 use crate::reaction::is_on;
-use tip_line::{Id, IdParts, Realm};
-use tip_machine::{Connection, Role, Transaction};
+use tip_line::{Address, Id, IdParts, Realm};
+use tip_machine::{Connection, Origin, Role, Transaction};
 use tip_rows::Key;
 use tip_table::Test;
+use tip_txn::Phase;
 
 /// The connection of a number.
 #[derive(Clone, Copy, Debug)]
@@ -86,6 +88,45 @@ impl Test<Transaction> for Named<'_> {
 
     fn passes(&self, transaction: &Transaction) -> bool {
         is_of(self.realm, self.id, transaction.key)
+    }
+}
+
+/// A transaction that was pushed or pulled from the manager at an address, under this identifier, and has no outcome yet.
+#[derive(Clone, Copy, Debug)]
+pub struct Known<'a> {
+    pub peer: &'a Option<Address>,
+    pub superior: &'a Id,
+}
+
+impl Test<Transaction> for Known<'_> {
+    ghost passes = { λ query transaction. is_pushed query.peer.now query.superior.now transaction };
+
+    fn passes(&self, transaction: &Transaction) -> bool {
+        is_undecided(transaction.txn.phase())
+            && comes_from(&transaction.origin, self.peer, self.superior)
+    }
+}
+
+/// Whether a transaction has no outcome yet.
+fn is_undecided(phase: Phase) -> bool
+    ensures { result ≡ is_undecided phase }
+{
+    matches!(phase, Phase::Active | Phase::Asking | Phase::Prepared)
+}
+
+/// Whether a transaction has this superior, at the address of a peer that said one.
+fn comes_from(origin: &Origin, peer: &Option<Address>, superior: &Id) -> bool
+    ensures { result ≡ comes_from peer.now superior.now origin.now }
+{
+    match (origin, peer) {
+        (
+            Origin::Subordinate {
+                address: Some(address),
+                superior: id,
+            },
+            Some(peer),
+        ) => address == peer && superior == id,
+        _ => false,
     }
 }
 

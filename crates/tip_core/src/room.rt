@@ -7,6 +7,7 @@ use crate::making::Making;
 use crate::transaction_room::TransactionRoom;
 use std::alloc::{AllocError, Global};
 use std::marker::Model;
+use tip_line::Address;
 use tip_machine::{Change, Outcome};
 
 /// All the memory that one event needs, and the change of its row that it wants. It belongs to the state and the event that it
@@ -24,7 +25,7 @@ impl Model for Room {
 
     ghost Value = { Granted };
 
-    ghost view = { λ r. record { lines = r.making.free; transaction = r.making.room; change = r.change } };
+    ghost view = { λ r. record { lines = r.making.free; transaction = r.making.room; peer = r.making.peer; change = r.change } };
 
     ghost invariant = { λ r. r.making.answer ≡ silence };
 }
@@ -32,19 +33,22 @@ impl Model for Room {
 impl Room {
     ghost use Rattle.tip_machine.specs.Answers.{silence};
 
-    /// Room for so many lines and closings, for a transaction if it is given, for an event that wants this change.
+    /// Room for so many lines and closings, for a transaction if it is given, for an event that wants this change. The other
+    /// side of its connection is there, if it said where.
     pub fn new(
         alloc: Global,
         lines: usize,
         transaction: Option<TransactionRoom>,
+        peer: Option<Address>,
         change: Option<Change>,
     ) -> Result<Room, AllocError>
         ensures lines { IfOk result (λ room. lines ≤ room.lines) }
         ensures transaction { IfOk result (λ room. room.transaction ≡ transaction) }
+        ensures peer { IfOk result (λ room. room.peer ≡ peer) }
         ensures change { IfOk result (λ room. room.change ≡ change) }
     {
         Ok(Room {
-            making: Making::new(alloc, lines, transaction)?,
+            making: Making::new(alloc, lines, transaction, peer)?,
             change,
         })
     }
@@ -71,6 +75,7 @@ impl Room {
         ensures answer { result.0.answer ≡ silence }
         ensures lines { result.0.free ≡ self.lines }
         ensures transaction { result.0.room ≡ self.transaction }
+        ensures peer { result.0.peer ≡ self.peer }
         ensures change { result.1 ≡ self.change }
     {
         let Room { making, change } = self;

@@ -14,7 +14,7 @@ ghost use Rattle.tip_machine.specs.Steps.{attempt, chosen, frozen};
 ghost use Rattle.tip_machine.specs.Types.{Connection as AConnection};
 ghost use Rattle.tip_machine.specs.declared.event.Heard.TheVariants.{Command as ACommand};
 ghost use Rattle.tip_core.specs.Needs.{HasNeeds, IsReady, begins, happened};
-ghost use Rattle.tip_core.specs.Works.{Does, IsIdle, lines_at, MayMake, work_of};
+ghost use Rattle.tip_core.specs.Works.{Does, IsIdle, lines_at, MayMake, peer_of, work_of};
 
 use crate::making::Making;
 use crate::work::Work;
@@ -75,6 +75,7 @@ impl Work<Connection, Transaction, Making> {
     fn line(&mut self, seat: Seat, heard: Heard)
         requires here { self.old.realm < length self.old.heads.items }
         requires able { begins heard ≡ true → MayMake seat.number self.old }
+        requires peer { self.old.making.peer ≡ peer_of seat.number (work_of self.old).state }
         requires lines { lines_at seat.number (work_of self.old).state + 2 ≤ self.old.making.free }
         requires none { IsIdle self.old.making.answer }
         ensures { Does self.old self.new (chosen (line today (seated seat (work_of self.old).state) heard (work_of self.old)) self.old.outcome) }
@@ -98,6 +99,7 @@ impl Work<Connection, Transaction, Making> {
         requires here { self.old.realm < length self.old.heads.items }
         requires stands { StandsAt self.old.connections self.old.realm (has_number number) place }
         requires able { begins heard ≡ true → MayMake number self.old }
+        requires peer { self.old.making.peer ≡ peer_of number (work_of self.old).state }
         requires lines { lines_at number (work_of self.old).state + 2 ≤ self.old.making.free }
         requires none { IsIdle self.old.making.answer }
         ensures { (connection : AConnection) → connection_of number (work_of self.old).state ≡ Some connection → Does self.old self.new (chosen (hear today Secondary heard connection (work_of self.old)) self.old.outcome) }

@@ -14,7 +14,7 @@ pub record Serving : Type 0 where
 abbrev pub is_served : CommandName → Bool
 is_served Identify = true
 is_served Begin = true
-is_served Push = false
+is_served Push = true
 is_served Pull = false
 is_served Prepare = true
 is_served Commit = true

@@ -11,6 +11,7 @@ pub fn is_served(command: CommandName) -> bool
     match command {
         CommandName::Identify
         | CommandName::Begin
+        | CommandName::Push
         | CommandName::Prepare
         | CommandName::Commit
         | CommandName::Abort
@@ -18,6 +19,6 @@ pub fn is_served(command: CommandName) -> bool
         | CommandName::Multiplex
         | CommandName::Tls
         | CommandName::Error => true,
-        CommandName::Push | CommandName::Pull | CommandName::Reconnect => false,
+        CommandName::Pull | CommandName::Reconnect => false,
     }
 }
