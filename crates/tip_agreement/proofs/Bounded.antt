@@ -91,12 +91,12 @@ below_all entries (c ∷ cs) all =
     let first_made : nat_le c.made entries ≡ true = grind (arith, nat_tests, made) in
     and_from _ _ (and_from _ _ first_number first_made) (below_all entries cs (All-tail (IsBelow entries) c cs all))
 
-pub counts_of : (s : State) → InBounds s → HasCounts s
-counts_of s is =
+pub counts_of : (s : State) → are_numbered s ≡ true → InBounds s → HasCounts s
+counts_of s numbered is =
     let within = and_parts (nat_le 1 s.head.epoch) (nat_le s.head.epoch last_epoch) is.epoch in
     let least : nat_le 1 s.head.epoch ≡ true = within.0 in
     let given : nat_le s.head.given s.head.entries ≡ true = is.given in
-    record { epoch = grind (arith, nat_tests, least); given = grind (arith, nat_tests, given); connections = all_below s.head.entries s.connections is.below }
+    record { epoch = grind (arith, nat_tests, least); given = grind (arith, nat_tests, given); connections = all_below s.head.entries s.connections is.below; numbered = numbered }
 
 -- as far as the counts go
 pub bounds_from : (s : State) → HasCounts s → is_within 1 last_epoch s.head.epoch ≡ true → are_allowed s.head.limits ≡ true → nat_le s.head.entries s.head.limits.entries ≡ true → AreSpelled s → are_bounded s ≡ true

@@ -17,10 +17,11 @@ use Rattle.tip_machine.specs.States.{State, Work, connection_of, transaction_of}
 use Rattle.tip_machine.specs.Transactions.{enlisting, has_key, is_active}
 use Rattle.tip_machine.specs.Types.{Connection, PartyPlace, Transaction}
 use Rattle.tip_machine.specs.declared.connection.Role.TheVariants.{Subordinate}
+use Rattle.tip_machine.proofs.Rising.{changed_twice}
 use Rattle.tip_agreement.proofs.Aborting.{own_as}
 use Rattle.tip_agreement.proofs.Apart.{all_found}
 use Rattle.tip_agreement.proofs.Around.{Around, Whole, alter_around, altered, around_of, asks_as, found_altered, stands, whole_of}
-use Rattle.tip_agreement.proofs.Joining.{above_beside, around_part, changed_twice, have_more, joined, none_part, others_beside, part_joined}
+use Rattle.tip_agreement.proofs.Joining.{above_beside, around_part, have_more, joined, none_part, others_beside, part_joined}
 use Rattle.tip_agreement.proofs.Owned.{InPhase, from_as, have_parts, in_phase, own_still}
 use Rattle.tip_agreement.proofs.Responding.{active_decides}
 

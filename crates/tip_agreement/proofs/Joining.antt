@@ -1,18 +1,16 @@
 -- A connection that was on no transaction comes to one.
-use Rattle.std.proofs.Common.{◌≡◌, ◌<◌, Bool, true, false, ℕ, ◌+◌, List, [], ◌∷◌, ◌++◌, Option, Some, None, cond, refl, ap, subst, sym, arith, ◌∙◌, suc, inl, inr}
+use Rattle.std.proofs.Common.{◌≡◌, ◌<◌, Bool, true, false, ℕ, ◌+◌, List, [], ◌∷◌, ◌++◌, Option, Some, None, refl, ap, subst, sym, arith, ◌∙◌, suc, inl, inr}
 use Rattle.std.specs.Prelude.{◌&&◌, ◌||◌, ◌==◌, find, length, nat_le, nat_lt}
 use Rattle.std.specs.List.{list_all, list_any}
 use Rattle.std.specs.Option.{option_map_or}
 use Rattle.std.proofs.lemmas.Bool.{and_from, and_parts, and_right, both_ways, cases_Bool, or_from, or_parts}
 use Rattle.std.proofs.lemmas.Bool.Decides.{nat_tests}
-use Rattle.std.proofs.lemmas.Option.{none-some, same_Some}
 use Rattle.tip_rows.specs.Keys.{Key, is_same}
 use Rattle.tip_rows.proofs.OrderLemmas.{same_key}
 use Rattle.tip_table.specs.Lists.{changed}
 use Rattle.tip_txn.specs.declared.answer.Ballot.{Ballot}
 use Rattle.tip_txn.specs.declared.part.Participant.{Participant}
 use Rattle.tip_machine.specs.Connections.{asks_for, has_number, is_part_of, is_superior_of, reaches}
-use Rattle.tip_machine.specs.Given.{are_rising, numbers_of}
 use Rattle.tip_machine.specs.Invariants.Links.{Link, is_connected, is_role_in, is_same_role, link}
 use Rattle.tip_machine.specs.States.{State, connection_of, transaction_of}
 use Rattle.tip_machine.specs.Types.{Connection, PartyPlace, Transaction}
@@ -23,31 +21,6 @@ use Rattle.tip_agreement.proofs.Around.{Around, asks_as, clash, is_placed, stand
 use Rattle.tip_agreement.proofs.Found.{find_apart, find_new}
 use Rattle.tip_agreement.proofs.Keys.{key_self}
 use Rattle.tip_agreement.proofs.Owned.{have_parts, parts_from, place_self}
-
--- One change after another
-
-pub changed_twice : (n : ℕ) (f g : Connection → Connection) (cs : List Connection) → ((c : Connection) → (g c).number ≡ c.number) → changed (has_number n) f (changed (has_number n) g cs) ≡ changed (has_number n) (λ c. f (g c)) cs
-changed_twice n f g [] same = refl
-changed_twice n f g (c ∷ cs) same = step (has_number n c) refl (changed_twice n f g cs same) where
-  step : (b : Bool) → has_number n c ≡ b → changed (has_number n) f (changed (has_number n) g cs) ≡ changed (has_number n) (λ c. f (g c)) cs → changed (has_number n) f (cond b (g c ∷ cs) (c ∷ changed (has_number n) g cs)) ≡ cond b (f (g c) ∷ cs) (c ∷ changed (has_number n) (λ c. f (g c)) cs)
-  step true is rest = subst (λ b. cond b (f (g c) ∷ cs) (g c ∷ changed (has_number n) f cs) ≡ f (g c) ∷ cs) (sym (ap (λ m. m == n) (same c) ∙ is)) refl
-  step false is rest = rw is (ap (λ ds. c ∷ ds) rest)
-
--- Numbers tell connections apart
-
-numbers_above : (least : ℕ) (test : Connection → Bool) (cs : List Connection) (more : List ℕ) (c : Connection) → find test cs ≡ Some c → list_all (nat_lt least) (numbers_of cs ++ more) ≡ true → nat_lt least c.number ≡ true
-numbers_above least test [] more c is all = absurd (none-some c is)
-numbers_above least test (d ∷ cs) more c is all = let parts = and_parts (nat_lt least d.number) _ all in step (test d) is parts.0 (λ later. numbers_above least test cs more c later parts.1) where
-  step : (b : Bool) → cond b (Some d) (find test cs) ≡ Some c → nat_lt least d.number ≡ true → (find test cs ≡ Some c → nat_lt least c.number ≡ true) → nat_lt least c.number ≡ true
-  step true is first later = subst (λ (e : Connection). nat_lt least e.number ≡ true) (same_Some d c is) first
-  step false is first later = later is
-
-pub found_numbered : (test : Connection → Bool) (cs : List Connection) (more : List ℕ) (c : Connection) → find test cs ≡ Some c → are_rising (numbers_of cs ++ more) ≡ true → find (has_number c.number) cs ≡ Some c
-found_numbered test [] more c is rising = absurd (none-some c is)
-found_numbered test (d ∷ cs) more c is rising = let parts = and_parts (list_all (nat_lt d.number) (numbers_of cs ++ more)) _ rising in step (test d) is (λ later. found_numbered test cs more c later parts.1) (λ later. numbers_above d.number test cs more c later parts.0) where
-  step : (b : Bool) → cond b (Some d) (find test cs) ≡ Some c → (find test cs ≡ Some c → find (has_number c.number) cs ≡ Some c) → (find test cs ≡ Some c → nat_lt d.number c.number ≡ true) → cond (has_number c.number d) (Some d) (find (has_number c.number) cs) ≡ Some c
-  step true is later above = let same = same_Some d c is in subst (λ (e : Connection). cond (has_number e.number d) (Some d) (find (has_number e.number) cs) ≡ Some e) same (rw (place_self d.number) refl)
-  step false is later above = let less = above is in let other : has_number c.number d ≡ false = grind (arith, nat_tests, less) in rw other (later is)
 
 -- Nobody has the role
 

@@ -159,7 +159,7 @@ module _ (serving : Serving) (world : World) (errands : List PartyNotes) (event 
   whole_after = steps_whole serving world.state event outcome (more_ends (λ v. Whole v.state) (WholeFrom world.state) (λ v is always. is) tried whole) (sound_whole world sound)
 
   counts_after : HasCounts after
-  counts_after = counts_stay serving world.state event outcome (counts_of world.state bounds)
+  counts_after = counts_stay serving world.state event outcome (counts_of world.state sound.numbered bounds)
 
   sound_with : (next : World) → next.state ≡ after → are_bounded next.state ≡ true → are_out next.state next.errands ≡ true → are_known_once next.state ≡ true → are_stored next.state next.rows ≡ true → IsSound next
   sound_with next same bounded out known stored =

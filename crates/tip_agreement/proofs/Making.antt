@@ -24,10 +24,11 @@ use Rattle.tip_machine.specs.Transactions.{begun, has_key, next_key}
 use Rattle.tip_machine.specs.Types.{Connection, Transaction}
 use Rattle.tip_machine.specs.declared.connection.Role.TheVariants.{Superior, Subordinate}
 use Rattle.tip_machine.specs.declared.transaction.Origin.{Origin}
+use Rattle.tip_machine.proofs.Rising.{changed_twice}
 use Rattle.tip_agreement.proofs.Apart.{all_added, all_more, none_of_all}
 use Rattle.tip_agreement.proofs.Around.{Around, RolesStay, Whole, all_stand_still, is_other, same_transaction, stands, turned_about, whole_of}
 use Rattle.tip_agreement.proofs.Found.{none_there}
-use Rattle.tip_agreement.proofs.Joining.{above_joined, around_above, changed_twice, joined, none_above}
+use Rattle.tip_agreement.proofs.Joining.{above_joined, around_above, joined, none_above}
 use Rattle.tip_agreement.proofs.Keys.{apart_added, are_given, key_self, next_apart}
 use Rattle.tip_agreement.proofs.Owned.{from_as}
 

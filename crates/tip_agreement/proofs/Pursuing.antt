@@ -36,13 +36,14 @@ use Rattle.tip_machine.specs.declared.transaction.Origin.{Origin}
 use Rattle.tip_machine.specs.declared.transaction.Origin.TheVariants as origin
 use Rattle.tip_machine.proofs.RuleWalks.{advanced-number}
 use Rattle.tip_machine.proofs.Walks.{either}
+use Rattle.tip_machine.proofs.Rising.{changed_twice}
 use Rattle.tip_agreement.proofs.Alone.{alone_set, identify_next}
 use Rattle.tip_agreement.proofs.Apart.{all_found}
 use Rattle.tip_agreement.proofs.Around.{Whole, around_of, asks_as, is_placed, stands, whole_of}
 use Rattle.tip_agreement.proofs.Asking.{closed_anyway}
 use Rattle.tip_agreement.proofs.Closing.{changed_none, closed_whole, have_noted, in_table, other_place, stands_there, wrong_whole}
 use Rattle.tip_agreement.proofs.Found.{any_apart, none_there}
-use Rattle.tip_agreement.proofs.Joining.{above_beside, around_part, changed_twice, joined, others_beside, part_joined}
+use Rattle.tip_agreement.proofs.Joining.{above_beside, around_part, joined, others_beside, part_joined}
 use Rattle.tip_agreement.proofs.Loose.{greeting, loose, on_none}
 use Rattle.tip_agreement.proofs.Owned.{InPhase, from_as, have_parts, in_phase, own_still}
 use Rattle.tip_agreement.proofs.Reacting.{idle}

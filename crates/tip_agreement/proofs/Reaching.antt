@@ -34,12 +34,13 @@ use Rattle.tip_machine.specs.declared.transaction.Origin.TheVariants as origin
 use Rattle.tip_machine.proofs.Lists.{find_any}
 use Rattle.tip_machine.proofs.RuleWalks.{advanced-number}
 use Rattle.tip_machine.proofs.Walks.{found_passes}
+use Rattle.tip_machine.proofs.Rising.{changed_twice, found_numbered}
 use Rattle.tip_agreement.proofs.Alone.{replied_idle, role_none}
 use Rattle.tip_agreement.proofs.Apart.{all_found}
 use Rattle.tip_agreement.proofs.Around.{Whole, around_of, stands, whole_of}
 use Rattle.tip_agreement.proofs.Closing.{have_same, superior_lost_whole}
 use Rattle.tip_agreement.proofs.Found.{find_gone, find_left}
-use Rattle.tip_agreement.proofs.Joining.{above_joined, around_above, changed_twice, found_numbered, joined, parts_beside}
+use Rattle.tip_agreement.proofs.Joining.{above_joined, around_above, joined, parts_beside}
 use Rattle.tip_agreement.proofs.Owned.{InPhase, asked_by, from_as, in_phase, once_superior, own_still}
 use Rattle.tip_agreement.proofs.Sound.{found_by}
 use Rattle.tip_agreement.proofs.Answering.{not_reconnected_next, reconnected_next}

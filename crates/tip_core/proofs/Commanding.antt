@@ -219,4 +219,7 @@ one_line held number enough = omega (arith, enough)
 pub one_more : (held : Held) (number : ℕ) → lines_at number (work_of held).state + 2 ≤ held.making.free → lines_at number (work_of held).state + 1 ≤ held.making.free
 one_more held number enough = omega (arith, enough)
 
-pub ruleset serving = (replied_there, one_line, one_more)
+pub two_lines : (held : Held) (number : ℕ) → lines_at number (work_of held).state + 2 ≤ held.making.free → 2 ≤ held.making.free
+two_lines held number enough = omega (arith, enough)
+
+pub ruleset serving = (replied_there, one_line, one_more, two_lines)

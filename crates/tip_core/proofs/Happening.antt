@@ -18,6 +18,7 @@ use Rattle.tip_machine.specs.Changes.{refuse}
 use Rattle.tip_machine.specs.Connections.{has_number, may_take}
 use Rattle.tip_machine.specs.Counts.{HasCounts}
 use Rattle.tip_machine.specs.Failing.{closed, wrong}
+use Rattle.tip_machine.specs.Given.{are_numbered}
 use Rattle.tip_machine.specs.Requests.{ask_pull, ask_push, dial, hand_back, hear, line, owner}
 use Rattle.tip_machine.specs.Served.{today}
 use Rattle.tip_machine.specs.States.{Attempt, State, Work, connection_of, has_room, seated}
@@ -195,6 +196,7 @@ module _ (a b : Held) (event : Event) (here : a.realm < length a.heads.items) (c
   ready = record {
     here = omega (arith, here, does.realm, does.count);
     counted = subst (λ (s : State). s.head.given < s.head.entries) (sym state_is) (let le = counts.given in omega (arith, le));
+    numbered = subst (λ (s : State). are_numbered s ≡ true) (sym state_is) counts.numbered;
     lines = let same = ap (lines_needed event) state_is ∙ needed_before event (work_of a).state in let free : b.making.free ≡ a.making.free = ap (λ (h : Held). h.making.free) rest in let enough = needs.lines in omega (arith, same, free, enough);
     connections = let free : b.connections.free ≡ a.connections.free = ap (λ (h : Held). h.connections.free) rest in let enough = needs.connections in omega (arith, free, enough);
     able = λ number begins_there c there room. able_at number begins_there c (sym (ap (connection_of number) state_is) ∙ there) (sym (ap (has_room c) state_is) ∙ room);

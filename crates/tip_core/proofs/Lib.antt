@@ -17,3 +17,4 @@ pub mod Stepping
 pub mod Lending
 pub mod Isolated
 pub mod Naming
+pub mod Superiors

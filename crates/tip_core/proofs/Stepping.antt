@@ -23,6 +23,7 @@ use Rattle.tip_machine.specs.declared.event.Outcome.TheVariants.{NoChange, Refus
 use Rattle.tip_machine.specs.declared.head.Head.{Head}
 use Rattle.tip_machine.specs.declared.head.Start.{Start}
 use Rattle.tip_machine.proofs.Counting.{counts_start, counts_stay}
+use Rattle.tip_machine.proofs.Identifiers.{none_numbered}
 use Rattle.tip_table.specs.Kept.{Kept, of}
 use Rattle.tip_core.proofs.Turning.{in_turn_of_state}
 use Rattle.tip_core.specs.Hosted.{HasEpoch, Hosted, IsRoomFor, Steps, realm}
@@ -187,6 +188,7 @@ starting_counts (start ∷ starts) zero epochs lt state head none = record {
   epoch = subst (λ (h : Head). 0 < h.epoch) (sym head) (All-head HasEpoch start starts epochs);
   given = subst (λ (h : Head). h.given ≤ h.entries) (sym head) (omega arith);
   connections = subst (All (IsBelow state.head.entries)) (sym none) (All-nil (IsBelow state.head.entries));
+  numbered = none_numbered state none;
 }
 starting_counts (start ∷ starts) (suc place) epochs lt state head none = starting_counts starts place (All-tail HasEpoch start starts epochs) (omega (arith, lt)) state head none
 

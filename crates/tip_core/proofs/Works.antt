@@ -16,11 +16,13 @@ use Rattle.tip_table.specs.Visits.{MayVisit, notes_of}
 use Rattle.tip_txn.specs.Parts.{changed_at as changed_at_part}
 use Rattle.tip_txn.specs.declared.part.Participant.{Participant}
 use Rattle.tip_machine.specs.Changes.{alter, change, end, reply, tell}
+use Rattle.tip_machine.proofs.Rising.{changed_twice}
+use Rattle.tip_machine.proofs.RuleWalks.{advanced-number}
 use Rattle.tip_machine.proofs.Walks.{found-number, found_changed, found_passes}
 use Rattle.tip_machine.specs.Failing.{gone}
 use Rattle.tip_machine.specs.Proceeding.{enter}
 use Rattle.tip_txn.specs.declared.answer.Phase.{Phase}
-use Rattle.tip_machine.specs.Connections.{advanced, has_number, is_on}
+use Rattle.tip_machine.specs.Connections.{advanced, has_number, is_on, taking}
 use Rattle.tip_machine.specs.Reactions.{Demand, Reaction, answers, demanded_as, demands, react, reacted, reacts, sent_by, stays}
 use Rattle.tip_machine.specs.States.{Work, connection_of, transaction_of}
 use Rattle.tip_machine.specs.Transactions.{entering, has_key}
@@ -28,6 +30,7 @@ use Rattle.tip_machine.specs.Types.{Connection, Transaction, seen}
 use Rattle.tip_machine.specs.Answers.{response_name}
 use Rattle.tip_machine.specs.declared.answer.Item.TheVariants.{Say}
 use Rattle.tip_machine.specs.declared.answer.Said.{Said}
+use Rattle.tip_machine.specs.declared.connection.Role.{Role}
 use Rattle.tip_core.specs.Makings.{Made}
 use Rattle.tip_core.specs.Works.{Does, is_keyed, Held, HeldTransaction, IsIdle, lines_for, MayDispatch, realm_of, work_of}
 
@@ -192,6 +195,16 @@ may_reacted a b key reaction may does = subst (MayDispatch key) (sym does.own) (
 pub replied : (a b c : Held) (number : ℕ) (command : CommandName) (said : Said) → Does a b (tell number (Say said) (work_of a)) → Does b c (change number (advanced command (response_name said)) (work_of b)) → Does a c (reply number command said (work_of a))
 unfolding reply
 replied a b c number command said first second = then a b c (change number (advanced command (response_name said))) _ first second
+
+-- the connection takes its role in the same breath
+pub replied_as : (a b : Held) (number place : ℕ) (command : CommandName) (said : Said) (role : Role) (item value : Connection) → Does a b (tell number (Say said) (work_of a)) → StandsAt b.connections b.realm (has_number number) place → item_at b.connections place ≡ Some item → value ≡ taking role (advanced command (response_name said) item) →
+    Does a (record b { connections = with_item_at b.connections place value }) (change number (taking role) (reply number command said (work_of a)))
+unfolding reply
+replied_as a b number place command said role item value first here is same =
+    let g = advanced command (response_name said) in
+    let both = then a b (record b { connections = with_item_at b.connections place value }) (change number (λ c. taking role (g c))) _ first (changed_at b number (λ c. taking role (g c)) place item value here is same) in
+    let told = tell number (Say said) (work_of a) in
+    subst (Does a (record b { connections = with_item_at b.connections place value })) (ap (λ cs. record told { state = record told.state { connections = cs } }) (sym (changed_twice number (taking role) g told.state.connections (advanced-number command (response_name said))))) both
 
 -- Reactions
 

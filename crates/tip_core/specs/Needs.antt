@@ -4,6 +4,7 @@ use Rattle.std.specs.Option.{option_and_then}
 use Rattle.tip_line.specs.declared.command.Command.{Command as ACommand}
 use Rattle.tip_line.specs.declared.command.Command.TheVariants as commands
 use Rattle.tip_machine.specs.Connections.{has_number}
+use Rattle.tip_machine.specs.Given.{are_numbered}
 use Rattle.tip_machine.specs.Requests.{owner}
 use Rattle.tip_machine.specs.Served.{today}
 use Rattle.tip_machine.specs.States.{State, Work, connection_of, has_room}
@@ -88,6 +89,7 @@ pub record HasNeeds (event : Event) (held : Held) : Type 0 where
 pub record IsReady (event : Event) (held : Held) : Type 0 where
   pub here : held.realm < length held.heads.items
   pub counted : (work_of held).state.head.given < (work_of held).state.head.entries
+  pub numbered : are_numbered (work_of held).state ≡ true
   pub lines : lines_needed event (work_of held).state ≤ held.making.free
   pub connections : connections_for event ≤ held.connections.free
   pub able : (number : ℕ) → begins_on event ≡ Some number → MayMake number held

@@ -7,6 +7,7 @@ ghost use Rattle.tip_table.specs.Kept.{StandsAt};
 ghost use Rattle.tip_machine.specs.Commands.{commanded, identify, query, serve, serve_if, superior_role};
 ghost use Rattle.tip_machine.specs.Connections.{has_number};
 ghost use Rattle.tip_machine.specs.Failing.{closed};
+ghost use Rattle.tip_machine.specs.Given.{are_numbered};
 ghost use Rattle.tip_machine.specs.Proceeding.{commit};
 ghost use Rattle.tip_machine.specs.Proceeding.{abort as aborted};
 ghost use Rattle.tip_machine.specs.Served.{is_served, today};
@@ -34,6 +35,7 @@ impl Work<Connection, Transaction, Making> {
         requires stands { StandsAt self.old.connections self.old.realm (has_number number) place }
         requires able { begins (ACommand command) ≡ true → MayMake number self.old }
         requires peer { self.old.making.peer ≡ peer_of number (work_of self.old).state }
+        requires numbered { are_numbered (work_of self.old).state ≡ true }
         requires lines { lines_at number (work_of self.old).state + 2 ≤ self.old.making.free }
         requires none { IsIdle self.old.making.answer }
         ensures { (connection : AConnection) → connection_of number (work_of self.old).state ≡ Some connection → Does self.old self.new (chosen (commanded today command connection (work_of self.old)) self.old.outcome) }
@@ -51,6 +53,7 @@ impl Work<Connection, Transaction, Making> {
         requires stands { StandsAt self.old.connections self.old.realm (has_number number) place }
         requires able { begins (ACommand command) ≡ true → MayMake number self.old }
         requires peer { self.old.making.peer ≡ peer_of number (work_of self.old).state }
+        requires numbered { are_numbered (work_of self.old).state ≡ true }
         requires lines { lines_at number (work_of self.old).state + 2 ≤ self.old.making.free }
         requires none { IsIdle self.old.making.answer }
         ensures { (connection : AConnection) → connection_of number (work_of self.old).state ≡ Some connection → Does self.old self.new (chosen (serve_if today Serve command connection (work_of self.old)) self.old.outcome) }
@@ -70,6 +73,7 @@ impl Work<Connection, Transaction, Making> {
         requires served { is_served (name_of command) ≡ true }
         requires able { begins (ACommand command) ≡ true → MayMake number self.old }
         requires peer { self.old.making.peer ≡ peer_of number (work_of self.old).state }
+        requires numbered { are_numbered (work_of self.old).state ≡ true }
         requires lines { lines_at number (work_of self.old).state + 2 ≤ self.old.making.free }
         requires none { IsIdle self.old.making.answer }
         ensures { (connection : AConnection) → connection_of number (work_of self.old).state ≡ Some connection → Does self.old self.new (chosen (serve command connection (work_of self.old)) self.old.outcome) }
@@ -87,12 +91,13 @@ impl Work<Connection, Transaction, Making> {
             Command::Commit => self.obey_commit(number, place),
             Command::Abort => self.obey_abort(number, place),
             Command::Query { superior } => self.query(number, place, &superior),
+            Command::Reconnect { subordinate } => self.reconnect(number, place, &subordinate),
             Command::Multiplex { protocol: _ } => {
                 self.reply(number, place, CommandName::Multiplex, Said::CantMultiplex)
             }
             Command::Tls => self.reply(number, place, CommandName::Tls, Said::CantTls),
             Command::Error => self.close(number, place),
-            Command::Pull { .. } | Command::Reconnect { .. } => unreachable!(),
+            Command::Pull { .. } => unreachable!(),
         }
     }
 

@@ -65,6 +65,27 @@ impl Work<Connection, Transaction, Making> {
         self.go(number, place, command, response);
     }
 
+    /// The same, and it takes its role on a transaction.
+    #[tactic(auto, using(crate::proofs::Works::replied_as))]
+    pub fn reply_as(
+        &mut self,
+        number: u32,
+        place: usize,
+        command: CommandName,
+        said: Said,
+        role: Role,
+    )
+        requires stands { StandsAt self.old.connections self.old.realm (has_number number) place }
+        requires room { 0 < self.old.making.free }
+        ensures { Does self.old self.new (change number (taking role) (reply number command said (work_of self.old))) }
+    {
+        let response = said.name();
+        self.tell(number, Item::Say(said));
+        let connection = self.connections.item_mut(place);
+        connection.go(command, response);
+        connection.role = Some(role);
+    }
+
     /// A connection is there no more, and its boxes are handed back. What it was on the transaction that it was on is given.
     pub(crate) fn remove(&mut self, number: u32, place: usize) -> Option<Role>
         requires { StandsAt self.old.connections self.old.realm (has_number number) place }

@@ -16,6 +16,7 @@ mod outlook;
 mod query;
 mod reaction;
 mod realms;
+mod reconnecting;
 mod returning;
 mod room;
 mod rows;

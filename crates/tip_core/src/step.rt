@@ -7,6 +7,7 @@ ghost use Rattle.tip_table.specs.Kept.{StandsAt};
 ghost use Rattle.tip_machine.specs.Answers.{silence};
 ghost use Rattle.tip_machine.specs.Connections.{has_number};
 ghost use Rattle.tip_machine.specs.Counts.{HasCounts};
+ghost use Rattle.tip_machine.specs.Given.{are_numbered};
 ghost use Rattle.tip_machine.specs.Requests.{ask_pull, ask_push, hear, line};
 ghost use Rattle.tip_machine.specs.Served.{today};
 ghost use Rattle.tip_machine.specs.States.{connection_of, seated};
@@ -76,6 +77,7 @@ impl Work<Connection, Transaction, Making> {
         requires here { self.old.realm < length self.old.heads.items }
         requires able { begins heard ≡ true → MayMake seat.number self.old }
         requires peer { self.old.making.peer ≡ peer_of seat.number (work_of self.old).state }
+        requires numbered { are_numbered (work_of self.old).state ≡ true }
         requires lines { lines_at seat.number (work_of self.old).state + 2 ≤ self.old.making.free }
         requires none { IsIdle self.old.making.answer }
         ensures { Does self.old self.new (chosen (line today (seated seat (work_of self.old).state) heard (work_of self.old)) self.old.outcome) }
@@ -100,6 +102,7 @@ impl Work<Connection, Transaction, Making> {
         requires stands { StandsAt self.old.connections self.old.realm (has_number number) place }
         requires able { begins heard ≡ true → MayMake number self.old }
         requires peer { self.old.making.peer ≡ peer_of number (work_of self.old).state }
+        requires numbered { are_numbered (work_of self.old).state ≡ true }
         requires lines { lines_at number (work_of self.old).state + 2 ≤ self.old.making.free }
         requires none { IsIdle self.old.making.answer }
         ensures { (connection : AConnection) → connection_of number (work_of self.old).state ≡ Some connection → Does self.old self.new (chosen (hear today Secondary heard connection (work_of self.old)) self.old.outcome) }

@@ -1,5 +1,5 @@
 -- A realm's counts stay below its entries: an event takes one entry, and makes at most one transaction, of some one key.
-use Rattle.std.proofs.Common.{◌≡◌, ◌<◌, Bool, false, ℕ, ◌+◌, List, Some, refl, ap, arith, sym, ◌∙◌, subst, ◌⊎◌, inl, inr}
+use Rattle.std.proofs.Common.{◌≡◌, ◌<◌, Bool, true, false, ℕ, ◌+◌, List, Some, refl, ap, arith, sym, ◌∙◌, subst, ◌⊎◌, inl, inr}
 use Rattle.std.specs.Prelude.{◌&&◌, length, map}
 use Rattle.std.specs.List.{All}
 use Rattle.std.proofs.lemmas.List.Elements.{All-map, All-nil, All-push, All-weaker}
@@ -9,6 +9,7 @@ use Rattle.tip_line.specs.declared.refusal.Refusal.TheVariants.{Full}
 use Rattle.tip_rows.specs.Keys.{Key}
 use Rattle.tip_table.specs.Lists.{changed}
 use Rattle.tip_machine.specs.Types.{Connection, Event}
+use Rattle.tip_machine.specs.Given.{are_numbered}
 use Rattle.tip_machine.specs.Heads.{IsCounted}
 use Rattle.tip_machine.specs.Counts.{HasCounts, IsBelow}
 use Rattle.tip_machine.specs.Connections.{accepted, dialled, has_number}
@@ -26,7 +27,7 @@ use Rattle.tip_machine.specs.declared.event.Outcome.{Outcome}
 use Rattle.tip_machine.specs.declared.head.Head.{Head}
 use Rattle.tip_machine.proofs.Walks.{Closed, Ends, Is, chosen_ends, either, from_one}
 use Rattle.tip_machine.proofs.AttemptWalks.{attempt-goes, each_event, is_opening}
-use Rattle.tip_machine.proofs.Identifiers.{made-reacted}
+use Rattle.tip_machine.proofs.Identifiers.{made-reacted, none_numbered, still_rising}
 use Rattle.tip_machine.proofs.Keeping.{any, each}
 use Rattle.tip_machine.proofs.Lists.{all-changed, all-found, all-without}
 use Rattle.tip_machine.proofs.Others.{number-reacted}
@@ -143,22 +144,22 @@ module _ (entries : ℕ) where
 
 -- Steps
 
-went-counts : (state : State) (v : Work) → HasCounts state → Went (entered state) v → AreBelow (state.head.entries + 1) v → HasCounts v.state
-went-counts state v counts (inl goes) below = let le = counts.given in record { epoch = rw goes.head counts.epoch; given = rw goes.head (omega (arith, le)); connections = rw goes.head below }
-went-counts state v counts (inr opens) below = let le = counts.given in record { epoch = rw opens.head counts.epoch; given = rw opens.head (omega (arith, le)); connections = rw opens.head below }
+went-counts : (state : State) (v : Work) → HasCounts state → Went (entered state) v → AreBelow (state.head.entries + 1) v → are_numbered v.state ≡ true → HasCounts v.state
+went-counts state v counts (inl goes) below numbered = let le = counts.given in record { epoch = rw goes.head counts.epoch; given = rw goes.head (omega (arith, le)); connections = rw goes.head below; numbered = numbered }
+went-counts state v counts (inr opens) below numbered = let le = counts.given in record { epoch = rw opens.head counts.epoch; given = rw opens.head (omega (arith, le)); connections = rw opens.head below; numbered = numbered }
 
-entered-counts : (serving : Serving) (state : State) (event : Event) (outcome : Outcome) → HasCounts state → HasCounts (ordered state (chosen (attempt serving event (entered state)) outcome)).state
+entered-counts : (serving : Serving) (state : State) (event : Event) (outcome : Outcome) → HasCounts state → are_numbered (ordered state (chosen (attempt serving event (entered state)) outcome)).state ≡ true → HasCounts (ordered state (chosen (attempt serving event (entered state)) outcome)).state
 unfolding ordered
-entered-counts serving state event outcome counts =
+entered-counts serving state event outcome counts numbered =
     let entries = state.head.entries in
     let tried = attempt serving event (entered state) in
-    went-counts state (ordered state (chosen tried outcome)) counts (step-went serving state event outcome) (chosen_ends (AreBelow (entries + 1)) tried outcome (attempt-below entries serving event (entered state) counts.connections))
+    went-counts state (ordered state (chosen tried outcome)) counts (step-went serving state event outcome) (chosen_ends (AreBelow (entries + 1)) tried outcome (attempt-below entries serving event (entered state) counts.connections)) numbered
 
 pub counts_stay : (serving : Serving) (state : State) (event : Event) (outcome : Outcome) → HasCounts state → HasCounts (step_serving serving state event outcome).state
-counts_stay serving state event outcome counts = either (λ w. HasCounts w.state) (is_open state) _ (frozen event state) (entered-counts serving state event outcome counts) counts
+counts_stay serving state event outcome counts = either (λ w. are_numbered w.state ≡ true → HasCounts w.state) (is_open state) _ (frozen event state) (entered-counts serving state event outcome counts) (λ numbered. counts) (still_rising serving state event outcome counts.numbered)
 
 pub counts_start : (head : Head) → 0 < head.epoch → IsCounted head → HasCounts (started head)
-counts_start head epoch given = record { epoch = epoch; given = given; connections = All-nil (IsBelow head.entries) }
+counts_start head epoch given = record { epoch = epoch; given = given; connections = All-nil (IsBelow head.entries); numbered = none_numbered (started head) refl }
 
 -- Connections that were found
 

@@ -1,6 +1,6 @@
 -- Numbers of connections that rise in the order made.
-use Rattle.std.proofs.Common.{◌≡◌, ◌<◌, Bool, true, false, ℕ, List, [], ◌∷◌, ◌++◌, Some, cond, refl, ap, arith, subst}
-use Rattle.std.specs.Prelude.{nat_lt, find, map}
+use Rattle.std.proofs.Common.{◌≡◌, ◌<◌, Bool, true, false, ℕ, List, [], ◌∷◌, ◌++◌, Some, cond, refl, ap, arith, sym, subst, ◌∙◌}
+use Rattle.std.specs.Prelude.{◌==◌, nat_lt, find, map}
 use Rattle.std.specs.List.{list_all, list_any}
 use Rattle.std.proofs.lemmas.Bool.{and_from, and_left, and_parts, or_from}
 use Rattle.std.proofs.lemmas.Bool.Decides.{nat_tests}
@@ -77,3 +77,31 @@ rising-more last next (n ∷ numbers) less rising = let parts = and_parts _ _ ri
 
 pub rising-added : (last next : ℕ) (cs : List Connection) (c : Connection) → c.number ≡ last → last < next → are_rising (numbers_of cs ++ last ∷ []) ≡ true → are_rising (numbers_of (cs ++ c ∷ []) ++ next ∷ []) ≡ true
 rising-added last next cs c same less rising = rw (numbers-added cs c, same) (rising-more last next (numbers_of cs) less rising)
+
+-- One change after another
+
+pub changed_twice : (n : ℕ) (f g : Connection → Connection) (cs : List Connection) → ((c : Connection) → (g c).number ≡ c.number) → changed (has_number n) f (changed (has_number n) g cs) ≡ changed (has_number n) (λ c. f (g c)) cs
+changed_twice n f g [] same = refl
+changed_twice n f g (c ∷ cs) same = step (has_number n c) refl (changed_twice n f g cs same) where
+  step : (b : Bool) → has_number n c ≡ b → changed (has_number n) f (changed (has_number n) g cs) ≡ changed (has_number n) (λ c. f (g c)) cs → changed (has_number n) f (cond b (g c ∷ cs) (c ∷ changed (has_number n) g cs)) ≡ cond b (f (g c) ∷ cs) (c ∷ changed (has_number n) (λ c. f (g c)) cs)
+  step true is rest = subst (λ b. cond b (f (g c) ∷ cs) (g c ∷ changed (has_number n) f cs) ≡ f (g c) ∷ cs) (sym (ap (λ m. m == n) (same c) ∙ is)) refl
+  step false is rest = rw is (ap (λ ds. c ∷ ds) rest)
+
+-- Numbers tell connections apart
+
+own_number : (n : ℕ) → (n == n) ≡ true
+own_number n = grind (arith, nat_tests)
+
+numbers_above : (least : ℕ) (test : Connection → Bool) (cs : List Connection) (more : List ℕ) (c : Connection) → find test cs ≡ Some c → list_all (nat_lt least) (numbers_of cs ++ more) ≡ true → nat_lt least c.number ≡ true
+numbers_above least test [] more c is all = absurd (none-some c is)
+numbers_above least test (d ∷ cs) more c is all = let parts = and_parts (nat_lt least d.number) _ all in step (test d) is parts.0 (λ later. numbers_above least test cs more c later parts.1) where
+  step : (b : Bool) → cond b (Some d) (find test cs) ≡ Some c → nat_lt least d.number ≡ true → (find test cs ≡ Some c → nat_lt least c.number ≡ true) → nat_lt least c.number ≡ true
+  step true is first later = subst (λ (e : Connection). nat_lt least e.number ≡ true) (same_Some d c is) first
+  step false is first later = later is
+
+pub found_numbered : (test : Connection → Bool) (cs : List Connection) (more : List ℕ) (c : Connection) → find test cs ≡ Some c → are_rising (numbers_of cs ++ more) ≡ true → find (has_number c.number) cs ≡ Some c
+found_numbered test [] more c is rising = absurd (none-some c is)
+found_numbered test (d ∷ cs) more c is rising = let parts = and_parts (list_all (nat_lt d.number) (numbers_of cs ++ more)) _ rising in step (test d) is (λ later. found_numbered test cs more c later parts.1) (λ later. numbers_above d.number test cs more c later parts.0) where
+  step : (b : Bool) → cond b (Some d) (find test cs) ≡ Some c → (find test cs ≡ Some c → find (has_number c.number) cs ≡ Some c) → (find test cs ≡ Some c → nat_lt d.number c.number ≡ true) → cond (has_number c.number d) (Some d) (find (has_number c.number) cs) ≡ Some c
+  step true is later above = let same = same_Some d c is in subst (λ (e : Connection). cond (has_number e.number d) (Some d) (find (has_number e.number) cs) ≡ Some e) same (rw (own_number d.number) refl)
+  step false is later above = let less = above is in let other : has_number c.number d ≡ false = grind (arith, nat_tests, less) in rw other (later is)

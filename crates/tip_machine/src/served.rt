@@ -16,9 +16,10 @@ pub fn is_served(command: CommandName) -> bool
         | CommandName::Commit
         | CommandName::Abort
         | CommandName::Query
+        | CommandName::Reconnect
         | CommandName::Multiplex
         | CommandName::Tls
         | CommandName::Error => true,
-        CommandName::Pull | CommandName::Reconnect => false,
+        CommandName::Pull => false,
     }
 }
