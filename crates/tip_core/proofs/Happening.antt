@@ -37,9 +37,10 @@ use Rattle.tip_machine.proofs.Counting.{entered_below}
 use Rattle.tip_machine.proofs.Walks.{found-number}
 use Rattle.tip_core.proofs.Openings.{first_found}
 use Rattle.tip_core.proofs.Works.{then}
-use Rattle.tip_core.specs.Needs.{HasNeeds, IsReady, begins, begins_on, happened, lines_needed, peer_needed, room_needed, room_on, transactions_for}
+use Rattle.tip_core.specs.Growing.{CanGrow}
+use Rattle.tip_core.specs.Needs.{HasNeeds, IsReady, begins, begins_on, happened, joined, lines_needed, peer_needed, room_needed, room_on, transactions_for}
 use Rattle.tip_core.specs.Rooms.{room_for}
-use Rattle.tip_core.specs.Works.{CanMake, Does, Held, IsIdle, MayMake, lines_as, lines_at, lines_for, lines_of, work_of}
+use Rattle.tip_core.specs.Works.{CanMake, Does, Held, IsIdle, is_named, MayMake, lines_as, lines_at, lines_for, lines_of, work_of}
 
 -- where no connection is dialled, there is none to ask on
 module _ (a b : Held) (seat : Seat) where
@@ -127,6 +128,9 @@ pub dialled_never : (a b : Held) (address : List ℕ) (purpose : Purpose) (boxes
 unfolding dial
 dialled_never a b address purpose boxes does = does
 
+pub part_line : (held : Held) (seat : Seat) (heard : Heard) → IsReady (Line seat heard) held → (id : List ℕ) → joined heard ≡ Some id → CanGrow (work_of held).state.head.name id (of held.transactions held.realm)
+part_line held seat heard ready id is = ready.part id is
+
 pub able_line : (held : Held) (seat : Seat) (heard : Heard) → IsReady (Line seat heard) held → begins heard ≡ true → MayMake seat.number held
 able_line held seat heard ready is = ready.able seat.number (ap (λ b. cond b (Some seat.number) None) is)
 
@@ -200,6 +204,7 @@ module _ (a b : Held) (event : Event) (here : a.realm < length a.heads.items) (c
     lines = let same = ap (lines_needed event) state_is ∙ needed_before event (work_of a).state in let free : b.making.free ≡ a.making.free = ap (λ (h : Held). h.making.free) rest in let enough = needs.lines in omega (arith, same, free, enough);
     connections = let free : b.connections.free ≡ a.connections.free = ap (λ (h : Held). h.connections.free) rest in let enough = needs.connections in omega (arith, free, enough);
     able = λ number begins_there c there room. able_at number begins_there c (sym (ap (connection_of number) state_is) ∙ there) (sym (ap (has_room c) state_is) ∙ room);
+    part = λ id joins item found. needs.part id joins item (sym (ap (λ (h : Held). find (is_named (work_of a).state.head.name id) (of h.transactions h.realm)) rest) ∙ ap (λ (s : State). find (is_named s.head.name id) (of b.transactions b.realm)) (sym state_is) ∙ found);
     peer = ap (λ (h : Held). h.making.peer) rest ∙ needs.peer ∙ sym (peer_before event (work_of a).state) ∙ sym (ap (peer_needed event) state_is);
     idle = record { work = ap (λ w. w.answer.work) does.own; spent = ap (λ w. w.answer.spent) does.own };
   }

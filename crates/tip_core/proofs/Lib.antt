@@ -18,3 +18,4 @@ pub mod Lending
 pub mod Isolated
 pub mod Naming
 pub mod Superiors
+pub mod Joining

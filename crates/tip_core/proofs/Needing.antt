@@ -1,11 +1,16 @@
 -- What an event needs is counted on the tables.
-use Rattle.std.proofs.Common.{◌≡◌, ◌<◌, ◌+◌, ℕ, List, Bool, true, false, cond, Option, Some, None, refl, ap, arith, subst, sym, ◌∙◌}
+use Rattle.std.proofs.Common.{◌≡◌, ◌<◌, ◌+◌, ℕ, List, [], ◌∷◌, Bool, true, false, cond, Option, Some, None, inl, inr, map, refl, ap, arith, subst, sym, ◌∙◌}
 use Rattle.std.specs.Prelude.{find, nat_lt, option_map}
 use Rattle.std.specs.Option.{option_and_then, option_map_or}
+use Rattle.std.proofs.lemmas.Bool.{cases_eq}
 use Rattle.std.proofs.lemmas.Bool.Decides.{nat_tests}
+use Rattle.std.proofs.lemmas.Option.{none-some, same_Some}
 use Rattle.tip_branch.specs.Notes.{PartyNotes}
 use Rattle.tip_rows.specs.Keys.{Key}
-use Rattle.tip_table.specs.Kept.{StandsAt, item_at, of}
+use Rattle.tip_table.specs.Kept.{StandsAt, item_at, of, with_item_at}
+use Rattle.tip_table.specs.Lists.{changed}
+use Rattle.tip_table.proofs.Standing.{write, write_others}
+use Rattle.tip_table.proofs.Standing.{found as found_first}
 use Rattle.tip_machine.specs.Connections.{has_number}
 use Rattle.tip_machine.specs.Counts.{HasCounts}
 use Rattle.tip_machine.specs.Requests.{owner}
@@ -19,9 +24,10 @@ use Rattle.tip_core.proofs.Outcomes.{key_is}
 use Rattle.tip_core.proofs.Works.{find-seen}
 use Rattle.tip_machine.proofs.Counting.{entered_below}
 use Rattle.tip_machine.proofs.Walks.{found-number}
-use Rattle.tip_core.specs.Needs.{begins_on, room_needed, room_on}
+use Rattle.tip_core.specs.Growing.{CanGrow}
+use Rattle.tip_core.specs.Needs.{MayJoin, begins_on, joined_by, room_needed, room_on}
 use Rattle.tip_core.specs.Rooms.{TransactionRoom, room_for}
-use Rattle.tip_core.specs.Works.{Held, HeldTransaction, is_keyed, lines_as, lines_at, lines_for, lines_of, peer_of, work_of}
+use Rattle.tip_core.specs.Works.{Held, HeldTransaction, is_keyed, is_named, lines_as, lines_at, lines_for, lines_of, peer_of, work_of}
 
 pub lines_there : (held : Held) (number place : ℕ) (item : Connection) → StandsAt held.connections held.realm (has_number number) place → item_at held.connections place ≡ Some item → (lines : ℕ) → lines ≡ lines_as item.role (work_of held).state → lines ≡ lines_at number (work_of held).state
 lines_there held number place item here is lines same = same ∙ sym (ap (λ o. option_map_or (λ c. lines_as c.role (work_of held).state) o 0) (standing_number held number place item here is))
@@ -37,6 +43,45 @@ pub lines_with_owner : (held : Held) (party : PartyNotes) (key : Key) (place : �
 lines_with_owner held party key place here same lines is =
     let found = keyed_there held key place here in
     is ∙ ap (λ k. lines_for k (work_of held).state) (key_is held key found.0 found.1) ∙ sym (ap (λ o. lines_of o (work_of held).state) (same ∙ found.1))
+
+-- Where a part more may join
+
+module _ (old : Held) (place : ℕ) (id : List ℕ) (item value : HeldTransaction) (here : StandsAt old.transactions old.realm (is_named (work_of old).state.head.name id) place) (is : item_at old.transactions place ≡ Some item) (same : value ≡ record item { txn = record item.txn { spare = value.txn.spare } }) where
+  changed_alike : (ts : List HeldTransaction) → find (is_named (work_of old).state.head.name id) ts ≡ Some item → (map seen (changed (is_named (work_of old).state.head.name id) (λ _. value) ts) ≡ map seen ts) × (find (is_named (work_of old).state.head.name id) (changed (is_named (work_of old).state.head.name id) (λ _. value) ts) ≡ Some value)
+  changed_alike [] found = absurd (none-some item found)
+  changed_alike (t ∷ ts) found = step (is_named (work_of old).state.head.name id t) refl found (λ later. changed_alike ts later) where
+    step : (this : Bool) → is_named (work_of old).state.head.name id t ≡ this → cond this (Some t) (find (is_named (work_of old).state.head.name id) ts) ≡ Some item →
+        (find (is_named (work_of old).state.head.name id) ts ≡ Some item → (map seen (changed (is_named (work_of old).state.head.name id) (λ _. value) ts) ≡ map seen ts) × (find (is_named (work_of old).state.head.name id) (changed (is_named (work_of old).state.head.name id) (λ _. value) ts) ≡ Some value)) →
+        (map seen (cond this (value ∷ ts) (t ∷ changed (is_named (work_of old).state.head.name id) (λ _. value) ts)) ≡ map seen (t ∷ ts)) × (find (is_named (work_of old).state.head.name id) (cond this (value ∷ ts) (t ∷ changed (is_named (work_of old).state.head.name id) (λ _. value) ts)) ≡ Some value)
+    step true named at later =
+        let own : t ≡ item = same_Some t item at in (
+          ap (λ (u : HeldTransaction). seen u ∷ map seen ts) same ∙ ap (λ (u : HeldTransaction). seen u ∷ map seen ts) (sym own),
+          ap (λ b. cond b (Some value) (find (is_named (work_of old).state.head.name id) ts)) (ap (λ (u : HeldTransaction). is_named (work_of old).state.head.name id u) same ∙ ap (λ (u : HeldTransaction). is_named (work_of old).state.head.name id u) (sym own) ∙ named),
+        )
+    step false named at later = let rest = later at in (ap (λ us. seen t ∷ us) rest.0, ap (λ b. cond b (Some t) (find (is_named (work_of old).state.head.name id) (changed (is_named (work_of old).state.head.name id) (λ _. value) ts))) named ∙ rest.1)
+
+  own_list : of (with_item_at old.transactions place value) old.realm ≡ changed (is_named (work_of old).state.head.name id) (λ _. value) (of old.transactions old.realm)
+  own_list = write old.transactions old.realm (is_named (work_of old).state.head.name id) (λ _. value) place item value here is refl
+
+  own_alike : (map seen (changed (is_named (work_of old).state.head.name id) (λ _. value) (of old.transactions old.realm)) ≡ map seen (of old.transactions old.realm)) × (find (is_named (work_of old).state.head.name id) (changed (is_named (work_of old).state.head.name id) (λ _. value) (of old.transactions old.realm)) ≡ Some value)
+  own_alike = changed_alike (of old.transactions old.realm) (found_first old.transactions old.realm (is_named (work_of old).state.head.name id) place here ∙ is)
+
+  pub grown_seen : (realm : ℕ) → map seen (of (with_item_at old.transactions place value) realm) ≡ map seen (of old.transactions realm)
+  grown_seen realm = elim (cases_eq realm old.realm) [
+    | inl at ↦ subst (λ r. map seen (of (with_item_at old.transactions place value) r) ≡ map seen (of old.transactions r)) (sym at) (ap (map seen) own_list ∙ own_alike.0)
+    | inr differ ↦ ap (map seen) (write_others old.transactions place value realm (record { realm = old.realm; at = here.at }) here.there (λ at. differ (sym at)))
+  ]
+
+  pub grown_room : 0 < value.txn.spare → CanGrow (work_of old).state.head.name id (of (with_item_at old.transactions place value) old.realm)
+  grown_room room transaction found = subst (λ (t : HeldTransaction). 0 < t.txn.spare) (same_Some value transaction (sym own_alike.1 ∙ sym (ap (find (is_named (work_of old).state.head.name id)) own_list) ∙ found)) room
+
+pub grown_nowhere : (held : Held) (id : List ℕ) → find (is_named (work_of held).state.head.name id) (of held.transactions held.realm) ≡ None → CanGrow (work_of held).state.head.name id (of held.transactions held.realm)
+grown_nowhere held id none transaction found = absurd (none-some transaction (sym none ∙ found))
+
+pub grown_part : (event : Event) (realm id : List ℕ) (transactions : List HeldTransaction) → joined_by event ≡ Some id → CanGrow realm id transactions → MayJoin event realm transactions
+grown_part event realm id transactions is grows other also = subst (λ i. CanGrow realm i transactions) (same_Some id other (sym is ∙ also)) grows
+
+pub ruleset growing = (grown_nowhere)
 
 -- where the other side of a connection is
 

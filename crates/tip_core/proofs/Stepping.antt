@@ -129,18 +129,19 @@ nowhere_steps realms turns place event outcome answer le is = record {
 -- Room
 
 -- the room that was made is what the work of the event needs
-pub needs : (realms : Realms) (place : ℕ) (outcome : Outcome) (made : Made) (event : Event) (room : Granted) → Suits (state_in place realms) realms.connections.free realms.transactions.free event room → made.free ≡ room.lines → made.room ≡ room.transaction → made.peer ≡ room.peer → HasNeeds event (working place outcome made realms)
+pub needs : (realms : Realms) (place : ℕ) (outcome : Outcome) (made : Made) (event : Event) (room : Granted) → Suits (state_in place realms) realms.connections.free realms.transactions.free (of realms.transactions place) event room → made.free ≡ room.lines → made.room ≡ room.transaction → made.peer ≡ room.peer → HasNeeds event (working place outcome made realms)
 needs realms place outcome made event room suits lines transaction peer = record {
   lines = omega (arith, suits.lines, lines);
   connections = suits.connections;
   transactions = suits.transactions;
   transaction = λ is. transaction ∙ suits.transaction is;
+  part = suits.part;
   peer = peer ∙ suits.peer;
 }
 
-pub room_for_it : (realms : Realms) (turns place : ℕ) (event : Event) (room : Granted) → place < length realms.heads.items → length (of realms.connections place) ≤ turns → Suits (state_in place realms) realms.connections.free realms.transactions.free event room → IsRoomFor (hosted realms turns) place event room
+pub room_for_it : (realms : Realms) (turns place : ℕ) (event : Event) (room : Granted) → place < length realms.heads.items → length (of realms.connections place) ≤ turns → Suits (state_in place realms) realms.connections.free realms.transactions.free (of realms.transactions place) event room → IsRoomFor (hosted realms turns) place event room
 room_for_it realms turns place event room lt enough suits = record {
-  suits = λ state here. subst (λ s. Suits s realms.connections.free realms.transactions.free event room) (sym (inside realms turns place state here).1) suits;
+  suits = λ state here. subst (λ s. Suits s realms.connections.free realms.transactions.free (of realms.transactions place) event room) (sym (inside realms turns place state here).1) suits;
   turns = λ state here. subst (λ (s : State). length s.connections ≤ turns) (sym (inside realms turns place state here).1) enough;
   nothing = λ none. absurd (none-some (state_in place realms) (sym none ∙ there realms turns place lt));
 }

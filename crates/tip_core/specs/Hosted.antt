@@ -49,7 +49,7 @@ pub record Steps (old new : Hosted) (place : ℕ) (event : Event) (outcome : Out
 
 -- this is a Room of this event, in this state
 pub record IsRoomFor (hosted : Hosted) (place : ℕ) (event : Event) (room : Granted) : Type 0 where
-  pub suits : (state : State) → realm hosted place ≡ Some state → Suits state hosted.connections.free hosted.transactions.free event room
+  pub suits : (state : State) → realm hosted place ≡ Some state → Suits state hosted.connections.free hosted.transactions.free (of hosted.transactions place) event room
   pub turns : (state : State) → realm hosted place ≡ Some state → length state.connections ≤ hosted.turns
   pub nothing : realm hosted place ≡ None → room.change ≡ None
 

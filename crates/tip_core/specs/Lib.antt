@@ -2,6 +2,7 @@ pub mod Rooms
 pub mod Makings
 pub mod Turns
 pub mod Works
+pub mod Growing
 pub mod Reacting
 pub mod Wanting
 pub mod Needs

@@ -3,6 +3,7 @@ use Rattle.std.specs.Prelude.{ℕ, ◌≡◌, ◌+◌, ◌<◌, ◌≤◌, Bool,
 use Rattle.std.specs.Option.{option_and_then}
 use Rattle.tip_line.specs.declared.command.Command.{Command as ACommand}
 use Rattle.tip_line.specs.declared.command.Command.TheVariants as commands
+use Rattle.tip_table.specs.Kept.{of}
 use Rattle.tip_machine.specs.Connections.{has_number}
 use Rattle.tip_machine.specs.Given.{are_numbered}
 use Rattle.tip_machine.specs.Requests.{owner}
@@ -16,8 +17,9 @@ use Rattle.tip_machine.specs.declared.event.Event.TheVariants.{Line, Lost, Open,
 use Rattle.tip_machine.specs.declared.event.Heard.{Heard}
 use Rattle.tip_machine.specs.declared.event.Heard.TheVariants.{Command}
 use Rattle.tip_machine.specs.declared.event.Outcome.{Outcome}
+use Rattle.tip_core.specs.Growing.{CanGrow}
 use Rattle.tip_core.specs.Rooms.{TransactionRoom, room_for}
-use Rattle.tip_core.specs.Works.{Held, IsIdle, MayMake, lines_at, lines_of, peer_of, work_of}
+use Rattle.tip_core.specs.Works.{Held, HeldTransaction, IsIdle, MayMake, lines_at, lines_of, peer_of, work_of}
 
 -- how many lines and closings an answer may have: one for each connection on the transaction, and two on the event's own
 abbrev pub lines_needed : Event → State → ℕ
@@ -54,6 +56,19 @@ room_on number state = option_and_then (λ connection. if has_room connection st
 abbrev pub room_needed : Event → State → Option TransactionRoom
 room_needed event state = option_and_then (λ number. room_on number state) (begins_on event)
 
+-- the identifier of the transaction that may get a part more
+abbrev pub joined : Heard → Option (List ℕ)
+joined (Command (commands.Pull superior subordinate)) = Some superior
+joined other = None
+
+abbrev pub joined_by : Event → Option (List ℕ)
+joined_by (Line seat heard) = joined heard
+joined_by other = None
+
+-- it has room for that, in a realm of this name
+abbrev pub MayJoin : Event → List ℕ → List HeldTransaction → Type 0
+MayJoin event realm transactions = (id : List ℕ) → joined_by event ≡ Some id → CanGrow realm id transactions
+
 -- where the other side of the event's connection is
 abbrev pub peer_needed : Event → State → Option (List ℕ)
 peer_needed (Line seat heard) state = peer_of seat.number state
@@ -68,12 +83,14 @@ pub record Granted : Type 0 where
   -- the change of its row that the event wants
   pub change : Option Change
 
--- this is room for the event in this state, with so many places free in the tables
-pub record Suits (state : State) (free_connections free_transactions : ℕ) (event : Event) (room : Granted) : Type 0 where
+-- This is room for the event in this state, with so many places free in the tables. The realm's transactions are held so: each
+-- has room for some parts more.
+pub record Suits (state : State) (free_connections free_transactions : ℕ) (held : List HeldTransaction) (event : Event) (room : Granted) : Type 0 where
   pub lines : lines_needed event state ≤ room.lines
   pub connections : connections_for event ≤ free_connections
   pub transactions : transactions_for event ≤ free_transactions
   pub transaction : is_open state ≡ true → room.transaction ≡ room_needed event state
+  pub part : MayJoin event state.head.name held
   pub peer : room.peer ≡ peer_needed event state
   pub change : room.change ≡ wants state event
 
@@ -83,6 +100,7 @@ pub record HasNeeds (event : Event) (held : Held) : Type 0 where
   pub connections : connections_for event ≤ held.connections.free
   pub transactions : transactions_for event ≤ held.transactions.free
   pub transaction : is_open (work_of held).state ≡ true → held.making.room ≡ room_needed event (work_of held).state
+  pub part : MayJoin event (work_of held).state.head.name (of held.transactions held.realm)
   pub peer : held.making.peer ≡ peer_needed event (work_of held).state
 
 -- the same once the event has its entry
@@ -93,6 +111,7 @@ pub record IsReady (event : Event) (held : Held) : Type 0 where
   pub lines : lines_needed event (work_of held).state ≤ held.making.free
   pub connections : connections_for event ≤ held.connections.free
   pub able : (number : ℕ) → begins_on event ≡ Some number → MayMake number held
+  pub part : MayJoin event (work_of held).state.head.name (of held.transactions held.realm)
   pub peer : held.making.peer ≡ peer_needed event (work_of held).state
   pub idle : IsIdle held.making.answer
 

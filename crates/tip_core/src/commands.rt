@@ -1,40 +1,40 @@
 //! Commands that we receive as the secondary of a connection (RFC 2371, section 13).
-ghost use Rattle.std.specs.Prelude.{◌≡◌, ◌≤◌, ◌<◌, ◌+◌, ◌&&◌, Some, length, nat_le, true};
-ghost use Rattle.tip_line.specs.Command.{name_of};
+ghost use Rattle.std.specs.Prelude.{◌≡◌, ◌≤◌, ◌<◌, ◌+◌, ◌&&◌, ℕ, List, Some, length, nat_le, true};
 ghost use Rattle.tip_line.specs.declared.command.Command.TheVariants as asked;
-ghost use Rattle.tip_conn.specs.declared.state.Admit.TheVariants.{Serve};
-ghost use Rattle.tip_table.specs.Kept.{StandsAt};
-ghost use Rattle.tip_machine.specs.Commands.{commanded, identify, query, serve, serve_if, superior_role};
+ghost use Rattle.tip_table.specs.Kept.{StandsAt, of};
+ghost use Rattle.tip_machine.specs.Commands.{commanded, identify, query, serve, superior_role};
 ghost use Rattle.tip_machine.specs.Connections.{has_number};
 ghost use Rattle.tip_machine.specs.Failing.{closed};
 ghost use Rattle.tip_machine.specs.Given.{are_numbered};
 ghost use Rattle.tip_machine.specs.Proceeding.{commit};
 ghost use Rattle.tip_machine.specs.Proceeding.{abort as aborted};
-ghost use Rattle.tip_machine.specs.Served.{is_served, today};
+ghost use Rattle.tip_machine.specs.Served.{today};
 ghost use Rattle.tip_machine.specs.States.{Attempt, connection_of};
 ghost use Rattle.tip_machine.specs.Steps.{chosen};
 ghost use Rattle.tip_machine.specs.Types.{Connection as AConnection};
 ghost use Rattle.tip_machine.specs.declared.event.Change.{Change};
 ghost use Rattle.tip_machine.specs.declared.event.Heard.TheVariants.{Command as ACommand};
-ghost use Rattle.tip_core.specs.Needs.{begins};
+ghost use Rattle.tip_core.specs.Growing.{CanGrow};
+ghost use Rattle.tip_core.specs.Needs.{begins, joined};
 ghost use Rattle.tip_core.specs.Works.{Does, IsIdle, lines_at, lines_for, MayMake, peer_of, work_of};
 
 use crate::making::Making;
 use crate::work::Work;
 use tip_conn::{Admit, admit};
 use tip_line::{Address, Command, CommandName, Id};
-use tip_machine::{Connection, Item, Outcome, Role, Said, Transaction, is_served};
+use tip_machine::{Connection, Item, Outcome, Role, Said, Transaction};
 use tip_rows::Key;
 use tip_txn::Phase;
 
 impl Work<Connection, Transaction, Making> {
-    /// A command from the primary: served where it is valid, and is one of those that are; else ERROR.
+    /// A command from the primary: served where it is valid; else ERROR.
     #[tactic(auto, unfolding(tip_machine::specs::Commands::commanded))]
     pub fn command(&mut self, number: u32, place: usize, command: Command)
         requires here { self.old.realm < length self.old.heads.items }
         requires stands { StandsAt self.old.connections self.old.realm (has_number number) place }
         requires able { begins (ACommand command) ≡ true → MayMake number self.old }
         requires peer { self.old.making.peer ≡ peer_of number (work_of self.old).state }
+        requires part { (id : List ℕ) → joined (ACommand command) ≡ Some id → CanGrow (work_of self.old).state.head.name id (of self.old.transactions self.old.realm) }
         requires numbered { are_numbered (work_of self.old).state ≡ true }
         requires lines { lines_at number (work_of self.old).state + 2 ≤ self.old.making.free }
         requires none { IsIdle self.old.making.answer }
@@ -42,37 +42,19 @@ impl Work<Connection, Transaction, Making> {
     {
         let connection = self.connection(number, place);
         match admit(connection.state, connection.side, &command) {
-            Admit::Serve => self.serve_if_served(number, place, command),
+            Admit::Serve => self.serve(number, place, command),
             Admit::Wrong => self.reject(number, place),
         }
     }
 
-    /// A command that is valid: served, or answered ERROR.
-    fn serve_if_served(&mut self, number: u32, place: usize, command: Command)
-        requires here { self.old.realm < length self.old.heads.items }
-        requires stands { StandsAt self.old.connections self.old.realm (has_number number) place }
-        requires able { begins (ACommand command) ≡ true → MayMake number self.old }
-        requires peer { self.old.making.peer ≡ peer_of number (work_of self.old).state }
-        requires numbered { are_numbered (work_of self.old).state ≡ true }
-        requires lines { lines_at number (work_of self.old).state + 2 ≤ self.old.making.free }
-        requires none { IsIdle self.old.making.answer }
-        ensures { (connection : AConnection) → connection_of number (work_of self.old).state ≡ Some connection → Does self.old self.new (chosen (serve_if today Serve command connection (work_of self.old)) self.old.outcome) }
-    {
-        if is_served(command.name()) {
-            self.serve(number, place, command);
-        } else {
-            self.reject(number, place);
-        }
-    }
-
-    /// A command that is valid and served.
+    /// A command that is valid.
     #[tactic(auto, using(crate::proofs::Commanding::serving))]
     pub fn serve(&mut self, number: u32, place: usize, command: Command)
         requires here { self.old.realm < length self.old.heads.items }
         requires stands { StandsAt self.old.connections self.old.realm (has_number number) place }
-        requires served { is_served (name_of command) ≡ true }
         requires able { begins (ACommand command) ≡ true → MayMake number self.old }
         requires peer { self.old.making.peer ≡ peer_of number (work_of self.old).state }
+        requires part { (id : List ℕ) → joined (ACommand command) ≡ Some id → CanGrow (work_of self.old).state.head.name id (of self.old.transactions self.old.realm) }
         requires numbered { are_numbered (work_of self.old).state ≡ true }
         requires lines { lines_at number (work_of self.old).state + 2 ≤ self.old.making.free }
         requires none { IsIdle self.old.making.answer }
@@ -87,6 +69,10 @@ impl Work<Connection, Transaction, Making> {
             } => self.greet(number, place, (low, high), primary),
             Command::Begin => self.begin(number, place),
             Command::Push { superior } => self.push(number, place, superior),
+            Command::Pull {
+                superior,
+                subordinate,
+            } => self.pull(number, place, &superior, subordinate),
             Command::Prepare => self.obey_prepare(number, place),
             Command::Commit => self.obey_commit(number, place),
             Command::Abort => self.obey_abort(number, place),
@@ -97,7 +83,6 @@ impl Work<Connection, Transaction, Making> {
             }
             Command::Tls => self.reply(number, place, CommandName::Tls, Said::CantTls),
             Command::Error => self.close(number, place),
-            Command::Pull { .. } => unreachable!(),
         }
     }
 

@@ -1,12 +1,12 @@
 //! Transactions by their identifiers, and by the parties that they gave out.
 ghost use Rattle.std.specs.Prelude.{◌≡◌, ◌↔◌, ◌<◌, false, find, length, None, IfSome, option_map};
 ghost use Rattle.std.specs.Option.{option_map_or};
-ghost use Rattle.tip_table.specs.Kept.{StandsAt};
+ghost use Rattle.tip_table.specs.Kept.{StandsAt, of};
 ghost use Rattle.tip_machine.specs.Commands.{exists};
 ghost use Rattle.tip_machine.specs.Requests.{owner};
 ghost use Rattle.tip_machine.specs.States.{identified_by, transaction_of};
 ghost use Rattle.tip_machine.specs.Transactions.{is_known};
-ghost use Rattle.tip_core.specs.Works.{is_keyed, work_of};
+ghost use Rattle.tip_core.specs.Works.{is_keyed, is_named, work_of};
 
 use crate::making::Making;
 use crate::query::{Known, Named};
@@ -24,6 +24,8 @@ impl Work<Connection, Transaction, Making> {
         ensures none { (result ≡ None) ↔ (identified_by id.now (work_of self.now).state ≡ None) }
         ensures some { IfSome result (λ found. StandsAt self.now.transactions self.now.realm (is_keyed found.0) found.1) }
         ensures same { IfSome result (λ found. identified_by id.now (work_of self.now).state ≡ transaction_of found.0 (work_of self.now).state) }
+        ensures named { IfSome result (λ found. StandsAt self.now.transactions self.now.realm (is_named (work_of self.now).state.head.name id.now) found.1) }
+        ensures nobody { (result ≡ None) ↔ (find (is_named (work_of self.now).state.head.name id.now) (of self.now.transactions self.now.realm) ≡ None) }
     {
         let query = Named {
             realm: self.name(),

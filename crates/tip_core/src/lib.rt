@@ -13,6 +13,7 @@ mod needs;
 mod opening;
 mod outcome;
 mod outlook;
+mod pulling;
 mod query;
 mod reaction;
 mod realms;

@@ -1,10 +1,12 @@
 //! What an event needs, made before it happens: lines, places in the tables, a transaction that begins, and the change of its row.
-ghost use Rattle.std.specs.Prelude.{◌≡◌, ◌<◌, ◌≤◌, ℕ, length, true, IfOk, OnOk};
+ghost use Rattle.std.specs.Prelude.{◌≡◌, ◌<◌, ◌≤◌, ℕ, length, map, true, IfOk, OnOk};
+ghost use Rattle.std.specs.Option.{option_copied};
 ghost use Rattle.tip_table.specs.Kept.{of};
 ghost use Rattle.tip_machine.specs.Counts.{HasCounts};
 ghost use Rattle.tip_machine.specs.Steps.{is_open, wants};
 ghost use Rattle.tip_machine.specs.Requests.{owner};
-ghost use Rattle.tip_core.specs.Needs.{Suits, begins_on, connections_for, lines_needed, peer_needed, room_needed, transactions_for};
+ghost use Rattle.tip_machine.specs.Types.{seen};
+ghost use Rattle.tip_core.specs.Needs.{MayJoin, Suits, begins_on, connections_for, joined_by, lines_needed, peer_needed, room_needed, transactions_for};
 ghost use Rattle.tip_core.specs.Works.{lines_as, lines_at, lines_for, lines_of, peer_of, work_of};
 
 use crate::making::Making;
@@ -14,7 +16,7 @@ use crate::transaction_room::TransactionRoom;
 use crate::work::Work;
 use std::alloc::{AllocError, Global};
 use tip_branch::HeldParty;
-use tip_line::{Address, Command};
+use tip_line::{Address, Command, Id};
 use tip_machine::{Change, Connection, Event, Heard, Role, Transaction};
 use tip_rows::Key;
 
@@ -23,12 +25,13 @@ impl Work<Connection, Transaction, Making> {
     pub fn prepare(&mut self, alloc: Global, event: &Event) -> Result<Room, AllocError>
         requires here { self.old.realm < length self.old.heads.items }
         requires counts { HasCounts (work_of self.old).state }
-        ensures ok { IfOk result (Suits (work_of self.new).state self.new.connections.free self.new.transactions.free event.now) }
+        ensures ok { IfOk result (Suits (work_of self.new).state self.new.connections.free self.new.transactions.free (of self.new.transactions self.new.realm) event.now) }
         ensures connections { (realm : ℕ) → of self.new.connections realm ≡ of self.old.connections realm }
-        ensures transactions { (realm : ℕ) → of self.new.transactions realm ≡ of self.old.transactions realm }
+        ensures transactions { (realm : ℕ) → map seen (of self.new.transactions realm) ≡ map seen (of self.old.transactions realm) }
         ensures rest { self.new ≡ record self.old { connections = self.new.connections; transactions = self.new.transactions } }
     {
         self.reserve(event)?;
+        self.reserve_part(event)?;
         let lines = self.lines_needed(event)?;
         let transaction = self.room_to_begin(alloc, event)?;
         let peer = self.peer_needed(event)?;
@@ -51,6 +54,25 @@ impl Work<Connection, Transaction, Making> {
             return self.transactions.reserve();
         }
         Ok(())
+    }
+
+    /// Makes room for one part more on the transaction that may get one. What is seen of transactions stays.
+    #[tactic(auto, using(crate::proofs::Needing::growing))]
+    fn reserve_part(&mut self, event: &Event) -> Result<(), AllocError>
+        requires here { self.old.realm < length self.old.heads.items }
+        ensures part { OnOk result (MayJoin event.now (work_of self.new).state.head.name (of self.new.transactions self.new.realm)) }
+        ensures transactions { (realm : ℕ) → map seen (of self.new.transactions realm) ≡ map seen (of self.old.transactions realm) }
+        ensures free { self.new.transactions.free ≡ self.old.transactions.free }
+        ensures rest { self.new ≡ record self.old { transactions = self.new.transactions } }
+    {
+        let Some(id) = joined_by(event) else {
+            return Ok(());
+        };
+        let Some((_, place)) = self.identified(id) else {
+            return Ok(());
+        };
+        let transaction = self.transactions.item_mut(place);
+        transaction.txn.reserve()
     }
 
     /// The change of its row that the event wants: none in a realm that takes no entry.
@@ -200,6 +222,24 @@ fn copy_of(address: &Option<Address>) -> Result<Option<Address>, AllocError>
     match address {
         Some(address) => Ok(Some(address.copy()?)),
         None => Ok(None),
+    }
+}
+
+/// The identifier of the transaction that may get a part more.
+fn joined_by(event: &Event) -> Option<&Id>
+    ensures { option_copied result ≡ joined_by event.now }
+{
+    match event {
+        Event::Line {
+            seat: _,
+            heard: Heard::Command(
+                Command::Pull {
+                    superior,
+                    subordinate: _,
+                },
+            ),
+        } => Some(superior),
+        _ => None,
     }
 }
 

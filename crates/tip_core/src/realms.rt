@@ -46,7 +46,7 @@ impl Realms<Connection, Transaction> {
     pub fn room(&mut self, alloc: Global, realm: usize, event: &Event) -> Result<Room, AllocError>
         requires here { realm < length self.old.heads.items }
         requires counts { HasCounts (state_in realm self.old) }
-        ensures ok { IfOk result (Suits (state_in realm self.new) self.new.connections.free self.new.transactions.free event.now) }
+        ensures ok { IfOk result (Suits (state_in realm self.new) self.new.connections.free self.new.transactions.free (of self.new.transactions realm) event.now) }
         ensures heads { self.new.heads ≡ self.old.heads }
         ensures realms { (place : ℕ) → state_in place self.new ≡ state_in place self.old }
     {

@@ -3,7 +3,7 @@ ghost use Rattle.std.specs.Prelude.{◌≡◌, ◌≤◌, ◌<◌, ◌+◌, ℕ,
 ghost use Rattle.tip_conn.specs.declared.state.Side.TheVariants.{Primary, Secondary};
 ghost use Rattle.tip_line.specs.Command.{name_of};
 ghost use Rattle.tip_line.specs.declared.command.Command.{Command};
-ghost use Rattle.tip_table.specs.Kept.{StandsAt};
+ghost use Rattle.tip_table.specs.Kept.{StandsAt, of};
 ghost use Rattle.tip_machine.specs.Answers.{silence};
 ghost use Rattle.tip_machine.specs.Connections.{has_number};
 ghost use Rattle.tip_machine.specs.Counts.{HasCounts};
@@ -14,7 +14,8 @@ ghost use Rattle.tip_machine.specs.States.{connection_of, seated};
 ghost use Rattle.tip_machine.specs.Steps.{attempt, chosen, frozen};
 ghost use Rattle.tip_machine.specs.Types.{Connection as AConnection};
 ghost use Rattle.tip_machine.specs.declared.event.Heard.TheVariants.{Command as ACommand};
-ghost use Rattle.tip_core.specs.Needs.{HasNeeds, IsReady, begins, happened};
+ghost use Rattle.tip_core.specs.Growing.{CanGrow};
+ghost use Rattle.tip_core.specs.Needs.{HasNeeds, IsReady, begins, happened, joined};
 ghost use Rattle.tip_core.specs.Works.{Does, IsIdle, lines_at, MayMake, peer_of, work_of};
 
 use crate::making::Making;
@@ -77,6 +78,7 @@ impl Work<Connection, Transaction, Making> {
         requires here { self.old.realm < length self.old.heads.items }
         requires able { begins heard ≡ true → MayMake seat.number self.old }
         requires peer { self.old.making.peer ≡ peer_of seat.number (work_of self.old).state }
+        requires part { (id : List ℕ) → joined heard ≡ Some id → CanGrow (work_of self.old).state.head.name id (of self.old.transactions self.old.realm) }
         requires numbered { are_numbered (work_of self.old).state ≡ true }
         requires lines { lines_at seat.number (work_of self.old).state + 2 ≤ self.old.making.free }
         requires none { IsIdle self.old.making.answer }
@@ -102,6 +104,7 @@ impl Work<Connection, Transaction, Making> {
         requires stands { StandsAt self.old.connections self.old.realm (has_number number) place }
         requires able { begins heard ≡ true → MayMake number self.old }
         requires peer { self.old.making.peer ≡ peer_of number (work_of self.old).state }
+        requires part { (id : List ℕ) → joined heard ≡ Some id → CanGrow (work_of self.old).state.head.name id (of self.old.transactions self.old.realm) }
         requires numbered { are_numbered (work_of self.old).state ≡ true }
         requires lines { lines_at number (work_of self.old).state + 2 ≤ self.old.making.free }
         requires none { IsIdle self.old.making.answer }
@@ -113,7 +116,7 @@ impl Work<Connection, Transaction, Making> {
         }
     }
 
-    /// As its primary we await nothing: ERROR alone is heard.
+    /// As its primary we hear ERROR alone, also where a connection turned round at PULL.
     fn hear_as_primary(&mut self, number: u32, place: usize, heard: Heard)
         requires stands { StandsAt self.old.connections self.old.realm (has_number number) place }
         requires lines { lines_at number (work_of self.old).state + 2 ≤ self.old.making.free }
@@ -141,7 +144,7 @@ impl Work<Connection, Transaction, Making> {
         }
     }
 
-    /// We are asked to speak first on a connection: none is ours.
+    /// We are asked to speak first on a connection: none is dialled.
     #[tactic(auto, using(crate::proofs::Happening::asking_on))]
     fn ask_on(&mut self, seat: Seat)
         requires { self.old.realm < length self.old.heads.items }

@@ -8,12 +8,10 @@ mod event;
 pub mod examples;
 mod head;
 pub mod laws;
-mod served;
 mod transaction;
 
 pub use answer::{Answer, Asked, Item, Said, Sent, SentLines};
 pub use connection::{Awaited, Connection, Purpose, Role};
 pub use event::{Change, Event, Heard, InRealm, Outcome, Seat};
 pub use head::{Head, Limits, Start};
-pub use served::is_served;
 pub use transaction::{Origin, PartyPlace, Transaction};

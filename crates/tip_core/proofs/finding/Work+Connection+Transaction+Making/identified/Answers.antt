@@ -19,3 +19,6 @@ returns-in-Some-clause-same g c =
 
 pub returns-in-None-clause-none : goal.returns-in-None-clause-none
 returns-in-None-clause-none g c = (λ is. (sought_none c.args.self.now c.name.result.now c.args.id.now c.name.ensures).0 (c.find.ensures.none.0 c.in-None.is), λ none. refl)
+
+pub returns-in-Some-clause-named : goal.returns-in-Some-clause-named
+returns-in-Some-clause-named g c = sought_here c.args.self.now c.name.result.now c.args.id.now c.in-Some.place c.name.ensures c.in-Some.ensures.some
