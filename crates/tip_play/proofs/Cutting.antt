@@ -1,11 +1,17 @@
 -- A script that comes in two parts, cut into lines.
-use Rattle.std.proofs.Common.{◌≡◌, ◌<◌, ◌≤◌, ◌++◌, ◌∷◌, [], ℕ, List, true, false, cond, if◌then◌else◌, length, take, arith, refl, sym, ap, ◌∙◌, length-append}
+use Rattle.std.proofs.Common.{◌≡◌, ◌<◌, ◌≤◌, ◌++◌, ◌∷◌, [], ℕ, List, Bool, true, false, not, cond, if◌then◌else◌, length, take, arith, refl, sym, ap, ◌∙◌, length-append}
 use Rattle.std.specs.Prelude.{count_by, slice_index_or}
-use Rattle.std.specs.List.{onto_first}
+use Rattle.std.specs.List.{list_all, onto_first}
 use Rattle.std.proofs.Math.Seq.{get_or-append_seam}
 use Rattle.std.proofs.lemmas.List.{append_assoc, append-nil, take_at}
 use Rattle.std.proofs.lemmas.List.Splits.{length-slice_split}
-use Rattle.tip_play.specs.Transcripts.{is_line_feed, lines_of, ended, unended}
+use Rattle.tip_line.proofs.StopLemmas.{and_left, and_right}
+use Rattle.script_lines.specs.Lines.{is_inner, is_line_feed}
+use Rattle.tip_play.specs.Transcripts.{lines_of, ended, unended}
+
+pub not_is : (is : Bool) → not is ≡ true → is ≡ false
+not_is true e = sym e
+not_is false e = refl
 
 -- Octet after octet
 
@@ -109,19 +115,18 @@ ended_feed read = rw (ended_is (read ++ 10 ∷ []), ended_is read, unended_is re
 pub unended_feed : (read : List ℕ) → unended (read ++ 10 ∷ []) ≡ []
 unended_feed read = unended_is (read ++ 10 ∷ []) ∙ unended_behind [] read (10 ∷ [])
 
-pub ended_octet : (read : List ℕ) (octet : ℕ) → is_line_feed octet ≡ false → ended (read ++ octet ∷ []) ≡ ended read
-ended_octet read octet other = rw (ended_is (read ++ octet ∷ []), ended_is read) (ended_behind [] read (octet ∷ []) ∙ rw other (append-nil (ended_from [] read)))
+-- What a line adds that has not ended
 
-pub unended_octet : (read : List ℕ) (octet : ℕ) → is_line_feed octet ≡ false → unended (read ++ octet ∷ []) ≡ unended read ++ octet ∷ []
-unended_octet read octet other = rw (unended_is (read ++ octet ∷ []), unended_is read) (unended_behind [] read (octet ∷ []) ∙ rw other refl)
+alone : (line more : List ℕ) → list_all is_inner more ≡ true → (ended_from line more ≡ []) × (unended_from line more ≡ line ++ more)
+alone line [] inner = (refl, sym (append-nil line))
+alone line (x ∷ more) inner =
+    let other : is_line_feed x ≡ false = not_is (is_line_feed x) (and_left (is_inner x) (list_all is_inner more) inner) in
+    let rest = alone (line ++ x ∷ []) more (and_right (is_inner x) (list_all is_inner more) inner) in
+    rw other (rest.0, rest.1 ∙ append_assoc line (x ∷ []) more)
 
--- there are no more lines than octets
-few_from : (line read : List ℕ) → length (ended_from line read) ≤ length read
-few_from line [] = omega arith
-few_from line (x ∷ read) = elim (is_line_feed x) as (λ is. length (if is then line ∷ ended_from [] read else ended_from (line ++ x ∷ []) read) ≤ length (x ∷ read)) [
-  | true ↦ let few = few_from [] read in omega arith
-  | false ↦ let few = few_from (line ++ x ∷ []) read in omega arith
-]
+pub ended_line : (read line : List ℕ) → unended read ≡ [] → list_all is_inner line ≡ true → ended (read ++ line) ≡ ended read
+ended_line read line closed inner =
+    rw (ended_is (read ++ line), ended_is read) (ended_behind [] read line ∙ ap (λ left. ended_from [] read ++ ended_from left line) (sym (unended_is read) ∙ closed) ∙ ap (λ l. ended_from [] read ++ l) (alone [] line inner).0 ∙ append-nil (ended_from [] read))
 
-pub few_lines : (read : List ℕ) → length (ended read) ≤ length read
-few_lines read = rw (ended_is read) (few_from [] read)
+pub unended_line : (read line : List ℕ) → unended read ≡ [] → list_all is_inner line ≡ true → unended (read ++ line) ≡ line
+unended_line read line closed inner = unended_is (read ++ line) ∙ unended_behind [] read line ∙ ap (λ left. unended_from left line) (sym (unended_is read) ∙ closed) ∙ (alone [] line inner).1

@@ -1,12 +1,5 @@
-pub mod FirstBranches
-pub mod Places
-pub mod Hearing
-pub mod Taking
-pub mod Acting
-pub mod Staging
-pub mod Appending
 pub mod Cutting
 pub mod Transcribing
-pub mod Players
+pub mod Lines
 pub mod Reading
-pub mod Showing
+pub mod Looking

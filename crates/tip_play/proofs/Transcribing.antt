@@ -4,10 +4,12 @@ use Rattle.std.proofs.lemmas.Bool.{le-leb, lt-leb}
 use Rattle.std.proofs.KnownBytes.{Appends-trans}
 use Rattle.std.specs.Io.KnownBytes.{Appends}
 use Rattle.std.proofs.lemmas.List.{append_assoc, append-nil}
-use Rattle.tip_play.specs.Transcripts.{Stage, Declaring, Acted, acted, act_of, Played, Reached, Fault, prepended, played_on, played, played_of, all_played, closing_text, longest_line, ended, unended, is_line_feed, IsFront, Transcribes}
-use Rattle.tip_play.specs.Writing.{IsFrontOf}
+use Rattle.script_lines.specs.Lines.{is_line_feed, longest_line}
+use Rattle.tip_scene.specs.Acts.{Stage, Declaring, Acted, acted}
+use Rattle.tip_writing.specs.Fronts.{IsFrontOf}
+use Rattle.tip_play.specs.Transcripts.{act_of, Played, Reached, Fault, prepended, played_on, played, played_of, all_played, closing_text, ended, unended, IsFront, Transcribes}
 use Rattle.tip_play.specs.declared.fault.PlayFault.TheVariants as fault
-use Rattle.tip_play.proofs.Cutting.{lines_from, all_lines, last_line, first_line, ended_feed, unended_feed, ended_octet}
+use Rattle.tip_play.proofs.Cutting.{lines_from, all_lines, last_line, first_line, ended_feed, unended_feed}
 
 -- Lines one after another
 
@@ -122,10 +124,6 @@ plays_line read stage next reached short plays =
     ∙ ap (λ (a : Acted). prepended (played_of read).printed (played_on a.printed a.stage number (λ s. played s (number + 1) []))) (short_line stage (unended read) short)
     ∙ ap (λ s. prepended (played_of read).printed (played_on does.printed s number (λ s. played s (number + 1) []))) plays
     ∙ ap (λ l. record { printed = (played_of read).printed ++ l; ending = Reached next }) (append-nil does.printed)
-
--- an octet more of the open line plays no line
-pub plays_none : (read : List ℕ) (octet : ℕ) → is_line_feed octet ≡ false → played_of (read ++ octet ∷ []) ≡ played_of read
-plays_none read octet other = ap (played (Declaring []) 1) (ended_octet read octet other)
 
 -- The last line may lack its end
 

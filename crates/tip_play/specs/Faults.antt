@@ -1,11 +1,7 @@
 -- How the process ends where a script is not played to its end.
 use Rattle.std.specs.Prelude.{ℕ}
-use Rattle.tip_core.specs.declared.starts.StartFault.{StartFault}
-use Rattle.tip_core.specs.declared.starts.StartFault.TheVariants as starts
-use Rattle.tip_line.specs.declared.fault.WordFault.{WordFault}
-use Rattle.tip_line.specs.declared.fault.WordFault.TheVariants as words
-use Rattle.tip_play.specs.declared.fault.LineFault.{LineFault}
-use Rattle.tip_play.specs.declared.fault.LineFault.TheVariants as lines
+use Rattle.script_lines.specs.declared.line.LineFault.{LineFault}
+use Rattle.script_lines.specs.declared.line.LineFault.TheVariants as line
 use Rattle.tip_play.specs.declared.fault.PlayFault.{PlayFault}
 use Rattle.tip_play.specs.declared.fault.PlayFault.TheVariants.{Script, Read, Write, Memory}
 
@@ -15,13 +11,7 @@ status_of Read = 1
 status_of Write = 1
 status_of Memory = 1
 
--- a name that is there already makes a bad line
-abbrev pub start_fault_of : StartFault → LineFault
-start_fault_of starts.SameName = lines.NotUnderstood
-start_fault_of starts.NoEpoch = lines.NotUnderstood
-start_fault_of starts.Memory = lines.Memory
-
--- a word that is none makes a bad line; want of memory stays what it is
-abbrev pub line_fault_of : WordFault → LineFault
-line_fault_of words.NotWord = lines.NotUnderstood
-line_fault_of words.Memory = lines.Memory
+-- why no line was read
+abbrev pub of_line : LineFault → PlayFault
+of_line line.Read = Read
+of_line line.Memory = Memory

@@ -1,94 +1,11 @@
 -- THE TRANSCRIPT OF A SCRIPT: what its octets make tipd print, and where it ends.
-use Rattle.std.specs.Prelude.{◌≡◌, ℕ, zero, suc, ◌+◌, ◌==◌, ◌&&◌, List, [], ◌∷◌, ◌++◌, length, map, take, count_by, slice_index_or, Bool, nat_le, nat_lt, Option, Some, None, option_map, Result, Ok, Err, if◌then◌else◌}
-use Rattle.std.specs.List.{list_all, flat_map, slice_split}
+use Rattle.std.specs.Prelude.{◌≡◌, ℕ, ◌+◌, List, [], ◌∷◌, ◌++◌, length, take, count_by, slice_index_or, nat_le, Option, Some, None, Result, Ok, Err, if◌then◌else◌}
+use Rattle.std.specs.List.{slice_split}
 use Rattle.std.specs.Io.KnownBytes.{Appends, Consumes}
-use Rattle.tip_line.specs.Words.{is_address, is_realm}
-use Rattle.tip_machine.specs.Heads.{are_allowed, is_other, starting}
-use Rattle.tip_rows.specs.Rows.{first_label}
-use Rattle.tip_machine.specs.States.{started}
-use Rattle.tip_machine.specs.declared.head.Limits.{Limits}
-use Rattle.tip_machine.specs.declared.head.Start.{Start}
+use Rattle.script_lines.specs.Lines.{is_line_feed, longest_line}
+use Rattle.tip_scene.specs.Acts.{Stage, Declaring, Acted, acted, closing_of}
 use Rattle.tip_play.specs.declared.fault.PlayFault.{PlayFault}
 use Rattle.tip_play.specs.declared.fault.PlayFault.TheVariants as fault
-use Rattle.tip_play.specs.Printing.{start_text}
-use Rattle.tip_play.specs.Scenes.{Acting, Scene, Moved, moved}
-use Rattle.tip_script.specs.Scripts.{Move, Declare, Open, Feed, Lose, move_of}
-
--- a script as far as it was played: the realms are declared, and the first other line starts them
-pub data Stage : Type 0 where
-  Declaring : List Start → Stage
-  Playing : Scene → Stage
-
--- what a line has printed, and the stage then; there is none where the script ends in a fault of this line
-pub record Acted : Type 0 where
-  pub printed : List ℕ
-  pub stage : Option Stage
-
--- Declarations
-
--- the branches of each transaction of a realm that names none: b1, b2 and so on, by number
-abbrev pub first_branches : ℕ → List (ℕ × List ℕ)
-first_branches zero = []
-first_branches (suc number) = first_branches number ++ (suc number, first_label (suc number)) ∷ []
-
--- a realm that is declared so starts in its first epoch
-abbrev pub start_of : List ℕ → List ℕ → ℕ → Limits → Start
-start_of name address branches limits = record { name = name; address = address; limits = limits; branches = first_branches branches; epoch = 1 }
-
--- how many branches a transaction may have
-abbrev pub is_count : ℕ → Bool
-is_count branches = nat_le 1 branches && nat_le branches 8
-
--- at most 64 realms, each with a name of its own, an address, and branches and limits that it may have
-abbrev pub may_be_declared : List ℕ → List ℕ → ℕ → Limits → List Start → Bool
-may_be_declared name address branches limits starts = list_all (is_other name) starts && nat_lt (length starts) 64 && is_count branches && are_allowed limits && is_realm name && is_address address
-
-abbrev pub declared : List ℕ → List ℕ → ℕ → Limits → List Start → Option (List Start)
-declared name address branches limits starts =
-    if may_be_declared name address branches limits starts
-    then Some (starts ++ start_of name address branches limits ∷ [])
-    else None
-
--- The start
-
-abbrev pub acting_of : Start → Acting
-acting_of start = record { name = start.name; state = started (starting start); readings = [] }
-
-abbrev pub scene_of : List Start → Scene
-scene_of starts = map acting_of starts
-
-abbrev pub starts_text : List Start → List ℕ
-starts_text starts = flat_map (λ start. start_text start.name) starts
-
--- One line
-
-abbrev pub acted_by : List ℕ → Moved → Acted
-acted_by before moved = record { printed = before ++ moved.printed; stage = option_map Playing moved.scene }
-
-abbrev pub acts : Stage → Move → Acted
-acts (Declaring starts) (Declare name address branches limits) = record { printed = []; stage = option_map Declaring (declared name address branches limits starts) }
-acts (Declaring starts) (Open realm) = acted_by (starts_text starts) (moved (Open realm) (scene_of starts))
-acts (Declaring starts) (Feed realm connection octets) = acted_by (starts_text starts) (moved (Feed realm connection octets) (scene_of starts))
-acts (Declaring starts) (Lose realm connection) = acted_by (starts_text starts) (moved (Lose realm connection) (scene_of starts))
-acts (Playing scene) move = acted_by [] (moved move scene)
-
-abbrev pub acts_if : Stage → Option Move → Acted
-acts_if stage None = record { printed = []; stage = None }
-acts_if stage (Some move) = acts stage move
-
--- an empty line says nothing
-abbrev pub acted : Stage → List ℕ → Acted
-acted stage [] = record { printed = []; stage = Some stage }
-acted stage (octet ∷ line) = acts_if stage (move_of (octet ∷ line))
-
--- The whole script
-
--- how many octets a line may have, without its end
-abbrev pub longest_line : ℕ
-longest_line = 8192
-
-abbrev pub is_line_feed : ℕ → Bool
-is_line_feed octet = octet == 10
 
 -- the lines of a script stand between its line feeds; the last one has no end
 abbrev pub lines_of : List ℕ → List (List ℕ)
@@ -129,8 +46,7 @@ played stage number (line ∷ lines) = played_on (act_of stage line).printed (ac
 
 -- at the end of a script the realms start, if they have not
 abbrev pub closing_text : Ending → List ℕ
-closing_text (Reached (Declaring starts)) = starts_text starts
-closing_text (Reached (Playing scene)) = []
+closing_text (Reached stage) = closing_of stage
 closing_text (Fault number) = []
 
 -- what was played of a script when so much of it was read: the lines that have ended

@@ -1,17 +1,11 @@
 -- What is written of one line.
-use Rattle.std.specs.Prelude.{◌≡◌, ℕ, List, ◌++◌, Option, Some, None, Result, Ok, Err}
+use Rattle.std.specs.Prelude.{◌≡◌, ℕ, List, Option, None, Some, Result, Ok, Err}
 use Rattle.std.specs.Io.KnownBytes.{Appends}
-use Rattle.tip_play.specs.Stages.{AStage, IsStage}
-use Rattle.tip_play.specs.Transcripts.{Acted, Stage}
+use Rattle.tip_scene.specs.Acts.{Acted, Stage}
+use Rattle.tip_scene.specs.Stages.{AStage, IsStage}
+use Rattle.tip_writing.specs.Fronts.{IsFrontOf}
 use Rattle.tip_play.specs.declared.fault.PlayFault.{PlayFault}
 use Rattle.tip_play.specs.declared.fault.PlayFault.TheVariants as fault
-
--- a front of this text was written
-pub record IsFrontOf (text : List ℕ) (old new : Option (List ℕ)) : Type 0 where
-  pub front : List ℕ
-  pub later : List ℕ
-  pub whole : text ≡ front ++ later
-  pub written : Appends old new front
 
 -- what a line printed was written, or a front of it
 abbrev pub Acts : ℕ → Acted → Option (List ℕ) → Option (List ℕ) → Result AStage PlayFault → Type 0
@@ -20,3 +14,11 @@ Acts number acted old new (Err (fault.Script line)) = (acted.stage ≡ None) × 
 Acts number acted old new (Err fault.Read) = ⊥
 Acts number acted old new (Err fault.Write) = IsFrontOf acted.printed old new
 Acts number acted old new (Err fault.Memory) = IsFrontOf acted.printed old new
+
+-- a text was written at the end, or a front of it
+abbrev pub Closes : List ℕ → Option (List ℕ) → Option (List ℕ) → Result (Unit {0}) PlayFault → Type 0
+Closes text old new (Ok done) = Appends old new text
+Closes text old new (Err (fault.Script line)) = ⊥
+Closes text old new (Err fault.Read) = ⊥
+Closes text old new (Err fault.Write) = IsFrontOf text old new
+Closes text old new (Err fault.Memory) = IsFrontOf text old new

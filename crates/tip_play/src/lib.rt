@@ -1,16 +1,9 @@
-//! Playing a script: the realms that it declares, at work, and the transcript of what they answer.
+//! Playing a script: the lines that are read, and the transcript of what they do.
 #![tactic(auto)]
 
-mod branches;
-mod declared;
+mod boxes;
 mod fault;
-pub mod laws;
-mod open_line;
 mod player;
-mod playing;
-mod printing;
-mod reader;
-mod stage;
 
 pub use fault::PlayFault;
 pub use player::play;

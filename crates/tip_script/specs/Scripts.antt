@@ -1,9 +1,11 @@
 -- The lines of a script. Their fields stand between single spaces, and a line that is empty says nothing.
-use Rattle.std.specs.Prelude.{ℕ, ◌%◌, ◌==◌, List, [], ◌∷◌, ◌++◌, length, Bool, ◌&&◌, ◌||◌, nat_le, Option, Some, None, Result, Ok, Err, codes, if◌then◌else◌}
+use Rattle.std.specs.Prelude.{ℕ, ◌%◌, ◌==◌, List, [], ◌∷◌, ◌++◌, length, map, Bool, ◌&&◌, ◌||◌, nat_le, Option, Some, None, Result, Ok, Err, codes, if◌then◌else◌}
 use Rattle.std.specs.List.{list_all, join_with_byte}
 use Rattle.std.specs.Str.{bytes_eq}
 use Rattle.hex.specs.Hex.{decode_of}
 use Rattle.hex.specs.declared.error.FromHexError.{FromHexError}
+use Rattle.tip_branch.specs.declared.branch.Plan.{Plan}
+use Rattle.tip_branch.specs.declared.branch.Plan.TheVariants as plan
 use Rattle.tip_line.specs.Fields.{fields_of}
 use Rattle.tip_line.specs.Ids.{number_in}
 use Rattle.tip_line.specs.Words.{is_realm, has_octets}
@@ -13,12 +15,40 @@ use Rattle.tip_machine.specs.declared.head.Limits.{Limits}
 pub data Move : Type 0 where
   -- a realm is declared
   Declare : (name : List ℕ) → (address : List ℕ) → (branches : ℕ) → (limits : Limits) → Move
-  -- another manager opens a connection of a realm, and no boxes come with it
-  Open : (realm : List ℕ) → Move
+  -- another manager opens a connection of a realm, and boxes of these plans come with it
+  Open : (realm : List ℕ) → (plans : List Plan) → Move
   -- octets come on a connection
   Feed : (realm : List ℕ) → (connection : ℕ) → (octets : List ℕ) → Move
   -- a connection is lost
   Lose : (realm : List ℕ) → (connection : ℕ) → Move
+  -- the realm's oldest errand is done, and its party comes back
+  Go : (realm : List ℕ) → Move
+  -- the realm's oldest errand is lost
+  Drop : (realm : List ℕ) → Move
+  -- the realm goes on with a transaction that is committed
+  Resume : (realm : List ℕ) → (id : List ℕ) → Move
+  -- the realm's next change of rows is to be refused
+  Refuse : (realm : List ℕ) → Move
+
+-- the realm that a move is of
+abbrev pub realm_of : Move → List ℕ
+realm_of (Declare name address branches limits) = name
+realm_of (Open realm plans) = realm
+realm_of (Feed realm connection octets) = realm
+realm_of (Lose realm connection) = realm
+realm_of (Go realm) = realm
+realm_of (Drop realm) = realm
+realm_of (Resume realm id) = realm
+realm_of (Refuse realm) = realm
+
+-- the boxes that come with a move
+abbrev pub plans_with : Move → List Plan
+plans_with (Open realm plans) = plans
+plans_with other = []
+
+abbrev pub plans_in : Option Move → List Plan
+plans_in None = []
+plans_in (Some move) = plans_with move
 
 -- what is left of a line, spaces included
 abbrev pub rest_of : List (List ℕ) → List ℕ
@@ -55,6 +85,24 @@ decoded (Err why) = []
 abbrev pub octets_in : List ℕ → List ℕ
 octets_in digits = decoded (decode_of digits)
 
+-- Boxes, a letter for each: y votes yes, n no, r read-only; l votes yes, and its first commit is answered Later
+
+abbrev pub plan_of : ℕ → Plan
+plan_of octet = if octet == 121 then plan.Yes else if octet == 110 then plan.No else if octet == 114 then plan.ReadOnly else plan.Late
+
+abbrev pub plans_of : List ℕ → List Plan
+plans_of kinds = map plan_of kinds
+
+abbrev pub is_kind : ℕ → Bool
+is_kind octet = (octet == 121) || (octet == 110) || (octet == 114) || (octet == 108)
+
+abbrev pub are_kinds : List ℕ → Bool
+are_kinds field = has_octets field && list_all is_kind field
+
+-- the letters of a field; - stands for none
+abbrev pub kinds_in : List ℕ → Option (List ℕ)
+kinds_in field = if bytes_eq field (codes "-") then Some [] else if are_kinds field then Some field else None
+
 -- The forms of a line, by the fields behind its first word
 
 -- CONNECTIONS TRANSACTIONS BRANCHES BOXES ENTRIES: how many branches each transaction has, and the limits
@@ -76,11 +124,12 @@ declaration (name ∷ address ∷ numbers) = do
   Some (Declare realm address sizes.0 sizes.1)
 declaration fields = None
 
--- open REALM -
+-- open REALM BOXES
 unfoldable pub opening : List (List ℕ) → Option Move
 opening (realm ∷ boxes) = do
   name ← realm_in realm
-  if bytes_eq (rest_of boxes) (codes "-") then Some (Open name) else None
+  kinds ← kinds_in (rest_of boxes)
+  Some (Open name (plans_of kinds))
 opening fields = None
 
 -- line REALM CONNECTION TEXT: the text and the end of a line
@@ -107,6 +156,27 @@ loss (realm ∷ connection ∷ []) = do
   Some (Lose name number)
 loss fields = None
 
+-- a realm, and no more
+unfoldable pub realm_alone : List (List ℕ) → Option (List ℕ)
+realm_alone (realm ∷ []) = realm_in realm
+realm_alone fields = None
+
+-- resume REALM ID
+unfoldable pub resumption : List (List ℕ) → Option Move
+resumption (realm ∷ id ∷ []) = do
+  name ← realm_in realm
+  Some (Resume name id)
+resumption fields = None
+
+-- go REALM, drop REALM, refuse REALM, and resume REALM ID
+unfoldable pub order_in : List ℕ → List (List ℕ) → Option Move
+order_in word fields =
+    if bytes_eq word (codes "go") then realm_alone fields >>= (λ realm. Some (Go realm))
+    else if bytes_eq word (codes "drop") then realm_alone fields >>= (λ realm. Some (Drop realm))
+    else if bytes_eq word (codes "refuse") then realm_alone fields >>= (λ realm. Some (Refuse realm))
+    else if bytes_eq word (codes "resume") then resumption fields
+    else None
+
 -- what a line says; None where it is not understood
 unfoldable pub move_in : List (List ℕ) → Option Move
 move_in (word ∷ fields) =
@@ -115,7 +185,7 @@ move_in (word ∷ fields) =
     else if bytes_eq word (codes "line") then text_line fields
     else if bytes_eq word (codes "raw") then hex_octets fields
     else if bytes_eq word (codes "lost") then loss fields
-    else None
+    else order_in word fields
 move_in [] = None
 
 abbrev pub move_of : List ℕ → Option Move

@@ -2,9 +2,10 @@
 ghost use Rattle.std.specs.Prelude.{◌≡◌, option_map};
 ghost use Rattle.std.specs.List.{list_all};
 ghost use Rattle.tip_script.specs.Moves.{move_by};
-ghost use Rattle.tip_script.specs.Scripts.{is_digit, is_hex, sizes_in, declaration, opening, text_line, hex_octets, loss, move_of};
+ghost use Rattle.tip_script.specs.Scripts.{is_digit, is_hex, sizes_in, declaration, opening, text_line, hex_octets, loss, move_of, order_in, plans_of, plans_with, realm_alone, realm_of, resumption};
 
 use crate::fields::{number_in, realm_in};
+use crate::kinds::kinds_in;
 use tip_line::Fields;
 use tip_machine::Limits;
 
@@ -28,9 +29,10 @@ pub enum Instruction<'a> {
         branches: u32,
         limits: Limits,
     },
-    /// `open REALM -`: another manager opens a connection, and no boxes come with it.
+    /// `open REALM BOXES`: another manager opens a connection, and boxes come with it, a letter for each; `-` stands for none.
     Open {
         realm: &'a str,
+        kinds: &'a [u8],
     },
     /// `line REALM CONN TEXT` or `raw REALM CONN HEX`: octets come on a connection.
     Feed {
@@ -42,6 +44,23 @@ pub enum Instruction<'a> {
     Lost {
         realm: &'a str,
         connection: u32,
+    },
+    /// `go REALM`: the realm's oldest errand is done, and its party comes back.
+    Go {
+        realm: &'a str,
+    },
+    /// `drop REALM`: the realm's oldest errand is lost.
+    Drop {
+        realm: &'a str,
+    },
+    /// `resume REALM ID`: the realm goes on with a transaction that is committed.
+    Resume {
+        realm: &'a str,
+        id: &'a [u8],
+    },
+    /// `refuse REALM`: the realm's next change of rows is to be refused.
+    Refuse {
+        realm: &'a str,
     },
 }
 
@@ -58,7 +77,39 @@ impl<'a> Instruction<'a> {
             b"line" => text_line(fields),
             b"raw" => hex_octets(fields),
             b"lost" => loss(fields),
-            _ => None,
+            word => order(word, fields),
+        }
+    }
+
+    /// The realm that it is of.
+    pub fn realm(self) -> &'a str
+        ensures { result.now ≡ realm_of (move_by self.entry) }
+    {
+        match self {
+            Instruction::Realm { name: realm, .. }
+            | Instruction::Open { realm, .. }
+            | Instruction::Feed { realm, .. }
+            | Instruction::Lost { realm, .. }
+            | Instruction::Go { realm }
+            | Instruction::Drop { realm }
+            | Instruction::Resume { realm, .. }
+            | Instruction::Refuse { realm } => realm,
+        }
+    }
+
+    /// The boxes that come with it, a letter for each; `plan_of` says what such a box promises.
+    pub fn kinds(self) -> &'a [u8]
+        ensures { plans_of result.now ≡ plans_with (move_by self.entry) }
+    {
+        match self {
+            Instruction::Open { kinds, .. } => kinds,
+            Instruction::Realm { .. }
+            | Instruction::Feed { .. }
+            | Instruction::Lost { .. }
+            | Instruction::Go { .. }
+            | Instruction::Drop { .. }
+            | Instruction::Resume { .. }
+            | Instruction::Refuse { .. } => b"",
         }
     }
 }
@@ -104,7 +155,8 @@ fn opening(mut fields: Fields<'_, b' '>) -> Option<Instruction<'_>>
     ensures { option_map move_by result ≡ opening fields.entry }
 {
     let realm = realm_in(fields.next()?)?;
-    (fields.rest()? == b"-".as_slice()).then_some(Instruction::Open { realm })
+    let kinds = kinds_in(fields.rest()?)?;
+    Some(Instruction::Open { realm, kinds })
 }
 
 #[tactic(auto, unfolding(crate::specs::Scripts::text_line))]
@@ -153,6 +205,54 @@ fn loss(mut fields: Fields<'_, b' '>) -> Option<Instruction<'_>>
     Some(Instruction::Lost {
         realm: realm_in(realm)?,
         connection: number_in(connection)?,
+    })
+}
+
+/// What a line says that begins with none of the words above.
+#[tactic(auto, unfolding(crate::specs::Scripts::order_in))]
+fn order<'a>(word: &[u8], fields: Fields<'a, b' '>) -> Option<Instruction<'a>>
+    ensures { option_map move_by result ≡ order_in word.now fields.entry }
+{
+    if word == b"go".as_slice() {
+        let realm = realm_alone(fields)?;
+        Some(Instruction::Go { realm })
+    } else if word == b"drop".as_slice() {
+        let realm = realm_alone(fields)?;
+        Some(Instruction::Drop { realm })
+    } else if word == b"refuse".as_slice() {
+        let realm = realm_alone(fields)?;
+        Some(Instruction::Refuse { realm })
+    } else if word == b"resume".as_slice() {
+        resumption(fields)
+    } else {
+        None
+    }
+}
+
+/// A realm, and no more.
+#[tactic(auto, unfolding(crate::specs::Scripts::realm_alone))]
+fn realm_alone(mut fields: Fields<'_, b' '>) -> Option<&str>
+    ensures { option_map (λ name. name.now) result ≡ realm_alone fields.entry }
+{
+    let realm = fields.next()?;
+    if fields.next().is_some() {
+        return None;
+    }
+    realm_in(realm)
+}
+
+#[tactic(auto, unfolding(crate::specs::Scripts::resumption))]
+fn resumption(mut fields: Fields<'_, b' '>) -> Option<Instruction<'_>>
+    ensures { option_map move_by result ≡ resumption fields.entry }
+{
+    let realm = fields.next()?;
+    let id = fields.next()?;
+    if fields.next().is_some() {
+        return None;
+    }
+    Some(Instruction::Resume {
+        realm: realm_in(realm)?,
+        id,
     })
 }
 

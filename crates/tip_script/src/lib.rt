@@ -3,5 +3,7 @@
 
 mod fields;
 mod instruction;
+mod kinds;
 
 pub use instruction::{Instruction, Octets};
+pub use kinds::plan_of;

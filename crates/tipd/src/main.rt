@@ -10,7 +10,7 @@ use clap::Error;
 use clap::error::ErrorKind;
 use std::env;
 use std::fmt::Display;
-use std::io::{self, BufWriter};
+use std::io::{self, BufReader, BufWriter};
 use std::process::ExitCode;
 use tip_listing::RowsFault;
 use tip_play::{PlayFault, play};
@@ -41,8 +41,9 @@ fn show(rt: &HostRuntime, error: Error) -> ExitCode {
 /// Plays standard input to standard output.
 fn play_all(rt: &HostRuntime) -> Result<(), PlayFault> {
     let alloc = rt.alloc();
+    let mut input = BufReader::new(alloc, rt.stdin()).map_err(|_| PlayFault::Memory)?;
     let mut output = BufWriter::new(alloc, io::writer(rt)).map_err(|_| PlayFault::Memory)?;
-    play(alloc, &mut rt.stdin(), &mut output)
+    play(alloc, &mut input, &mut output)
 }
 
 /// The words of the command line.

@@ -1,7 +1,7 @@
 //! Long scripts, and input and output that are slow or fail.
 use super::*;
 use std::alloc::Global;
-use std::io::{Error, ErrorKind, Read};
+use std::io::{BufReader, Error, ErrorKind, Read};
 use std::test::Fail;
 use tip_play::{PlayFault, play};
 
@@ -155,13 +155,15 @@ impl Read for Broken {
 #[test]
 fn input_that_fails_ends_the_script(rt: HostRuntime) -> Result<(), Fail> {
     let mut output = Vec::new(rt.alloc());
-    let end = play(rt.alloc(), &mut Broken { piece: b"" }, &mut output);
+    let mut input = BufReader::new(rt.alloc(), Broken { piece: b"" }).map_err(|_| "no memory")?;
+    let end = play(rt.alloc(), &mut input, &mut output);
     let (status, text) = said(rt.alloc(), end)?;
     assert_eq!(rt; status, 1);
     assert_eq!(rt; text.as_str(), "cannot read");
     assert!(rt; output.is_empty());
     let mut output = Vec::new(rt.alloc());
-    let end = play(rt.alloc(), &mut Broken { piece: START }, &mut output);
+    let mut input = BufReader::new(rt.alloc(), Broken { piece: START }).map_err(|_| "no memory")?;
+    let end = play(rt.alloc(), &mut input, &mut output);
     let (status, text) = said(rt.alloc(), end)?;
     assert_eq!(rt; status, 1);
     assert_eq!(rt; text.as_str(), "cannot read");

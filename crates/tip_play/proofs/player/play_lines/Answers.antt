@@ -1,48 +1,81 @@
--- Pieces that are read one after another.
-use Rattle.std.proofs.Common.{◌≤◌, ◌<◌, [], length, take, Err, arith, subst}
-use Rattle.std.specs.Io.KnownBytes.{Consumes}
-use Rattle.std.proofs.KnownBytes.{Consumes-nil, Keeps-refl}
+-- Lines that are read and played, one after another.
+use Rattle.std.proofs.Common.{rules, ◌≡◌, Ok, refl, subst, sym}
 use Rattle.std.proofs.lemmas.Result.{err_from_is_err_and}
-use Rattle.tip_play.specs.Transcripts.{Transcribes}
-use Rattle.tip_play.proofs.Reading.{of_whole, reads_none, reads_on, reads_fault, reads_no_more, reads_all}
+use Rattle.script_lines.specs.Lines.{Reads}
+use Rattle.tip_actor.specs.Acting.{boxes_of}
+use Rattle.tip_script.specs.Scripts.{move_of, plans_in}
+use Rattle.tip_scene.specs.Stages.{IsStage}
+use Rattle.tip_play.proofs.Reading.{line_fails, line_not_read, line_plays, line_too_long, reads_none, script_ends, stays_front}
 use Rattle.tip_play.proofs.player.play_lines.Goals as goal
 
-pub returns-in_err-player : goal.returns-in_err-player
-returns-in_err-player g c =
-    let e = err_from_is_err_and c.from_residual.result c.from_residual.ensures.1 in
-    let input = g.R.Read.remaining c.args.input.now in
-    let output = g.W.Write.contents c.args.output.now in
-    rw (e.1, e.2) (of_whole input input [] (λ script. Transcribes script input output output (Err c.in_err-player.field-0.0)) (Consumes-nil input) (λ rest. c.in_err-player.ensures output rest input))
+pub loop-number-init : goal.loop-number-init
+loop-number-init g c = reads_none c.new-stage.result (g.R.Read.remaining c.args.input.now) (g.W.Write.contents c.args.output.now) c.new-stage.ensures
 
-pub loop-init : goal.loop-init
-loop-init g c = reads_none c.in_ok-player.player (g.R.Read.remaining c.args.input.now) (g.W.Write.contents c.args.output.now) c.in_ok-player.ensures
+pub returns-in_err-end : goal.returns-in_err-end
+returns-in_err-end g c =
+    let e = err_from_is_err_and c.from_residual-in_err-end.result c.from_residual-in_err-end.ensures.1 in
+    rw (e.1, e.2) (line_not_read c.loop-number.stage c.loop-number.number (g.R.Read.remaining c.args.input.now) (g.R.Read.remaining c.loop-number.input) (g.R.Read.remaining c.read.new.input) (g.W.Write.contents c.args.output.now) (g.W.Write.contents c.loop-number.output)
+    c.read.new.self.octets.items c.in_err-end.field-0.0 c.loop-number.invariant c.in_err-end.ensures)
 
-pub returns-in_err-len : goal.returns-in_err-len
-returns-in_err-len g c =
-    let e = err_from_is_err_and c.from_residual-in_err-len.result c.from_residual-in_err-len.ensures.1 in
-    rw (e.1, e.2, c.in_err-len.ensures.fault) (reads_no_more c.loop.player c.loop.counter (g.R.Read.remaining c.args.input.now) (g.R.Read.remaining c.loop.input) (g.R.Read.remaining c.read_some.new.input) (g.W.Write.contents c.args.output.now) (g.W.Write.contents c.loop.output) c.loop.invariant c.in_err-len.ensures.bytes)
+pub returns-then-is_too_long : goal.returns-then-is_too_long
+returns-then-is_too_long g c =
+    line_too_long c.loop-number.stage c.loop-number.number (g.R.Read.remaining c.args.input.now) (g.R.Read.remaining c.loop-number.input) (g.R.Read.remaining c.read.new.input) (g.W.Write.contents c.args.output.now) (g.W.Write.contents c.loop-number.output)
+    c.read.new.self.octets.items c.in_ok-end.end c.loop-number.invariant (c.is_too_long.ensures.yes c.if-is_too_long.true) c.in_ok-end.ensures
 
-pub returns-then-len-eq0 : goal.returns-then-len-eq0
-returns-then-len-eq0 g c =
-    let none = subst (λ n. Consumes (g.R.Read.remaining c.loop.input) (g.R.Read.remaining c.read_some.new.input) (take n c.read_some.new.piece)) c.if-len-eq0.true c.in_ok-len.ensures.bytes.0 in
-    let room : 0 < length c.read_some.new.piece = omega arith in
-    reads_all c.loop.player c.loop.counter (g.R.Read.remaining c.args.input.now) (g.R.Read.remaining c.loop.input) (g.R.Read.remaining c.read_some.new.input) (g.W.Write.contents c.args.output.now) (g.W.Write.contents c.loop.output) (g.W.Write.contents c.end.new.output) c.end.result
-    (omega arith) c.loop.invariant none (c.in_ok-len.ensures.bytes.1 c.if-len-eq0.true room) c.end.ensures
+pub loop-kind-init : goal.loop-kind-init
+loop-kind-init g c = refl
 
-pub returns-in_err-player-2 : goal.returns-in_err-player-2
-returns-in_err-player-2 g c =
-    let e = err_from_is_err_and c.from_residual-in_err-player-2.result c.from_residual-in_err-player-2.ensures.1 in
-    let piece = take c.in_ok-len.len c.read_some.new.piece in
-    let short : length piece ≤ 8192 = omega (arith, c.in_ok-len.ensures.bound.0, c.in_ok-len.ensures.bound.1) in
-    rw (e.1, e.2) (reads_fault c.loop.player c.loop.counter piece (g.R.Read.remaining c.args.input.now) (g.R.Read.remaining c.loop.input) (g.R.Read.remaining c.read_some.new.input) (g.W.Write.contents c.args.output.now) (g.W.Write.contents c.loop.output) (g.W.Write.contents c.take.new.output) c.in_err-player-2.field-0.0
-    (omega arith) short c.loop.invariant c.in_ok-len.ensures.bytes.0 c.in_err-player-2.ensures)
+pub loop-kind-preserved : goal.loop-kind-preserved
+loop-kind-preserved g c = c.loop-kind.invariant
 
-pub loop-preserved : goal.loop-preserved
-loop-preserved g c =
-    let piece = take c.in_ok-len.len c.read_some.new.piece in
-    let short : length piece ≤ 8192 = omega (arith, c.in_ok-len.ensures.bound.0, c.in_ok-len.ensures.bound.1) in
-    reads_on c.loop.player c.in_ok-player-2.player c.loop.counter piece (g.R.Read.remaining c.args.input.now) (g.R.Read.remaining c.loop.input) (g.R.Read.remaining c.read_some.new.input) (g.W.Write.contents c.args.output.now) (g.W.Write.contents c.loop.output) (g.W.Write.contents c.take.new.output)
-    (omega arith) short c.loop.invariant c.in_ok-len.ensures.bytes.0 c.in_ok-player-2.ensures
+pub returns-in_err-new : goal.returns-in_err-new
+returns-in_err-new g c =
+    let e = err_from_is_err_and c.from_residual-in_err-new.result c.from_residual-in_err-new.ensures.1 in
+    rw (e.1, e.2) (stays_front c.loop-number.stage c.loop-number.number (g.R.Read.remaining c.args.input.now) (g.R.Read.remaining c.loop-number.input) (g.W.Write.contents c.args.output.now) (g.W.Write.contents c.loop-number.output) c.loop-number.invariant)
+
+pub returns-in_err-push : goal.returns-in_err-push
+returns-in_err-push g c =
+    let e = err_from_is_err_and c.from_residual-in_err-push.result c.from_residual-in_err-push.ensures.1 in
+    rw (e.1, e.2) (stays_front c.loop-number.stage c.loop-number.number (g.R.Read.remaining c.args.input.now) (g.R.Read.remaining c.loop-number.input) (g.W.Write.contents c.args.output.now) (g.W.Write.contents c.loop-number.output) c.loop-number.invariant)
+
+pub returns-then-not-are_of : goal.returns-then-not-are_of
+returns-then-not-are_of g c = stays_front c.loop-number.stage c.loop-number.number (g.R.Read.remaining c.args.input.now) (g.R.Read.remaining c.loop-number.input) (g.W.Write.contents c.args.output.now) (g.W.Write.contents c.loop-number.output) c.loop-number.invariant
+
+pub returns-in_err-into_lot : goal.returns-in_err-into_lot
+returns-in_err-into_lot g c =
+    let e = err_from_is_err_and c.from_residual-in_err-into_lot.result c.from_residual-in_err-into_lot.ensures.1 in
+    rw (e.1, e.2) (stays_front c.loop-number.stage c.loop-number.number (g.R.Read.remaining c.args.input.now) (g.R.Read.remaining c.loop-number.input) (g.W.Write.contents c.args.output.now) (g.W.Write.contents c.loop-number.output) c.loop-number.invariant)
+
+pub returns-in_err-stage : goal.returns-in_err-stage
+returns-in_err-stage g c =
+    let e = err_from_is_err_and c.from_residual-in_err-stage.result c.from_residual-in_err-stage.ensures.1 in
+    let text = c.as_slice-text.result.now in
+    let left = g.R.Read.remaining c.loop-number.input in
+    let left' = g.R.Read.remaining c.read.new.input in
+    let reads : Reads left left' text (Ok c.in_ok-end.end) = subst (λ l. Reads left left' l (Ok c.in_ok-end.end)) (sym c.as_slice-text.ensures) c.in_ok-end.ensures in
+    let brought : c.of-boxes.result ≡ boxes_of (plans_in (move_of text)) = search rules in
+    rw (e.1, e.2) (line_fails c.loop-number.stage c.loop-number.number (g.R.Read.remaining c.args.input.now) left left' (g.W.Write.contents c.args.output.now) (g.W.Write.contents c.loop-number.output) (g.W.Write.contents c.act.new.output)
+    text c.in_ok-end.end c.in_err-stage.field-0.0 c.loop-number.invariant (c.is_too_long.ensures.no c.if-is_too_long.false) reads (λ now is. c.in_err-stage.ensures now (subst (λ s. IsStage s now) (sym c.loop-kind.invariant) is) brought))
+
+pub returns-then-is_last : goal.returns-then-is_last
+returns-then-is_last g c =
+    let text = c.as_slice-text.result.now in
+    let left = g.R.Read.remaining c.loop-number.input in
+    let left' = g.R.Read.remaining c.read.new.input in
+    let reads : Reads left left' text (Ok c.in_ok-end.end) = subst (λ l. Reads left left' l (Ok c.in_ok-end.end)) (sym c.as_slice-text.ensures) c.in_ok-end.ensures in
+    let brought : c.of-boxes.result ≡ boxes_of (plans_in (move_of text)) = search rules in
+    script_ends c.loop-number.stage c.in_ok-stage.stage c.loop-number.number (g.R.Read.remaining c.args.input.now) left left' (g.W.Write.contents c.args.output.now) (g.W.Write.contents c.loop-number.output) (g.W.Write.contents c.act.new.output) (g.W.Write.contents c.finish.new.output)
+    text c.in_ok-end.end c.finish.result c.loop-number.invariant (c.is_last.ensures.yes c.if-is_last.true) reads (λ now is. c.in_ok-stage.ensures now (subst (λ s. IsStage s now) (sym c.loop-kind.invariant) is) brought) c.finish.ensures
+
+pub loop-number-preserved : goal.loop-number-preserved
+loop-number-preserved g c =
+    let text = c.as_slice-text.result.now in
+    let left = g.R.Read.remaining c.loop-number.input in
+    let left' = g.R.Read.remaining c.read.new.input in
+    let reads : Reads left left' text (Ok c.in_ok-end.end) = subst (λ l. Reads left left' l (Ok c.in_ok-end.end)) (sym c.as_slice-text.ensures) c.in_ok-end.ensures in
+    let brought : c.of-boxes.result ≡ boxes_of (plans_in (move_of text)) = search rules in
+    line_plays c.loop-number.stage c.in_ok-stage.stage c.loop-number.number (g.R.Read.remaining c.args.input.now) left left' (g.W.Write.contents c.args.output.now) (g.W.Write.contents c.loop-number.output) (g.W.Write.contents c.act.new.output)
+    text c.in_ok-end.end c.loop-number.invariant (c.is_too_long.ensures.no c.if-is_too_long.false) (c.is_last.ensures.no c.if-is_last.false) reads (λ now is. c.in_ok-stage.ensures now (subst (λ s. IsStage s now) (sym c.loop-kind.invariant) is) brought)
 
 pub returns : goal.returns
-returns g c = reads_no_more c.loop.player c.loop.counter (g.R.Read.remaining c.args.input.now) (g.R.Read.remaining c.loop.input) (g.R.Read.remaining c.loop.input) (g.W.Write.contents c.args.output.now) (g.W.Write.contents c.loop.output) c.loop.invariant (Keeps-refl (g.R.Read.remaining c.loop.input))
+returns g c = stays_front c.loop-number.stage c.loop-number.number (g.R.Read.remaining c.args.input.now) (g.R.Read.remaining c.loop-number.input) (g.W.Write.contents c.args.output.now) (g.W.Write.contents c.loop-number.output) c.loop-number.invariant

@@ -1,0 +1,5 @@
+pub mod FirstBranches
+pub mod Places
+pub mod Scening
+pub mod Knowing
+pub mod Staging

@@ -1,0 +1,5 @@
+pub mod Faults
+pub mod Scenes
+pub mod Acts
+pub mod Standing
+pub mod Stages

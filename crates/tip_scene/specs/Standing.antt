@@ -1,0 +1,21 @@
+-- How the code's values stand for the realms of a script at work.
+use Rattle.std.specs.Prelude.{◌≡◌, ℕ, List, ◌++◌, length, Bool, Option, Some, slice_get}
+use Rattle.std.specs.Str.{bytes_eq}
+use Rattle.tip_actor.specs.Acting.{Acting}
+use Rattle.tip_actor.specs.Standing.{Actor, Host, IsActing}
+use Rattle.tip_scene.specs.Scenes.{Scene, Moved}
+
+abbrev pub has_name : List ℕ → Actor → Bool
+has_name name actor = bytes_eq actor.name name
+
+-- all realms are as the scene says
+pub record IsScene (host : Host) (actors : List Actor) (scene : Scene) : Type 0 where
+  pub count : length actors ≡ length scene
+  pub each : (place : ℕ) (actor : Actor) (acting : Acting) → slice_get actors place ≡ Some actor → slice_get scene place ≡ Some acting → IsActing host place actor acting
+
+-- a line has printed its text, and the realms are as it made them
+pub record IsMoved (host : Host) (actors : List Actor) (printed printed' : List ℕ) (moved : Moved) : Type 0 where
+  pub text : printed' ≡ printed ++ moved.printed
+  pub scene : Scene
+  pub is : moved.scene ≡ Some scene
+  pub stands : IsScene host actors scene

@@ -1,0 +1,60 @@
+//! Why a line of a script is not done.
+ghost use Rattle.std.specs.Prelude.{◌≡◌};
+
+use std::alloc::{AllocError, AllocFailed};
+use tip_core::StartFault;
+use tip_line::WordFault;
+
+/// Why a line of a script is not done.
+#[derive(Clone, Copy, Debug, PartialEq, Eq)]
+pub enum LineFault {
+    /// It says nothing, or what may not stand here.
+    NotUnderstood,
+    Memory,
+}
+
+impl From<AllocError> for LineFault {
+    ghost use Rattle.tip_scene.specs.declared.fault.LineFault.TheVariants.{Memory};
+
+    ghost from_gives = { λ _ fault. fault ≡ Memory };
+
+    fn from(_: AllocError) -> LineFault {
+        LineFault::Memory
+    }
+}
+
+impl<T: Drop> From<AllocFailed<T>> for LineFault {
+    ghost use Rattle.tip_scene.specs.declared.fault.LineFault.TheVariants.{Memory};
+
+    ghost from_gives = { λ _ fault. fault ≡ Memory };
+
+    fn from(_: AllocFailed<T>) -> LineFault {
+        LineFault::Memory
+    }
+}
+
+impl From<WordFault> for LineFault {
+    ghost use Rattle.tip_scene.specs.Faults.{line_fault_of};
+
+    ghost from_gives = { λ fault result. result ≡ line_fault_of fault };
+
+    fn from(fault: WordFault) -> LineFault {
+        match fault {
+            WordFault::NotWord => LineFault::NotUnderstood,
+            WordFault::Memory => LineFault::Memory,
+        }
+    }
+}
+
+impl From<StartFault> for LineFault {
+    ghost use Rattle.tip_scene.specs.Faults.{start_fault_of};
+
+    ghost from_gives = { λ fault result. result ≡ start_fault_of fault };
+
+    fn from(fault: StartFault) -> LineFault {
+        match fault {
+            StartFault::SameName | StartFault::NoEpoch => LineFault::NotUnderstood,
+            StartFault::Memory => LineFault::Memory,
+        }
+    }
+}

@@ -1,0 +1,12 @@
+//! The realms of a script, declared and at work, and what each line of the script makes of them.
+#![tactic(auto)]
+
+mod branches;
+mod declared;
+mod fault;
+mod playing;
+mod stage;
+
+pub use fault::LineFault;
+pub use playing::Playing;
+pub use stage::{Stage, kinds_in};

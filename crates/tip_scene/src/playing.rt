@@ -1,0 +1,145 @@
+//! The realms of a script at work.
+ghost use Rattle.std.specs.Prelude.{◌≡◌, ◌++◌, ℕ, List, Some, None, IfOk, string_bytes};
+ghost use Rattle.std.specs.List.{position_or_len};
+ghost use Rattle.tip_branch.specs.Always.{Always};
+ghost use Rattle.tip_actor.specs.Acting.{Acting, boxes_of};
+ghost use Rattle.tip_actor.specs.Standing.{Host as AHost, IsActing, Tells};
+ghost use Rattle.tip_script.specs.Moves.{move_by};
+ghost use Rattle.tip_script.specs.Scripts.{plans_with, Resume};
+ghost use Rattle.tip_scene.specs.Scenes.{Scene, does, elsewhere, moved};
+ghost use Rattle.tip_scene.specs.Standing.{has_name, IsScene};
+ghost use Rattle.tip_scene.specs.Stages.{Moves, Prints};
+
+use crate::fault::LineFault;
+use std::alloc::{AllocError, Global};
+use tip_actor::Actor;
+use tip_branch::HeldFresh;
+use tip_host::Host;
+use tip_line::{Id, WordFault};
+use tip_machine::Event;
+use tip_rows::MemRows;
+use tip_script::Instruction;
+use tip_transcript::{print_idle, print_nowhere};
+
+/// All realms, each at its place in the order of declaration.
+#[derive(Drop)]
+pub struct Playing<H = Host<MemRows>, A = Actor> {
+    pub host: H,
+    pub actors: Vec<A>,
+}
+
+impl Playing<Host<MemRows>, Actor> {
+    /// Does what a line says, with the boxes that come with it; then all lines of its realm that may be taken are taken.
+    /// `NotUnderstood` where the line may not stand here.
+    pub fn act(
+        &mut self,
+        alloc: Global,
+        instruction: Instruction<'_>,
+        boxes: HeldFresh,
+        printed: &mut String,
+    ) -> Result<(), LineFault>
+        requires { Always }
+        ensures { (scene : Scene) → IsScene self.old.host self.old.actors.items scene → boxes ≡ boxes_of (plans_with (move_by instruction.entry)) →
+            Moves self.new.host self.new.actors.items (string_bytes printed.old) (string_bytes printed.new) (moved (move_by instruction.entry) scene) result }
+    {
+        let place = self.place_of(instruction.realm());
+        let Playing { host, actors } = self;
+        let Some(actor) = actors.get_mut(place) else {
+            return print_elsewhere(printed, instruction);
+        };
+        if !obey(actor, alloc, host, place, instruction, boxes, printed)? {
+            return Err(LineFault::NotUnderstood);
+        }
+        Ok(actor.settle(alloc, host, place, printed)?)
+    }
+
+    /// The place of a realm; one behind all realms where it is not declared.
+    fn place_of(&self, name: &str) -> usize
+        ensures { result ≡ position_or_len (has_name name.now) self.now.actors.items }
+    {
+        for (place, actor) in self.actors.iter().enumerate() {
+            if actor.name.as_str() == name {
+                return place;
+            }
+        }
+        self.actors.len()
+    }
+}
+
+/// Does what a line says to the realm that it is of, which has this place. It says whether the line may stand here.
+fn obey(
+    actor: &mut Actor,
+    alloc: Global,
+    host: &mut Host<MemRows>,
+    place: usize,
+    instruction: Instruction<'_>,
+    boxes: HeldFresh,
+    printed: &mut String,
+) -> Result<bool, AllocError>
+    ensures { (acting : Acting) → IsActing host.old place actor.old acting → boxes ≡ boxes_of (plans_with (move_by instruction.entry)) →
+        IfOk result (λ told. Tells host.old host.new place actor.old actor.new (string_bytes printed.old) (string_bytes printed.new) told (does (move_by instruction.entry) acting)) }
+{
+    match instruction {
+        Instruction::Realm { .. } => Ok(false),
+        Instruction::Open { .. } => {
+            actor.happen(alloc, host, place, Event::Open { boxes }, printed)?;
+            Ok(true)
+        }
+        Instruction::Feed {
+            connection,
+            octets,
+            ..
+        } => actor.feed(alloc, connection, octets),
+        Instruction::Lost { connection, .. } => {
+            actor.lose_connection(alloc, host, place, connection, printed)
+        }
+        Instruction::Go { .. } => actor.go(alloc, host, place, printed),
+        Instruction::Drop { .. } => {
+            actor.lose(host, place, printed)?;
+            Ok(true)
+        }
+        Instruction::Resume { id, .. } => resume(actor, alloc, host, place, id, printed),
+        Instruction::Refuse { .. } => {
+            actor.refuse(host);
+            Ok(true)
+        }
+    }
+}
+
+/// The realm goes on with the transaction of this identifier. It says whether it is a word.
+fn resume(
+    actor: &mut Actor,
+    alloc: Global,
+    host: &mut Host<MemRows>,
+    place: usize,
+    id: &[u8],
+    printed: &mut String,
+) -> Result<bool, AllocError>
+    ensures { (acting : Acting) (realm : List ℕ) → IsActing host.old place actor.old acting →
+        IfOk result (λ told. Tells host.old host.new place actor.old actor.new (string_bytes printed.old) (string_bytes printed.new) told (does (Resume realm id.now) acting)) }
+{
+    match Id::new(alloc, id) {
+        Ok(id) => {
+            actor.happen(alloc, host, place, Event::Resume { id }, printed)?;
+            Ok(true)
+        }
+        Err(WordFault::NotWord) => Ok(false),
+        Err(WordFault::Memory) => Err(AllocError),
+    }
+}
+
+/// What a line prints that is of no realm.
+fn print_elsewhere(printed: &mut String, instruction: Instruction<'_>) -> Result<(), LineFault>
+    ensures { Prints (string_bytes printed.old) (string_bytes printed.new) (elsewhere (move_by instruction.entry)) result }
+{
+    match instruction {
+        Instruction::Realm { .. } | Instruction::Feed { .. } | Instruction::Lost { .. } => {
+            Err(LineFault::NotUnderstood)
+        }
+        Instruction::Open { realm, .. } | Instruction::Resume { realm, .. } => {
+            Ok(print_nowhere(printed, realm)?)
+        }
+        Instruction::Go { realm } | Instruction::Drop { realm } => Ok(print_idle(printed, realm)?),
+        Instruction::Refuse { .. } => Ok(()),
+    }
+}
