@@ -15,7 +15,7 @@ unfolding with_item_at
 capacity-written kept place value = ap (λ n. n + kept.free) (length-written_in kept.entries place value)
 
 -- the first item of a list that passes
-find-first : {T : Type 0} (test : T → Bool) (items : List T) (at : ℕ) → IsFirst test items at → find test items ≡ slice_get items at
+pub find-first : {T : Type 0} (test : T → Bool) (items : List T) (at : ℕ) → IsFirst test items at → find test items ≡ slice_get items at
 find-first test [] at first = absurd first
 find-first test (x ∷ xs) zero first = rw first refl
 find-first test (x ∷ xs) (suc at) first = rw first.0 (find-first test xs at first.1)
@@ -25,7 +25,7 @@ found-first test [] at first none = first
 found-first test (x ∷ xs) zero first none = cc
 found-first test (x ∷ xs) (suc at) first none = found-first test xs at first.1 (rw first.0 at none)
 
-changed-first : {T : Type 0} (test : T → Bool) (change : T → T) (items : List T) (at : ℕ) (item : T) → IsFirst test items at → slice_get items at ≡ Some item → slice_set items at (change item) ≡ changed test change items
+pub changed-first : {T : Type 0} (test : T → Bool) (change : T → T) (items : List T) (at : ℕ) (item : T) → IsFirst test items at → slice_get items at ≡ Some item → slice_set items at (change item) ≡ changed test change items
 changed-first test change [] at item first is = absurd first
 changed-first test change (x ∷ xs) zero item first is =
     let same : x ≡ item = grind (arith, is) in

@@ -66,6 +66,16 @@ impl<T: Drop, A: Allocator> Table<T, A> {
         self.entries.reserve(1)
     }
 
+    /// Makes room for so many items more.
+    #[tactic(auto, unfolding(crate::specs::Kept::of, crate::specs::Kept::places))]
+    pub fn reserve_for(&mut self, count: usize) -> Result<(), AllocError>
+        ensures ok { OnOk result (count ≤ self.new.free) }
+        ensures items { (realm : ℕ) → of self.new realm ≡ of self.old realm }
+        ensures places { (place : ℕ) → places self.new place ≡ places self.old place }
+    {
+        self.entries.reserve(count)
+    }
+
     /// Makes an item the last of its realm. It takes room that `reserve` made.
     #[tactic(auto, using(crate::proofs::EntryLemmas::of_entries), unfolding(crate::specs::Kept::of, crate::specs::Kept::places))]
     pub fn add(&mut self, realm: usize, item: T)
