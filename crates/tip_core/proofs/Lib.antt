@@ -14,8 +14,9 @@ pub mod Needing
 pub mod Happening
 pub mod Turning
 pub mod Stepping
+pub mod Joining
+pub mod TakingUp
 pub mod Lending
 pub mod Isolated
 pub mod Naming
 pub mod Superiors
-pub mod Joining

@@ -7,4 +7,5 @@ pub mod Reacting
 pub mod Wanting
 pub mod Needs
 pub mod Hosted
+pub mod Recovering
 pub mod Isolation

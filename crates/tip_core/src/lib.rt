@@ -18,6 +18,7 @@ mod query;
 mod reaction;
 mod realms;
 mod reconnecting;
+mod recovering;
 mod returning;
 mod room;
 mod rows;

@@ -1,14 +1,17 @@
 //! The machines of all realms.
-ghost use Rattle.std.specs.Prelude.{◌≡◌, ℕ, [], None, true, IfOk, IsOk, OnOk, map, take, length, slice_get, option_map};
+ghost use Rattle.std.specs.Prelude.{◌≡◌, ◌≢◌, ℕ, ◌+◌, ◌≤◌, [], None, Some, true, IfOk, IsOk, OnOk, map, take, length, slice_get, option_map};
 ghost use Rattle.tip_branch.specs.Always.{Always};
 ghost use Rattle.tip_machine.specs.Heads.{starting};
 ghost use Rattle.tip_machine.specs.Steps.{fits};
-ghost use Rattle.tip_machine.specs.States.{started};
+ghost use Rattle.tip_machine.specs.States.{State, started};
+ghost use Rattle.tip_recovery.specs.Adopting.{are_adopted};
 ghost use Rattle.tip_core.specs.Hosted.{realm as realm_at, room_in, may_take_in, must_wait_in, HaveNames, IsRoomFor, Steps};
 ghost use Rattle.tip_core.specs.Isolation.{IsIsolated};
+ghost use Rattle.tip_core.specs.Recovering.{IsOf, taking_up};
 
 use crate::happened::Happened;
 use crate::realms::Realms;
+use crate::recovering::reopen_all;
 use crate::room::Room;
 use crate::starts::Starts;
 use crate::turns::Turns;
@@ -16,6 +19,7 @@ use std::alloc::{AllocError, Global};
 use std::marker::Model;
 use tip_line::{Realm, Refusal};
 use tip_machine::{Answer, Event, Head, InRealm, Outcome, Seat, Start};
+use tip_recovery::Recovery;
 
 /// What a list of events came to.
 #[derive(Drop)]
@@ -66,6 +70,32 @@ impl Core {
             realms: Realms::of(alloc, heads_of(alloc, starts.into_vec())?),
             turns: Turns::new(alloc),
         })
+    }
+
+    /// Room for so many transactions more. The realms stay as they are.
+    pub fn reserve(&mut self, transactions: usize) -> Result<(), AllocError>
+        requires { Always }
+        ensures realms { (place : ℕ) → realm_at self.new place ≡ realm_at self.old place }
+        ensures ok { OnOk result (transactions ≤ self.new.transactions.free) }
+    {
+        self.realms.transactions.reserve_for(transactions)
+    }
+
+    /// The transactions that recovery makes of a realm's rows join it, in room that is there.
+    pub fn take_up(&mut self, realm: usize, recovery: Recovery)
+        requires room { length recovery.rows ≤ self.old.transactions.free }
+        requires adopted { are_adopted recovery.rows ≡ true }
+        ensures own { (state : State) → realm_at self.old realm ≡ Some state → IsOf recovery state.head → realm_at self.new realm ≡ Some (taking_up recovery.rows state) }
+        ensures others { (other : ℕ) → other ≢ realm → realm_at self.new other ≡ realm_at self.old other }
+        ensures room { self.new.transactions.free + length recovery.rows ≡ self.old.transactions.free }
+    {
+        let epoch = recovery.epoch();
+        reopen_all(
+            &mut self.realms.transactions,
+            realm,
+            epoch,
+            recovery.into_rows(),
+        );
     }
 
     /// Room for an event. The realms stay as they are.

@@ -1,0 +1,150 @@
+//! The rows of one realm that starts again.
+ghost use Rattle.std.specs.Prelude.{◌≡◌, [], find, map, IfErr, IfOk, MatchOption, None, OnErr, OnOk, Some};
+ghost use Rattle.tip_branch.specs.Always.{Always};
+ghost use Rattle.tip_table.specs.Lists.{IsFirst, changed};
+ghost use Rattle.tip_recovery.specs.Adopting.{AreOf, adopted_for, adopting, are_adopted, is_named, refusal_of, unadopted};
+
+use crate::unfinished::{AdoptFault, Unfinished};
+use std::alloc::{AllocError, Global};
+use std::marker::Model;
+use tip_branch::HeldPrepared;
+use tip_line::{Id, Realm};
+use tip_rows::{Key, Loaded, Row};
+
+/// One realm that starts again: the epoch of its start, and its rows with the boxes that were adopted for them so far.
+#[derive(Drop)]
+pub struct Recovery {
+    realm: Realm,
+    epoch: u32,
+    rows: Vec<Unfinished>,
+}
+
+impl Model for Recovery {
+    ghost use Rattle.tip_recovery.specs.Adopting.{AreOf, Recovery};
+
+    ghost Value = { Recovery };
+
+    ghost view = { λ r. record { realm = r.realm; epoch = r.epoch; rows = r.rows.items } };
+
+    ghost invariant = { λ r. AreOf r.realm r.rows.items };
+}
+
+impl Recovery {
+    /// This realm with what was loaded of it, for which nothing was adopted yet. Its rows go into an empty vector.
+    pub fn of(
+        alloc: Global,
+        realm: Realm,
+        loaded: Loaded,
+        rows: Vec<Unfinished>,
+    ) -> Result<Recovery, AllocError>
+        requires { rows.items ≡ [] }
+        ensures { IfOk result (λ recovery. recovery ≡ record { realm = realm; epoch = loaded.epoch; rows = map (unadopted realm) loaded.rows.items }) }
+    {
+        let Loaded {
+            epoch,
+            rows: stored,
+        } = loaded;
+        let rows = rows_of(alloc, &realm, stored, rows)?;
+        Ok(Recovery { realm, epoch, rows })
+    }
+
+    /// The epoch of its start.
+    pub fn epoch(&self) -> u32
+        ensures { result ≡ self.now.epoch }
+    {
+        self.epoch
+    }
+
+    /// Its rows by rising key, also those for which nothing is to be adopted.
+    pub fn rows(&self) -> &[Unfinished]
+        requires { Always }
+        ensures { result.now ≡ self.now.rows }
+    {
+        &self.rows
+    }
+
+    /// Whether no row waits for boxes any more.
+    pub fn is_adopted(&self) -> bool
+        ensures { result ≡ are_adopted self.now.rows }
+    {
+        are_adopted(&self.rows)
+    }
+
+    /// These boxes are adopted for the branches of the row of this identifier, in their order; else they come back, and all
+    /// stays.
+    pub fn adopt(&mut self, id: &Id, boxes: HeldPrepared) -> Result<(), (AdoptFault, HeldPrepared)>
+        requires { Always }
+        ensures ok { OnOk result ((refusal_of id.now boxes self.old.rows ≡ None) × (self.new ≡ adopted_for id.now boxes self.old)) }
+        ensures err { IfErr result (λ fault. (refusal_of id.now boxes self.old.rows ≡ Some fault.0) × (fault.1 ≡ boxes)) }
+        ensures same { OnErr result (self.new ≡ self.old) }
+    {
+        adopt_in(&mut self.rows, id, boxes)
+    }
+
+    /// Its rows, without taking memory.
+    pub fn into_rows(self) -> Vec<Unfinished>
+        requires { Always }
+        ensures same { result.items ≡ self.rows }
+        ensures own { AreOf self.realm self.rows }
+    {
+        self.rows
+    }
+}
+
+/// Each stored row, for which nothing was adopted yet, in an empty vector.
+fn rows_of(
+    alloc: Global,
+    realm: &Realm,
+    stored: Vec<(Key, Row)>,
+    mut rows: Vec<Unfinished>,
+) -> Result<Vec<Unfinished>, AllocError>
+    requires { rows.items ≡ [] }
+    ensures { IfOk result (λ rows. rows.items ≡ map (unadopted realm.now) stored.items) }
+{
+    rows.reserve(stored.len())?;
+    for (key, row) in stored {
+        rows.push(Unfinished::of(alloc, realm, key, row)?)?;
+    }
+    Ok(rows)
+}
+
+/// Whether no row waits for boxes.
+fn are_adopted(rows: &[Unfinished]) -> bool
+    ensures { result ≡ are_adopted rows.now }
+{
+    for row in rows {
+        if row.waits() {
+            return false;
+        }
+    }
+    true
+}
+
+/// These boxes are adopted for the row of this identifier; else they come back, and all rows stay.
+fn adopt_in(
+    rows: &mut Vec<Unfinished>,
+    id: &Id,
+    boxes: HeldPrepared,
+) -> Result<(), (AdoptFault, HeldPrepared)>
+    requires { Always }
+    ensures ok { OnOk result ((refusal_of id.now boxes rows.old.items ≡ None) × (rows.new.items ≡ changed (is_named id.now) (adopting boxes) rows.old.items)) }
+    ensures err { IfErr result (λ fault. (refusal_of id.now boxes rows.old.items ≡ Some fault.0) × (fault.1 ≡ boxes)) }
+    ensures same { OnErr result (rows.new.items ≡ rows.old.items) }
+{
+    match find(rows, id) {
+        Some(place) => rows[place].adopt(boxes),
+        None => Err((AdoptFault::NotInDoubt, boxes)),
+    }
+}
+
+/// The place of the row of an identifier.
+fn find(rows: &[Unfinished], id: &Id) -> Option<usize>
+    ensures { MatchOption result (find (is_named id.now) rows.now ≡ None) (IsFirst (is_named id.now) rows.now) }
+{
+    for place in 0..rows.len() {
+        if rows[place].is_named(id) {
+            return Some(place);
+        }
+    }
+    None
+}

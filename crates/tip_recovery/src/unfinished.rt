@@ -1,0 +1,202 @@
+//! One stored row that is taken up again.
+ghost use Rattle.std.specs.Prelude.{◌≡◌, false, None, Some, length, map, IfErr, IfOk, OnErr, OnOk};
+ghost use Rattle.tip_branch.specs.Always.{Always};
+ghost use Rattle.tip_rows.specs.Rows.{branches_of};
+ghost use Rattle.tip_machine.specs.Answers.{identifier};
+ghost use Rattle.tip_machine.specs.Recovery.{reopened};
+ghost use Rattle.tip_machine.specs.Types.{seen};
+ghost use Rattle.tip_machine.specs.declared.head.Head.{Head};
+ghost use Rattle.tip_recovery.specs.Adopting.{adopting, fault_of, is_named, loaded, origin_of, phase_of, subordinates_of, unadopted, waits};
+
+use std::alloc::{AllocError, Global};
+use std::marker::Model;
+use thiserror::Error;
+use tip_branch::HeldPrepared;
+use tip_line::{Id, Realm};
+use tip_machine::{Origin, PartyPlace, Transaction};
+use tip_rows::{Branches, Key, Label, Row, Subordinates};
+use tip_txn::{Phase, Txn};
+
+/// Why boxes were not adopted.
+#[derive(Clone, Copy, Debug, PartialEq, Eq, Error)]
+pub enum AdoptFault {
+    #[error("no row of this identifier waits for boxes")]
+    NotInDoubt,
+    #[error("the row has another number of branches")]
+    WrongCount,
+}
+
+/// A transaction that a restart left unfinished: its row, and the boxes that were adopted for its branches. All that its
+/// transaction takes stands ready, so that taking it up needs no memory.
+#[derive(Drop)]
+pub struct Unfinished {
+    realm: Realm,
+    key: Key,
+    id: Id,
+    row: Row,
+    numbers: Vec<u8>,
+    txn: Txn,
+    boxes: Option<HeldPrepared>,
+}
+
+impl Model for Unfinished {
+    ghost use Rattle.tip_recovery.specs.Adopting.{IsReady, Unfinished};
+
+    ghost Value = { Unfinished };
+
+    ghost view = { λ u. record { realm = u.realm; key = u.key; row = u.row; boxes = u.boxes } };
+
+    ghost invariant = { λ u. IsReady (record { realm = u.realm; key = u.key; row = u.row; boxes = u.boxes }) u.id u.numbers.items u.txn };
+}
+
+impl Unfinished {
+    /// The row of a key of this realm, for which nothing was adopted yet.
+    pub fn of(alloc: Global, realm: &Realm, key: Key, row: Row) -> Result<Unfinished, AllocError>
+        requires { Always }
+        ensures { IfOk result (λ unfinished. unfinished ≡ unadopted realm.now (key, row)) }
+    {
+        let id = Id::of(alloc, realm, key.epoch(), key.connection(), key.number())?;
+        let numbers = numbers_of(alloc, branches(&row).as_slice())?;
+        let txn = Txn::of(alloc, phase(&row), subordinates(&row).as_slice())?;
+        Ok(Unfinished {
+            realm: realm.copy()?,
+            key,
+            id,
+            row,
+            numbers,
+            txn,
+            boxes: None,
+        })
+    }
+
+    /// Its identifier.
+    pub fn id(&self) -> &Id
+        ensures { result.now ≡ identifier self.now.realm self.now.key }
+    {
+        &self.id
+    }
+
+    /// Its row.
+    pub fn row(&self) -> &Row
+        ensures { result.now ≡ self.now.row }
+    {
+        &self.row
+    }
+
+    /// Whether it waits for boxes.
+    pub fn waits(&self) -> bool
+        ensures { result ≡ waits self.now }
+    {
+        !self.numbers.is_empty() && self.boxes.is_none()
+    }
+
+    /// Whether it has this identifier.
+    pub fn is_named(&self, id: &Id) -> bool
+        ensures { result ≡ is_named id.now self.now }
+    {
+        self.id == *id
+    }
+
+    /// These boxes are adopted for its branches, in their order; else they come back, and it stays.
+    pub fn adopt(&mut self, boxes: HeldPrepared) -> Result<(), (AdoptFault, HeldPrepared)>
+        requires { Always }
+        ensures ok { OnOk result ((fault_of boxes self.old ≡ None) × (self.new ≡ adopting boxes self.old)) }
+        ensures err { IfErr result (λ fault. (fault_of boxes self.old ≡ Some fault.0) × (fault.1 ≡ boxes)) }
+        ensures same { OnErr result (self.new ≡ self.old) }
+    {
+        if !self.waits() {
+            return Err((AdoptFault::NotInDoubt, boxes));
+        }
+        if boxes.len() != self.numbers.len() {
+            return Err((AdoptFault::WrongCount, boxes));
+        }
+        self.boxes = Some(boxes);
+        Ok(())
+    }
+
+    /// Its transaction, in a realm that starts in this epoch.
+    pub fn reopen(self, epoch: u32) -> Transaction
+        requires { waits self ≡ false }
+        ensures { (head : Head) → head.name ≡ self.realm → head.epoch ≡ epoch → seen result ≡ reopened head (loaded self).key (loaded self).boxes (loaded self).row }
+    {
+        let Unfinished {
+            realm,
+            key,
+            id,
+            row,
+            numbers,
+            txn,
+            boxes,
+        } = self;
+        let place = match boxes {
+            Some(boxes) => PartyPlace::Here(boxes.into_party(realm, epoch, id, &numbers)),
+            None => PartyPlace::Spent,
+        };
+        let (origin, branches) = into_origin(row);
+        Transaction {
+            key,
+            origin,
+            place,
+            branches,
+            txn,
+        }
+    }
+}
+
+/// The branches of a row.
+fn branches(row: &Row) -> &Branches
+    ensures { result.now ≡ branches_of row.now }
+{
+    match row {
+        Row::Prepared { branches, .. } | Row::Committed { branches, .. } => branches,
+    }
+}
+
+/// The subordinates of a row.
+fn subordinates(row: &Row) -> &Subordinates
+    ensures { result.now ≡ subordinates_of row.now }
+{
+    match row {
+        Row::Prepared { subordinates, .. } | Row::Committed { subordinates, .. } => subordinates,
+    }
+}
+
+/// The phase of a row's transaction.
+fn phase(row: &Row) -> Phase
+    ensures { result ≡ phase_of row.now }
+{
+    match row {
+        Row::Prepared { .. } => Phase::Prepared,
+        Row::Committed { .. } => Phase::Committed,
+    }
+}
+
+/// The numbers of branches.
+fn numbers_of(alloc: Global, branches: &[(u8, Label)]) -> Result<Vec<u8>, AllocError>
+    ensures { IfOk result (λ numbers. numbers.items ≡ map (λ branch. branch.0) branches.now) }
+{
+    let mut numbers = Vec::with_capacity(alloc, branches.len())?;
+    for (number, _) in branches {
+        numbers.push_reserved(*number);
+    }
+    Ok(numbers)
+}
+
+/// Where a row's transaction comes from, and its branches. It takes no memory.
+fn into_origin(row: Row) -> (Origin, Branches)
+    ensures origin { result.0 ≡ origin_of row }
+    ensures branches { result.1 ≡ branches_of row }
+{
+    match row {
+        Row::Prepared {
+            address,
+            superior,
+            branches,
+            ..
+        } => {
+            let address = Some(address);
+            (Origin::Subordinate { address, superior }, branches)
+        }
+        Row::Committed { branches, .. } => (Origin::Root, branches),
+    }
+}
