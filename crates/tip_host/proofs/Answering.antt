@@ -1,6 +1,6 @@
 -- A party that has carried out its errand comes back with answers that its branches can give.
 use Rattle.std.proofs.Common.{◌≡◌, ℕ, Bool, true, false, cond, List, [], ◌∷◌, None, Some, Option, map, refl, ap, sym, subst, ◌∙◌, ◌⊎◌, inl, inr}
-use Rattle.std.specs.Prelude.{◌&&◌, not, IfSome, is_none}
+use Rattle.std.specs.Prelude.{IfSome, is_none}
 use Rattle.std.proofs.lemmas.Bool.{and_parts}
 use Rattle.std.specs.Bool.{MatchBool}
 use Rattle.tip_branch.specs.Errands.{IsAsked, IsCarriedOut, IsToldAbort, IsToldCommit, is_vote_of_no}
@@ -20,7 +20,7 @@ use Rattle.tip_branch.specs.declared.member.Member.{Member}
 use Rattle.tip_host.specs.Errands.{are_untold, was_done}
 use Rattle.tip_machine.specs.Types.{Event}
 use Rattle.tip_machine.specs.declared.event.Event.TheVariants as event
-use Rattle.tip_machine.specs.Returns.{Back, aborted_if_ready, are_settlements, are_votes, back_of, called, can_answer, event_of, is_nil, is_settled, is_vote, keeps, settled_by, voted_by}
+use Rattle.tip_machine.specs.Returns.{Back, aborted_if_ready, are_settlements, are_votes, can_answer, event_of, is_settled, is_vote, keeps, settled_by, voted_by}
 
 -- Votes
 

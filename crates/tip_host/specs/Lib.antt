@@ -1,2 +1,4 @@
 pub mod Keeping
 pub mod Errands
+pub mod Recovering
+pub mod Loading

@@ -3,7 +3,13 @@
 
 mod host;
 mod keeping;
+mod loading;
+mod realm_spec;
+mod recovering;
 mod work;
 
 pub use host::{Host, HostFault};
+pub use loading::LoadFault;
+pub use realm_spec::{BadRealm, RealmSpec};
+pub use recovering::{Recovering, Unadopted};
 pub use work::done;
