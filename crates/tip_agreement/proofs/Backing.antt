@@ -35,11 +35,12 @@ use Rattle.tip_machine.specs.declared.event.Outcome.TheVariants.{NoChange, Refus
 use Rattle.tip_machine.specs.Invariants.Stored.{is_stored_as}
 use Rattle.tip_machine.specs.States.{transaction_of}
 use Rattle.tip_txn.specs.declared.answer.Phase.TheVariants.{Committed}
+use Rattle.tip_machine.proofs.Storing.{put_at, removed_at}
 use Rattle.tip_agreement.proofs.Onward.{says}
 use Rattle.tip_agreement.specs.Truth.{has_committed_row}
 use Rattle.tip_agreement.proofs.Kept.{moved_sound, reached_sound}
 use Rattle.tip_agreement.proofs.Restarts.{start_sound}
-use Rattle.tip_agreement.proofs.Rows.{put_at, removed_at, to_says}
+use Rattle.tip_agreement.proofs.Rows.{to_says}
 use Rattle.tip_agreement.proofs.Speaking.{ids_differ}
 
 module _ (realm : List ℕ) (k : Key) (fine : is_spelled k ≡ true) where

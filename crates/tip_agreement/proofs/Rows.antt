@@ -1,121 +1,28 @@
 -- Rows fit the transactions, key by key, and after a change that was stored.
-use Rattle.std.proofs.Common.{◌≡◌, Bool, true, false, List, [], ◌∷◌, Option, Some, None, cond, refl, ap, subst, sym, arith, ◌∙◌}
+use Rattle.std.proofs.Common.{◌≡◌, Bool, true, false, List, [], ◌∷◌, Option, Some, None, cond, refl, ap, subst, sym, ◌∙◌}
 use Rattle.std.specs.Prelude.{◌&&◌, find, is_none, is_some, not, option_map}
 use Rattle.std.specs.List.{list_all, list_any}
 use Rattle.std.proofs.lemmas.Bool.{and_from, and_parts, both_ways, not-true, or_parts}
-use Rattle.std.proofs.lemmas.Bool.Decides.{nat_tests}
 use Rattle.std.proofs.lemmas.Option.{none-some, same_Some}
 use Rattle.tip_rows.specs.Keys.{Key, comes_before, is_same}
 use Rattle.tip_rows.specs.Logs.{is_rising, row_at}
 use Rattle.tip_rows.specs.declared.row.Row.{Row}
 use Rattle.tip_rows.proofs.OrderLemmas.{same_key}
-use Rattle.tip_table.specs.Lists.{without}
 use Rattle.tip_machine.specs.Invariants.Links.{are_distinct}
 use Rattle.tip_machine.specs.Invariants.Stored.{are_stored, is_stored_as}
-use Rattle.tip_machine.specs.Moves.{row_put, stored}
+use Rattle.tip_machine.specs.Moves.{stored}
 use Rattle.tip_machine.specs.States.{State, transaction_of}
 use Rattle.tip_machine.specs.Transactions.{has_key}
 use Rattle.tip_machine.specs.Types.{Transaction}
 use Rattle.tip_machine.specs.declared.event.Change.{Change}
 use Rattle.tip_machine.specs.declared.event.Change.TheVariants.{Put, Remove}
+use Rattle.tip_machine.proofs.Storing.{put_at, removed_at, rising_put, rising_removed}
 use Rattle.tip_machine.proofs.Walks.{found_passes}
-use Rattle.tip_agreement.proofs.Apart.{all_found, all_more, all_without}
+use Rattle.tip_agreement.proofs.Apart.{all_found}
 use Rattle.tip_agreement.proofs.Keys.{key_self, keys_of}
 use Rattle.tip_agreement.proofs.Onward.{row_in, says}
 use Rattle.tip_agreement.proofs.Starts.{before_apart}
 use Rattle.tip_agreement.proofs.Around.{turned_about}
-
--- The order of keys
-
-before_then : (a b c : Key) → comes_before a b ≡ true → comes_before b c ≡ true → comes_before a c ≡ true
-before_then a b c first next = grind (arith, nat_tests)
-
-before_or : (a b : Key) → is_same a b ≡ false → comes_before a b ≡ false → comes_before b a ≡ true
-before_or a b differ not = grind (arith, nat_tests)
-
--- A row is put, or taken out
-
-pub put_at : (key : Key) (new : Row) (k : Key) (rows : List (Key × Row)) → row_at k (row_put key new rows) ≡ cond (is_same key k) (Some new) (row_at k rows)
-put_at key new k [] = step (is_same key k) where
-  step : (b : Bool) → option_map (λ (e : Key × Row). e.1) (cond b (Some (key, new)) None) ≡ cond b (Some new) None
-  step true = refl
-  step false = refl
-put_at key new k (o ∷ rows) = step (is_same key o.0) (comes_before key o.0) refl (put_at key new k rows) where
-  first : (b : Bool) (rest : Option (Key × Row)) → option_map (λ (e : Key × Row). e.1) (cond b (Some (key, new)) rest) ≡ cond b (Some new) (option_map (λ (e : Key × Row). e.1) rest)
-  first true rest = refl
-  first false rest = refl
-
-  other : (b : Bool) (rest : Option (Key × Row)) → option_map (λ (e : Key × Row). e.1) (cond b (Some o) rest) ≡ cond b (Some o.1) (option_map (λ (e : Key × Row). e.1) rest)
-  other true rest = refl
-  other false rest = refl
-
-  gone : (b : Bool) → is_same key k ≡ b → is_same key o.0 ≡ true → cond b (Some new) (row_at k rows) ≡ cond b (Some new) (row_at k (o ∷ rows))
-  gone true at same = refl
-  gone false at same = sym (ap (λ b. option_map (λ (e : Key × Row). e.1) (cond b (Some o) (find (λ (e : Key × Row). is_same e.0 k) rows))) (subst (λ x. is_same x k ≡ false) (same_key key o.0 same) at))
-
-  swap : (b c : Bool) → is_same key k ≡ b → is_same o.0 k ≡ c → is_same key o.0 ≡ false → cond c (Some o.1) (cond b (Some new) (row_at k rows)) ≡ cond b (Some new) (cond c (Some o.1) (row_at k rows))
-  swap true true at there differ = absurd (both_ways (is_same key o.0) differ (subst (λ x. is_same key x ≡ true) (sym (same_key o.0 k there)) at))
-  swap true false at there differ = refl
-  swap false true at there differ = refl
-  swap false false at there differ = refl
-
-  step : (a b : Bool) → is_same key o.0 ≡ a → row_at k (row_put key new rows) ≡ cond (is_same key k) (Some new) (row_at k rows) → row_at k (cond a ((key, new) ∷ rows) (cond b ((key, new) ∷ o ∷ rows) (o ∷ row_put key new rows))) ≡ cond (is_same key k) (Some new) (row_at k (o ∷ rows))
-  step true b same rest = first (is_same key k) (find (λ (e : Key × Row). is_same e.0 k) rows) ∙ gone (is_same key k) refl same
-  step false true differ rest = first (is_same key k) (find (λ (e : Key × Row). is_same e.0 k) (o ∷ rows))
-  step false false differ rest = other (is_same o.0 k) (find (λ (e : Key × Row). is_same e.0 k) (row_put key new rows)) ∙ (ap (cond (is_same o.0 k) (Some o.1)) rest ∙ (swap (is_same key k) (is_same o.0 k) refl refl differ ∙ ap (cond (is_same key k) (Some new)) (sym (other (is_same o.0 k) (find (λ (e : Key × Row). is_same e.0 k) rows)))))
-
-none_behind : (key : Key) (rows : List (Key × Row)) → list_all (λ (f : Key × Row). comes_before key f.0) rows ≡ true → row_at key rows ≡ None
-none_behind key [] all = refl
-none_behind key (f ∷ rows) all = let parts = and_parts (comes_before key f.0) _ all in ap (λ b. option_map (λ (e : Key × Row). e.1) (cond b (Some f) (find (λ (e : Key × Row). is_same e.0 key) rows))) (turned_about key f.0 (before_apart key f.0 parts.0)) ∙ none_behind key rows parts.1
-
-pub removed_at : (key k : Key) (rows : List (Key × Row)) → is_rising rows ≡ true → row_at k (without (λ (other : Key × Row). is_same key other.0) rows) ≡ cond (is_same key k) None (row_at k rows)
-removed_at key k [] rising = step (is_same key k) (row_at k []) refl where
-  step : (b : Bool) (none : Option Row) → none ≡ None → none ≡ cond b None none
-  step true none is = is
-  step false none is = refl
-removed_at key k (o ∷ rows) rising = let parts = and_parts (list_all (λ (f : Key × Row). comes_before o.0 f.0) rows) (is_rising rows) rising in step (is_same key o.0) refl parts.0 (removed_at key k rows parts.1) where
-  other : (b : Bool) (rest : Option (Key × Row)) → option_map (λ (e : Key × Row). e.1) (cond b (Some o) rest) ≡ cond b (Some o.1) (option_map (λ (e : Key × Row). e.1) rest)
-  other true rest = refl
-  other false rest = refl
-
-  gone : (b : Bool) → is_same key k ≡ b → is_same key o.0 ≡ true → list_all (λ (f : Key × Row). comes_before o.0 f.0) rows ≡ true → row_at k rows ≡ cond b None (row_at k (o ∷ rows))
-  gone true at same before = ap (λ x. row_at x rows) (sym (same_key key k at) ∙ same_key key o.0 same) ∙ none_behind o.0 rows before
-  gone false at same before = sym (ap (λ b. option_map (λ (e : Key × Row). e.1) (cond b (Some o) (find (λ (e : Key × Row). is_same e.0 k) rows))) (subst (λ x. is_same x k ≡ false) (same_key key o.0 same) at))
-
-  swap : (b c : Bool) → is_same key k ≡ b → is_same o.0 k ≡ c → is_same key o.0 ≡ false → cond c (Some o.1) (cond b None (row_at k rows)) ≡ cond b None (cond c (Some o.1) (row_at k rows))
-  swap true true at there differ = absurd (both_ways (is_same key o.0) differ (subst (λ x. is_same key x ≡ true) (sym (same_key o.0 k there)) at))
-  swap true false at there differ = refl
-  swap false true at there differ = refl
-  swap false false at there differ = refl
-
-  step : (a : Bool) → is_same key o.0 ≡ a → list_all (λ (f : Key × Row). comes_before o.0 f.0) rows ≡ true → row_at k (without (λ (other : Key × Row). is_same key other.0) rows) ≡ cond (is_same key k) None (row_at k rows) → row_at k (cond a rows (o ∷ without (λ (other : Key × Row). is_same key other.0) rows)) ≡ cond (is_same key k) None (row_at k (o ∷ rows))
-  step true same before rest = gone (is_same key k) refl same before
-  step false differ before rest = other (is_same o.0 k) (find (λ (e : Key × Row). is_same e.0 k) (without (λ (other : Key × Row). is_same key other.0) rows)) ∙ (ap (cond (is_same o.0 k) (Some o.1)) rest ∙ (swap (is_same key k) (is_same o.0 k) refl refl differ ∙ ap (cond (is_same key k) None) (sym (other (is_same o.0 k) (find (λ (e : Key × Row). is_same e.0 k) rows)))))
-
--- They rise still
-
-before_put : (a key : Key) (new : Row) (rows : List (Key × Row)) → comes_before a key ≡ true → list_all (λ (f : Key × Row). comes_before a f.0) rows ≡ true → list_all (λ (f : Key × Row). comes_before a f.0) (row_put key new rows) ≡ true
-before_put a key new [] first all = and_from _ _ first refl
-before_put a key new (o ∷ rows) first all = let parts = and_parts (comes_before a o.0) _ all in step (is_same key o.0) (comes_before key o.0) parts.0 parts.1 (before_put a key new rows first parts.1) where
-  step : (b c : Bool) → comes_before a o.0 ≡ true → list_all (λ (f : Key × Row). comes_before a f.0) rows ≡ true → list_all (λ (f : Key × Row). comes_before a f.0) (row_put key new rows) ≡ true → list_all (λ (f : Key × Row). comes_before a f.0) (cond b ((key, new) ∷ rows) (cond c ((key, new) ∷ o ∷ rows) (o ∷ row_put key new rows))) ≡ true
-  step true c here rest later = and_from _ _ first rest
-  step false true here rest later = and_from _ _ first (and_from _ _ here rest)
-  step false false here rest later = and_from _ _ here later
-
-rising_put : (key : Key) (new : Row) (rows : List (Key × Row)) → is_rising rows ≡ true → is_rising (row_put key new rows) ≡ true
-rising_put key new [] rising = refl
-rising_put key new (o ∷ rows) rising = let parts = and_parts (list_all (λ (f : Key × Row). comes_before o.0 f.0) rows) (is_rising rows) rising in step (is_same key o.0) (comes_before key o.0) refl refl parts.0 parts.1 (rising_put key new rows parts.1) where
-  step : (b c : Bool) → is_same key o.0 ≡ b → comes_before key o.0 ≡ c → list_all (λ (f : Key × Row). comes_before o.0 f.0) rows ≡ true → is_rising rows ≡ true → is_rising (row_put key new rows) ≡ true → is_rising (cond b ((key, new) ∷ rows) (cond c ((key, new) ∷ o ∷ rows) (o ∷ row_put key new rows))) ≡ true
-  step true c same is before rest later = and_from _ _ (subst (λ k. list_all (λ (f : Key × Row). comes_before k f.0) rows ≡ true) (sym (same_key key o.0 same)) before) rest
-  step false true differ is before rest later = and_from _ _ (and_from _ _ is (all_more _ _ rows (λ f next. before_then key o.0 f.0 is next) before)) (and_from _ _ before rest)
-  step false false differ is before rest later = and_from _ _ (before_put o.0 key new rows (before_or key o.0 differ is) before) later
-
-rising_removed : (key : Key) (rows : List (Key × Row)) → is_rising rows ≡ true → is_rising (without (λ (other : Key × Row). is_same key other.0) rows) ≡ true
-rising_removed key [] rising = refl
-rising_removed key (o ∷ rows) rising = let parts = and_parts (list_all (λ (f : Key × Row). comes_before o.0 f.0) rows) (is_rising rows) rising in step (is_same key o.0) parts.0 parts.1 (rising_removed key rows parts.1) where
-  step : (b : Bool) → list_all (λ (f : Key × Row). comes_before o.0 f.0) rows ≡ true → is_rising rows ≡ true → is_rising (without (λ (other : Key × Row). is_same key other.0) rows) ≡ true → is_rising (cond b rows (o ∷ without (λ (other : Key × Row). is_same key other.0) rows)) ≡ true
-  step true before rest later = rest
-  step false before rest later = and_from _ _ (all_without (λ (f : Key × Row). comes_before o.0 f.0) (λ (other : Key × Row). is_same key other.0) rows before) later
 
 -- what is stored then
 abbrev pub stored_by : Option Change → List (Key × Row) → List (Key × Row)
