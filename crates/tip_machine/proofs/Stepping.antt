@@ -158,26 +158,30 @@ attempt-calm serving event w none = each_event (λ event. IsCalm (attempt servin
 pub wants_none : (serving : Serving) (state : State) (event : Event) (outcome : Outcome) → IsSome (step_serving serving state event outcome).answer.refusal → wants_serving serving state event ≡ None
 wants_none serving state event outcome some = wants_or_not (is_open state) (attempt serving event (entered state)) outcome state (frozen event state) (attempt-calm serving event (entered state) refl) some
 
--- The name of a realm stays
+-- The name and the epoch of a realm stay
 
-HasName : State → Work → Type 0
-HasName state work = work.state.head.name ≡ state.head.name
+IsStill : State → Work → Type 0
+IsStill state work = (work.state.head.name ≡ state.head.name) × (work.state.head.epoch ≡ state.head.epoch)
 
-went-named : (state : State) (v : Work) → Went (entered state) v → HasName state v
-unfolding HasName
-went-named state v (inl goes) = ap (λ h. h.name) goes.head
-went-named state v (inr opens) = ap (λ h. h.name) opens.head
+went-still : (state : State) (v : Work) → Went (entered state) v → IsStill state v
+unfolding IsStill
+went-still state v (inl goes) = (ap (λ h. h.name) goes.head, ap (λ h. h.epoch) goes.head)
+went-still state v (inr opens) = (ap (λ h. h.name) opens.head, ap (λ h. h.epoch) opens.head)
 
-frozen-named : (event : Event) (state : State) → HasName state (frozen event state)
-unfolding HasName
-frozen-named event state = refl
+frozen-still : (event : Event) (state : State) → IsStill state (frozen event state)
+unfolding IsStill
+frozen-still event state = (refl, refl)
 
-named_step : (serving : Serving) (state : State) (event : Event) (outcome : Outcome) → HasName state (step_serving serving state event outcome)
-named_step serving state event outcome = either (HasName state) (is_open state) _ (frozen event state) (went-named state _ (step-went serving state event outcome)) (frozen-named event state)
+still_step : (serving : Serving) (state : State) (event : Event) (outcome : Outcome) → IsStill state (step_serving serving state event outcome)
+still_step serving state event outcome = either (IsStill state) (is_open state) _ (frozen event state) (went-still state _ (step-went serving state event outcome)) (frozen-still event state)
 
 pub step-named : (serving : Serving) (state : State) (event : Event) (outcome : Outcome) → (step_serving serving state event outcome).state.head.name ≡ state.head.name
-unfolding HasName
-step-named serving state event outcome = named_step serving state event outcome
+unfolding IsStill
+step-named serving state event outcome = (still_step serving state event outcome).0
+
+pub step-epoch : (serving : Serving) (state : State) (event : Event) (outcome : Outcome) → (step_serving serving state event outcome).state.head.epoch ≡ state.head.epoch
+unfolding IsStill
+step-epoch serving state event outcome = (still_step serving state event outcome).1
 
 -- Numbers of connections
 

@@ -4,6 +4,7 @@ use Rattle.std.specs.Prelude.{◌&&◌, find, option_map}
 use Rattle.std.specs.List.{list_all}
 use Rattle.std.proofs.lemmas.Bool.{and_from, and_parts, both_ways}
 use Rattle.std.proofs.lemmas.Bool.Decides.{nat_tests}
+use Rattle.std.proofs.lemmas.Option.{none-some, same_Some}
 use Rattle.tip_rows.specs.Keys.{Key, comes_before, is_same}
 use Rattle.tip_rows.specs.Logs.{is_rising, row_at}
 use Rattle.tip_rows.specs.declared.row.Row.{Row}
@@ -77,9 +78,9 @@ none_behind key (f ∷ rows) all = let parts = and_parts (comes_before key f.0) 
 
 pub removed_at : (key k : Key) (rows : List (Key × Row)) → is_rising rows ≡ true → row_at k (without (λ (other : Key × Row). is_same key other.0) rows) ≡ cond (is_same key k) None (row_at k rows)
 removed_at key k [] rising = step (is_same key k) (row_at k []) refl where
-  step : (b : Bool) (none : Option Row) → none ≡ None → none ≡ cond b None none
-  step true none is = is
-  step false none is = refl
+  step : (b : Bool) (found : Option Row) → found ≡ None → found ≡ cond b None found
+  step true found is = is
+  step false found is = refl
 removed_at key k (o ∷ rows) rising = let parts = and_parts (leads o.0 rows) (is_rising rows) rising in step (is_same key o.0) refl parts.0 (removed_at key k rows parts.1) where
   other : (b : Bool) (rest : Option (Key × Row)) → option_map (λ (e : Key × Row). e.1) (cond b (Some o) rest) ≡ cond b (Some o.1) (option_map (λ (e : Key × Row). e.1) rest)
   other true rest = refl
@@ -123,3 +124,41 @@ rising_removed key (o ∷ rows) rising = let parts = and_parts (leads o.0 rows) 
   step : (b : Bool) → leads o.0 rows ≡ true → is_rising rows ≡ true → is_rising (without (λ (other : Key × Row). is_same key other.0) rows) ≡ true → is_rising (cond b rows (o ∷ without (λ (other : Key × Row). is_same key other.0) rows)) ≡ true
   step true before rest later = rest
   step false before rest later = and_from _ _ (leads_without o.0 (λ (other : Key × Row). is_same key other.0) rows before) later
+
+-- Rows that rise are known by what stands at each key
+
+key_self : (key : Key) → is_same key key ≡ true
+key_self key = grind (arith, nat_tests)
+
+first_at : (e : Key × Row) (rows : List (Key × Row)) → row_at e.0 (e ∷ rows) ≡ Some e.1
+first_at e rows = rw (key_self e.0) refl
+
+passed_over : (e : Key × Row) (rows : List (Key × Row)) (key : Key) → is_same e.0 key ≡ false → row_at key (e ∷ rows) ≡ row_at key rows
+passed_over e rows key apart = rw apart refl
+
+-- what comes before all rows stands nowhere among them
+absent_before : (key : Key) (f : Key × Row) (rows : List (Key × Row)) → comes_before key f.0 ≡ true → leads f.0 rows ≡ true → row_at key (f ∷ rows) ≡ None
+absent_before key f rows before all = none_behind key (f ∷ rows) (and_from _ _ before (leads_from key f.0 rows before all))
+
+same_rest : (e : Key × Row) (rows others : List (Key × Row)) → leads e.0 rows ≡ true → leads e.0 others ≡ true → ((key : Key) → row_at key (e ∷ rows) ≡ row_at key (e ∷ others)) → (key : Key) → row_at key rows ≡ row_at key others
+same_rest e rows others all all' same key = step (is_same e.0 key) refl where
+  step : (b : Bool) → is_same e.0 key ≡ b → row_at key rows ≡ row_at key others
+  step true at = subst (λ k. row_at k rows ≡ row_at k others) (same_key e.0 key at) (none_behind e.0 rows all ∙ sym (none_behind e.0 others all'))
+  step false apart = sym (passed_over e rows key apart) ∙ same key ∙ passed_over e others key apart
+
+pub same_rows : (rows others : List (Key × Row)) → is_rising rows ≡ true → is_rising others ≡ true → ((key : Key) → row_at key rows ≡ row_at key others) → rows ≡ others
+same_rows [] [] rising rising' same = refl
+same_rows [] (f ∷ others) rising rising' same = absurd (none-some f.1 (same f.0 ∙ first_at f others))
+same_rows (e ∷ rows) [] rising rising' same = absurd (none-some e.1 (sym (sym (first_at e rows) ∙ same e.0)))
+same_rows (e ∷ rows) (f ∷ others) rising rising' same =
+    let parts = and_parts (leads e.0 rows) (is_rising rows) rising in
+    let parts' = and_parts (leads f.0 others) (is_rising others) rising' in
+    step (is_same e.0 f.0) (comes_before e.0 f.0) refl refl parts.0 parts'.0 (same_rows rows others parts.1 parts'.1) where
+      step : (b c : Bool) → is_same e.0 f.0 ≡ b → comes_before e.0 f.0 ≡ c → leads e.0 rows ≡ true → leads f.0 others ≡ true → (((key : Key) → row_at key rows ≡ row_at key others) → rows ≡ others) → e ∷ rows ≡ f ∷ others
+      step true c at is all all' rest =
+          let key : e.0 ≡ f.0 = same_key e.0 f.0 at in
+          let row : e.1 ≡ f.1 = same_Some e.1 f.1 (sym (first_at e rows) ∙ same e.0 ∙ ap (λ k. row_at k (f ∷ others)) key ∙ first_at f others) in
+          let one : e ≡ f = λ i. (key i, row i) in
+          ap (λ x. x ∷ rows) one ∙ ap (λ l. f ∷ l) (rest (same_rest f rows others (subst (λ k. leads k rows ≡ true) key all) all' (subst (λ x. (k : Key) → row_at k (x ∷ rows) ≡ row_at k (f ∷ others)) one same)))
+      step false true apart before all all' rest = absurd (none-some e.1 (sym (sym (first_at e rows) ∙ same e.0 ∙ absent_before e.0 f others before all')))
+      step false false apart not all all' rest = absurd (none-some f.1 (sym (sym (first_at f others) ∙ sym (same f.0) ∙ absent_before f.0 e rows (before_or e.0 f.0 apart not) all)))
