@@ -190,6 +190,14 @@ loses index reading acting =
     let done = happens (event.Lost reading.seat) acting in
     record done { acting = forgets_on (is_none (answer_in acting (event.Lost reading.seat)).refusal) (suc index) done.acting }
 
+-- a transaction is to be pushed to the other side of a connection
+abbrev pub pushes : List ℕ → ℕ → Reading → Acting → Done
+pushes id index reading acting = happens (event.AskPush reading.seat id) acting
+
+-- one of the other side is to be pulled here
+abbrev pub pulls : List ℕ → ℕ → Reading → Acting → Done
+pulls superior index reading acting = happens (event.AskPull reading.seat superior) acting
+
 -- no line prints the mark of a box
 abbrev pub boxes_of : List Plan → List Badge
 boxes_of plans = map (λ plan. record { plan = plan; mark = 0 }) plans

@@ -2,13 +2,14 @@
 ghost use Rattle.std.specs.Prelude.{◌≡◌, ℕ, List, IfOk, option_map, string_bytes};
 ghost use Rattle.tip_script.specs.Moves.{octets_of};
 ghost use Rattle.tip_branch.specs.Always.{Always};
-ghost use Rattle.tip_actor.specs.Acting.{Acting, Reading, feeds, loses, on_connection, reading_on};
+ghost use Rattle.tip_actor.specs.Acting.{Acting, Reading, feeds, loses, on_connection, pulls, pushes, reading_on};
 ghost use Rattle.tip_actor.specs.Standing.{AreReadings, Host as AHost, IsActing, Tells};
 
 use crate::actor::Actor;
 use std::alloc::{AllocError, Global};
 use tip_branch::HeldParty;
 use tip_host::Host;
+use tip_line::Id;
 use tip_machine::{Event, Seat};
 use tip_rows::MemRows;
 use tip_script::Octets;
@@ -53,6 +54,53 @@ impl Actor<HeldParty> {
         if !is_refused {
             self.forget(connection);
         }
+        Ok(true)
+    }
+
+    /// Our transaction of this identifier is to be pushed on a connection. It says whether the realm has given that connection.
+    pub fn push(
+        &mut self,
+        alloc: Global,
+        host: &mut Host<MemRows>,
+        place: usize,
+        connection: u32,
+        id: Id,
+        printed: &mut String,
+    ) -> Result<bool, AllocError>
+        requires { Always }
+        ensures { (acting : Acting) → IsActing host.old place self.old acting → IfOk result (λ told. Tells host.old host.new place self.old self.new (string_bytes printed.old) (string_bytes printed.new) told (on_connection (pushes id) connection acting)) }
+    {
+        let Some(seat) = self.seat(connection) else {
+            return Ok(false);
+        };
+        self.happen(alloc, host, place, Event::AskPush { seat, id }, printed)?;
+        Ok(true)
+    }
+
+    /// The other side's transaction of this identifier is to be pulled on a connection. It says whether the realm has given that
+    /// connection.
+    pub fn pull(
+        &mut self,
+        alloc: Global,
+        host: &mut Host<MemRows>,
+        place: usize,
+        connection: u32,
+        superior: Id,
+        printed: &mut String,
+    ) -> Result<bool, AllocError>
+        requires { Always }
+        ensures { (acting : Acting) → IsActing host.old place self.old acting → IfOk result (λ told. Tells host.old host.new place self.old self.new (string_bytes printed.old) (string_bytes printed.new) told (on_connection (pulls superior) connection acting)) }
+    {
+        let Some(seat) = self.seat(connection) else {
+            return Ok(false);
+        };
+        self.happen(
+            alloc,
+            host,
+            place,
+            Event::AskPull { seat, superior },
+            printed,
+        )?;
         Ok(true)
     }
 

@@ -3,3 +3,4 @@ pub mod Places
 pub mod Scening
 pub mod Knowing
 pub mod Staging
+pub mod Dialling

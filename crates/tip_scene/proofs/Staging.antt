@@ -117,8 +117,11 @@ plays_on playing playing' printed printed' move (Playing scene) is moves =
 starts_first : (starts : List Start) (i : Instruction) → ((name : _) (address : _) (branches : ℕ) (limits : Limits) → i ≢ instruction.Realm name address branches limits) → acts (Declaring starts) (move_by i) ≡ acted_by (starts_text starts) (moved (move_by i) (scene_of starts))
 starts_first starts (instruction.Realm name address branches limits) other = absurd (other name address branches limits refl)
 starts_first starts (instruction.Open realm kinds) other = refl
+starts_first starts (instruction.Dial realm address kinds aim) other = refl
 starts_first starts (instruction.Feed realm connection octets) other = refl
 starts_first starts (instruction.Lost realm connection) other = refl
+starts_first starts (instruction.Push asked) other = refl
+starts_first starts (instruction.Pull asked) other = refl
 starts_first starts (instruction.Go realm) other = refl
 starts_first starts (instruction.Drop realm) other = refl
 starts_first starts (instruction.Resume realm id) other = refl

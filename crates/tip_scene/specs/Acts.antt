@@ -9,7 +9,7 @@ use Rattle.tip_machine.specs.declared.head.Limits.{Limits}
 use Rattle.tip_machine.specs.declared.head.Start.{Start}
 use Rattle.tip_actor.specs.Acting.{Acting}
 use Rattle.tip_scene.specs.Scenes.{Scene, Moved, moved}
-use Rattle.tip_script.specs.Scripts.{Move, Declare, Open, Feed, Lose, Go, Drop, Resume, Refuse, move_of}
+use Rattle.tip_script.specs.Scripts.{Move, Declare, Open, Dial, Feed, Lose, Push, Pull, Go, Drop, Resume, Refuse, move_of}
 use Rattle.tip_transcript.specs.Printing.{start_text}
 
 -- the realms are declared, and the first other line starts them
@@ -70,8 +70,11 @@ first_acts starts move = acted_by (starts_text starts) (moved move (scene_of sta
 abbrev pub acts : Stage → Move → Acted
 acts (Declaring starts) (Declare name address branches limits) = record { printed = []; stage = option_map Declaring (declared name address branches limits starts) }
 acts (Declaring starts) (Open realm plans) = first_acts starts (Open realm plans)
+acts (Declaring starts) (Dial realm address plans purpose) = first_acts starts (Dial realm address plans purpose)
 acts (Declaring starts) (Feed realm connection octets) = first_acts starts (Feed realm connection octets)
 acts (Declaring starts) (Lose realm connection) = first_acts starts (Lose realm connection)
+acts (Declaring starts) (Push realm connection id) = first_acts starts (Push realm connection id)
+acts (Declaring starts) (Pull realm connection superior) = first_acts starts (Pull realm connection superior)
 acts (Declaring starts) (Go realm) = first_acts starts (Go realm)
 acts (Declaring starts) (Drop realm) = first_acts starts (Drop realm)
 acts (Declaring starts) (Resume realm id) = first_acts starts (Resume realm id)

@@ -1,11 +1,13 @@
 -- The realms of a script at work, and what one line of the script makes of them.
-use Rattle.std.specs.Prelude.{ℕ, List, [], ◌∷◌, Bool, Option, Some, None, slice_get, slice_set, if◌then◌else◌}
+use Rattle.std.specs.Prelude.{ℕ, List, [], ◌∷◌, Bool, true, ◌&&◌, Option, Some, None, slice_get, slice_set, if◌then◌else◌}
 use Rattle.std.specs.List.{position_or_len}
 use Rattle.std.specs.Str.{bytes_eq}
-use Rattle.tip_line.specs.Words.{is_word}
+use Rattle.tip_line.specs.Words.{is_address, is_word}
+use Rattle.tip_machine.specs.declared.connection.Purpose.{Purpose}
+use Rattle.tip_machine.specs.declared.connection.Purpose.TheVariants as purpose
 use Rattle.tip_machine.specs.declared.event.Event.TheVariants as event
-use Rattle.tip_actor.specs.Acting.{Acting, Done, boxes_of, drops_from, feeds, goes_for, happens, loses, on_connection, refuses, settles}
-use Rattle.tip_script.specs.Scripts.{Move, Declare, Open, Feed, Lose, Go, Drop, Resume, Refuse, realm_of}
+use Rattle.tip_actor.specs.Acting.{Acting, Done, boxes_of, drops_from, feeds, goes_for, happens, loses, on_connection, pulls, pushes, refuses, settles}
+use Rattle.tip_script.specs.Scripts.{Move, Declare, Open, Dial, Feed, Lose, Push, Pull, Go, Drop, Resume, Refuse, realm_of}
 use Rattle.tip_transcript.specs.Printing.{idle_text, nowhere_text}
 
 -- all realms, in the order of their declarations
@@ -20,12 +22,21 @@ pub record Moved : Type 0 where
 abbrev pub fault : Moved
 fault = record { printed = []; scene = None }
 
+-- what a purpose names is an identifier
+abbrev pub is_purpose : Purpose → Bool
+is_purpose purpose.Plain = true
+is_purpose (purpose.Query id) = is_word id
+is_purpose (purpose.Reconnect id place) = is_word id
+
 -- what a line does to the realm that it is of; none where it may not stand here
 abbrev pub does : Move → Acting → Option Done
 does (Declare name address branches limits) acting = None
 does (Open realm plans) acting = Some (happens (event.Open (boxes_of plans)) acting)
+does (Dial realm address plans purpose) acting = if is_address address && is_purpose purpose then Some (happens (event.Dial address purpose (boxes_of plans)) acting) else None
 does (Feed realm connection octets) acting = on_connection (feeds octets) connection acting
 does (Lose realm connection) acting = on_connection loses connection acting
+does (Push realm connection id) acting = if is_word id then on_connection (pushes id) connection acting else None
+does (Pull realm connection superior) acting = if is_word superior then on_connection (pulls superior) connection acting else None
 does (Go realm) acting = goes_for acting.world.errands acting
 does (Drop realm) acting = Some (drops_from acting.world.errands acting)
 does (Resume realm id) acting = if is_word id then Some (happens (event.Resume id) acting) else None
@@ -35,8 +46,11 @@ does (Refuse realm) acting = Some (refuses acting)
 abbrev pub elsewhere : Move → Option (List ℕ)
 elsewhere (Declare name address branches limits) = None
 elsewhere (Open realm plans) = Some (nowhere_text realm)
+elsewhere (Dial realm address plans purpose) = Some (nowhere_text realm)
 elsewhere (Feed realm connection octets) = None
 elsewhere (Lose realm connection) = None
+elsewhere (Push realm connection id) = None
+elsewhere (Pull realm connection superior) = None
 elsewhere (Go realm) = Some (idle_text realm)
 elsewhere (Drop realm) = Some (idle_text realm)
 elsewhere (Resume realm id) = Some (nowhere_text realm)

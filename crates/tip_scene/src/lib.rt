@@ -5,6 +5,7 @@ mod branches;
 mod declared;
 mod fault;
 mod playing;
+mod requests;
 mod stage;
 
 pub use fault::LineFault;

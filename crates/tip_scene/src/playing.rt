@@ -5,17 +5,17 @@ ghost use Rattle.tip_branch.specs.Always.{Always};
 ghost use Rattle.tip_actor.specs.Acting.{Acting, boxes_of};
 ghost use Rattle.tip_actor.specs.Standing.{Host as AHost, IsActing, Tells};
 ghost use Rattle.tip_script.specs.Moves.{move_by};
-ghost use Rattle.tip_script.specs.Scripts.{plans_with, Resume};
+ghost use Rattle.tip_script.specs.Scripts.{plans_with};
 ghost use Rattle.tip_scene.specs.Scenes.{Scene, does, elsewhere, moved};
 ghost use Rattle.tip_scene.specs.Standing.{has_name, IsScene};
 ghost use Rattle.tip_scene.specs.Stages.{Moves, Prints};
 
 use crate::fault::LineFault;
+use crate::requests::{dial, pull, push, resume};
 use std::alloc::{AllocError, Global};
 use tip_actor::Actor;
 use tip_branch::HeldFresh;
 use tip_host::Host;
-use tip_line::{Id, WordFault};
 use tip_machine::Event;
 use tip_rows::MemRows;
 use tip_script::Instruction;
@@ -85,6 +85,9 @@ fn obey(
             actor.happen(alloc, host, place, Event::Open { boxes }, printed)?;
             Ok(true)
         }
+        Instruction::Dial { address, aim, .. } => {
+            dial(actor, alloc, host, place, address, aim, boxes, printed)
+        }
         Instruction::Feed {
             connection,
             octets,
@@ -93,6 +96,8 @@ fn obey(
         Instruction::Lost { connection, .. } => {
             actor.lose_connection(alloc, host, place, connection, printed)
         }
+        Instruction::Push(asked) => push(actor, alloc, host, place, asked, printed),
+        Instruction::Pull(asked) => pull(actor, alloc, host, place, asked, printed),
         Instruction::Go { .. } => actor.go(alloc, host, place, printed),
         Instruction::Drop { .. } => {
             actor.lose(host, place, printed)?;
@@ -106,39 +111,19 @@ fn obey(
     }
 }
 
-/// The realm goes on with the transaction of this identifier. It says whether it is a word.
-fn resume(
-    actor: &mut Actor,
-    alloc: Global,
-    host: &mut Host<MemRows>,
-    place: usize,
-    id: &[u8],
-    printed: &mut String,
-) -> Result<bool, AllocError>
-    ensures { (acting : Acting) (realm : List ℕ) → IsActing host.old place actor.old acting →
-        IfOk result (λ told. Tells host.old host.new place actor.old actor.new (string_bytes printed.old) (string_bytes printed.new) told (does (Resume realm id.now) acting)) }
-{
-    match Id::new(alloc, id) {
-        Ok(id) => {
-            actor.happen(alloc, host, place, Event::Resume { id }, printed)?;
-            Ok(true)
-        }
-        Err(WordFault::NotWord) => Ok(false),
-        Err(WordFault::Memory) => Err(AllocError),
-    }
-}
-
 /// What a line prints that is of no realm.
 fn print_elsewhere(printed: &mut String, instruction: Instruction<'_>) -> Result<(), LineFault>
     ensures { Prints (string_bytes printed.old) (string_bytes printed.new) (elsewhere (move_by instruction.entry)) result }
 {
     match instruction {
-        Instruction::Realm { .. } | Instruction::Feed { .. } | Instruction::Lost { .. } => {
-            Err(LineFault::NotUnderstood)
-        }
-        Instruction::Open { realm, .. } | Instruction::Resume { realm, .. } => {
-            Ok(print_nowhere(printed, realm)?)
-        }
+        Instruction::Realm { .. }
+        | Instruction::Feed { .. }
+        | Instruction::Lost { .. }
+        | Instruction::Push(_)
+        | Instruction::Pull(_) => Err(LineFault::NotUnderstood),
+        Instruction::Open { realm, .. }
+        | Instruction::Dial { realm, .. }
+        | Instruction::Resume { realm, .. } => Ok(print_nowhere(printed, realm)?),
         Instruction::Go { realm } | Instruction::Drop { realm } => Ok(print_idle(printed, realm)?),
         Instruction::Refuse { .. } => Ok(()),
     }

@@ -9,6 +9,8 @@ use Rattle.tip_branch.specs.declared.branch.Plan.TheVariants as plan
 use Rattle.tip_line.specs.Fields.{fields_of}
 use Rattle.tip_line.specs.Ids.{number_in}
 use Rattle.tip_line.specs.Words.{is_realm, has_octets}
+use Rattle.tip_machine.specs.declared.connection.Purpose.{Purpose}
+use Rattle.tip_machine.specs.declared.connection.Purpose.TheVariants as purpose
 use Rattle.tip_machine.specs.declared.head.Limits.{Limits}
 
 -- what a line says
@@ -17,10 +19,16 @@ pub data Move : Type 0 where
   Declare : (name : List ℕ) → (address : List ℕ) → (branches : ℕ) → (limits : Limits) → Move
   -- another manager opens a connection of a realm, and boxes of these plans come with it
   Open : (realm : List ℕ) → (plans : List Plan) → Move
+  -- we open a connection of a realm for a purpose, and boxes of these plans come with it
+  Dial : (realm : List ℕ) → (address : List ℕ) → (plans : List Plan) → (purpose : Purpose) → Move
   -- octets come on a connection
   Feed : (realm : List ℕ) → (connection : ℕ) → (octets : List ℕ) → Move
   -- a connection is lost
   Lose : (realm : List ℕ) → (connection : ℕ) → Move
+  -- a transaction of the realm is to be pushed to the other side of a connection
+  Push : (realm : List ℕ) → (connection : ℕ) → (id : List ℕ) → Move
+  -- a transaction of the other side is to be pulled here
+  Pull : (realm : List ℕ) → (connection : ℕ) → (superior : List ℕ) → Move
   -- the realm's oldest errand is done, and its party comes back
   Go : (realm : List ℕ) → Move
   -- the realm's oldest errand is lost
@@ -34,8 +42,11 @@ pub data Move : Type 0 where
 abbrev pub realm_of : Move → List ℕ
 realm_of (Declare name address branches limits) = name
 realm_of (Open realm plans) = realm
+realm_of (Dial realm address plans purpose) = realm
 realm_of (Feed realm connection octets) = realm
 realm_of (Lose realm connection) = realm
+realm_of (Push realm connection id) = realm
+realm_of (Pull realm connection superior) = realm
 realm_of (Go realm) = realm
 realm_of (Drop realm) = realm
 realm_of (Resume realm id) = realm
@@ -44,6 +55,7 @@ realm_of (Refuse realm) = realm
 -- the boxes that come with a move
 abbrev pub plans_with : Move → List Plan
 plans_with (Open realm plans) = plans
+plans_with (Dial realm address plans purpose) = plans
 plans_with other = []
 
 abbrev pub plans_in : Option Move → List Plan
@@ -156,6 +168,44 @@ loss (realm ∷ connection ∷ []) = do
   Some (Lose name number)
 loss fields = None
 
+-- plain, query ID, or reconnect ID NUMBER: what a connection is dialled for
+unfoldable pub purpose_in : List (List ℕ) → Option Purpose
+purpose_in (word ∷ []) = if bytes_eq word (codes "plain") then Some purpose.Plain else None
+purpose_in (word ∷ id ∷ []) = if bytes_eq word (codes "query") then Some (purpose.Query id) else None
+purpose_in (word ∷ id ∷ place ∷ []) = if bytes_eq word (codes "reconnect") then number_in place >>= (λ number. Some (purpose.Reconnect id number)) else None
+purpose_in fields = None
+
+-- dial REALM ADDRESS BOXES and the purpose
+unfoldable pub dialling : List (List ℕ) → Option Move
+dialling (realm ∷ address ∷ boxes ∷ words) = do
+  name ← realm_in realm
+  kinds ← kinds_in boxes
+  purpose ← purpose_in words
+  Some (Dial name address (plans_of kinds) purpose)
+dialling fields = None
+
+-- a connection of a realm, and an identifier
+pub record Asking : Type 0 where
+  pub realm : List ℕ
+  pub connection : ℕ
+  pub id : List ℕ
+
+-- REALM CONNECTION ID
+unfoldable pub asking : List (List ℕ) → Option Asking
+asking (realm ∷ connection ∷ id ∷ []) = do
+  name ← realm_in realm
+  number ← number_in connection
+  Some (record { realm = name; connection = number; id = id })
+asking fields = None
+
+-- dial REALM ADDRESS BOXES PURPOSE, push REALM CONNECTION ID and pull REALM CONNECTION ID
+unfoldable pub request_in : List ℕ → List (List ℕ) → Option Move
+request_in word fields =
+    if bytes_eq word (codes "dial") then dialling fields
+    else if bytes_eq word (codes "push") then asking fields >>= (λ asked. Some (Push asked.realm asked.connection asked.id))
+    else if bytes_eq word (codes "pull") then asking fields >>= (λ asked. Some (Pull asked.realm asked.connection asked.id))
+    else None
+
 -- a realm, and no more
 unfoldable pub realm_alone : List (List ℕ) → Option (List ℕ)
 realm_alone (realm ∷ []) = realm_in realm
@@ -168,14 +218,14 @@ resumption (realm ∷ id ∷ []) = do
   Some (Resume name id)
 resumption fields = None
 
--- go REALM, drop REALM, refuse REALM, and resume REALM ID
+-- go REALM, drop REALM, refuse REALM, and resume REALM ID; else what we ask of other managers
 unfoldable pub order_in : List ℕ → List (List ℕ) → Option Move
 order_in word fields =
     if bytes_eq word (codes "go") then realm_alone fields >>= (λ realm. Some (Go realm))
     else if bytes_eq word (codes "drop") then realm_alone fields >>= (λ realm. Some (Drop realm))
     else if bytes_eq word (codes "refuse") then realm_alone fields >>= (λ realm. Some (Refuse realm))
     else if bytes_eq word (codes "resume") then resumption fields
-    else None
+    else request_in word fields
 
 -- what a line says; None where it is not understood
 unfoldable pub move_in : List (List ℕ) → Option Move

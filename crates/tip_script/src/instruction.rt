@@ -4,6 +4,7 @@ ghost use Rattle.std.specs.List.{list_all};
 ghost use Rattle.tip_script.specs.Moves.{move_by};
 ghost use Rattle.tip_script.specs.Scripts.{is_digit, is_hex, sizes_in, declaration, opening, text_line, hex_octets, loss, move_of, order_in, plans_of, plans_with, realm_alone, realm_of, resumption};
 
+use crate::asking::{Aim, Asked, request};
 use crate::fields::{number_in, realm_in};
 use crate::kinds::kinds_in;
 use tip_line::Fields;
@@ -34,6 +35,13 @@ pub enum Instruction<'a> {
         realm: &'a str,
         kinds: &'a [u8],
     },
+    /// `dial REALM ADDRESS BOXES plain`, `.. query ID` or `.. reconnect ID NUMBER`: we open a connection, and boxes come with it.
+    Dial {
+        realm: &'a str,
+        address: &'a [u8],
+        kinds: &'a [u8],
+        aim: Aim<'a>,
+    },
     /// `line REALM CONN TEXT` or `raw REALM CONN HEX`: octets come on a connection.
     Feed {
         realm: &'a str,
@@ -45,6 +53,10 @@ pub enum Instruction<'a> {
         realm: &'a str,
         connection: u32,
     },
+    /// `push REALM CONN ID`: our transaction is to be pushed to the other side.
+    Push(Asked<'a>),
+    /// `pull REALM CONN ID`: the other side's transaction is to be pulled here.
+    Pull(Asked<'a>),
     /// `go REALM`: the realm's oldest errand is done, and its party comes back.
     Go {
         realm: &'a str,
@@ -88,8 +100,11 @@ impl<'a> Instruction<'a> {
         match self {
             Instruction::Realm { name: realm, .. }
             | Instruction::Open { realm, .. }
+            | Instruction::Dial { realm, .. }
             | Instruction::Feed { realm, .. }
             | Instruction::Lost { realm, .. }
+            | Instruction::Push(Asked { realm, .. })
+            | Instruction::Pull(Asked { realm, .. })
             | Instruction::Go { realm }
             | Instruction::Drop { realm }
             | Instruction::Resume { realm, .. }
@@ -102,10 +117,12 @@ impl<'a> Instruction<'a> {
         ensures { plans_of result.now ≡ plans_with (move_by self.entry) }
     {
         match self {
-            Instruction::Open { kinds, .. } => kinds,
+            Instruction::Open { kinds, .. } | Instruction::Dial { kinds, .. } => kinds,
             Instruction::Realm { .. }
             | Instruction::Feed { .. }
             | Instruction::Lost { .. }
+            | Instruction::Push(_)
+            | Instruction::Pull(_)
             | Instruction::Go { .. }
             | Instruction::Drop { .. }
             | Instruction::Resume { .. }
@@ -225,7 +242,7 @@ fn order<'a>(word: &[u8], fields: Fields<'a, b' '>) -> Option<Instruction<'a>>
     } else if word == b"resume".as_slice() {
         resumption(fields)
     } else {
-        None
+        request(word, fields)
     }
 }
 
