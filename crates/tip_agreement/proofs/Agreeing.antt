@@ -139,7 +139,7 @@ name_renewed boxes Stored world = refl
 name_renewed boxes Refused world = refl
 name_renewed boxes NoChange world = refl
 
-name_moved : (serving : Serving) (move : Move) (world : World) → (moved serving move world).world.state.head.name ≡ world.state.head.name
+pub name_moved : (serving : Serving) (move : Move) (world : World) → (moved serving move world).world.state.head.name ≡ world.state.head.name
 unfolding stepped
 name_moved serving (Move.Step event outcome) world = name_stepped serving world.state event outcome
 name_moved serving (Move.Go back outcome) world = name_gone serving back outcome world.errands world
@@ -163,7 +163,7 @@ one_word shown world key fine true_to =
       either_way word (Some t) is = over_fits t word is
 
 -- where nothing is told, neither is
-any_of : (test : Verdict → Bool) (xs : List Verdict) → list_any test xs ≡ true → list_any any_verdict xs ≡ true
+pub any_of : (test : Verdict → Bool) (xs : List Verdict) → list_any test xs ≡ true → list_any any_verdict xs ≡ true
 any_of test [] is = is
 any_of test (x ∷ xs) is = refl
 

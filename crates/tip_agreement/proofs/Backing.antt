@@ -12,7 +12,6 @@ use Rattle.tip_branch.specs.declared.branch.Badge.{Badge}
 use Rattle.tip_rows.specs.Keys.{Key, is_same}
 use Rattle.tip_rows.specs.Logs.{is_rising, row_at}
 use Rattle.tip_rows.specs.declared.row.Row.{Row}
-use Rattle.tip_rows.specs.declared.row.Row.TheVariants as row
 use Rattle.tip_rows.proofs.MemoryLemmas.{bytes_eq-self}
 use Rattle.tip_rows.proofs.OrderLemmas.{same_key}
 use Rattle.tip_machine.specs.Agreement.{is_committed_row, row_in, stores_commit, was_committed}
@@ -36,7 +35,7 @@ use Rattle.tip_machine.specs.Invariants.Stored.{is_stored_as}
 use Rattle.tip_machine.specs.States.{transaction_of}
 use Rattle.tip_txn.specs.declared.answer.Phase.TheVariants.{Committed}
 use Rattle.tip_machine.proofs.Storing.{put_at, removed_at}
-use Rattle.tip_agreement.proofs.Onward.{says}
+use Rattle.tip_agreement.proofs.Onward.{committed_row, says}
 use Rattle.tip_agreement.specs.Truth.{has_committed_row}
 use Rattle.tip_agreement.proofs.Kept.{moved_sound, reached_sound}
 use Rattle.tip_agreement.proofs.Restarts.{start_sound}
@@ -55,7 +54,7 @@ module _ (realm : List ℕ) (k : Key) (fine : is_spelled k ≡ true) where
     | inr differ ↦ ids_differ realm at k spelled fine differ ∙ sym differ
   ]
 
-  same_row : (rows : List (Key × Row)) → list_all (λ (e : Key × Row). is_spelled e.0) rows ≡ true → row_in realm id rows ≡ row_at k rows
+  pub same_row : (rows : List (Key × Row)) → list_all (λ (e : Key × Row). is_spelled e.0) rows ≡ true → row_in realm id rows ≡ row_at k rows
   same_row [] all = refl
   same_row (e ∷ rows) all =
       let parts = and_parts (is_spelled e.0) (list_all (λ (e : Key × Row). is_spelled e.0) rows) all in
@@ -125,7 +124,7 @@ module _ (realm : List ℕ) (k : Key) (fine : is_spelled k ≡ true) where
   renewed_by boxes Refused world is = inl is
   renewed_by boxes NoChange world is = inl is
 
-  moved_by : (serving : Serving) (move : Move) (world : World) → is_rising world.rows ≡ true → StoredBy world (moved serving move world).shown (moved serving move world).world.rows
+  pub moved_by : (serving : Serving) (move : Move) (world : World) → is_rising world.rows ≡ true → StoredBy world (moved serving move world).shown (moved serving move world).world.rows
   moved_by serving (Move.Step event outcome) world rising is = stepped_by serving event outcome world rising is
   moved_by serving (Move.Go back outcome) world rising is = gone_by serving back outcome world.errands world rising is
   moved_by serving Move.Lose world rising is = lost_by world.errands world is
@@ -134,13 +133,13 @@ module _ (realm : List ℕ) (k : Key) (fine : is_spelled k ≡ true) where
 
   -- A RUN
 
-  more_shown : (start : World) (shown more : List Output) → was_committed realm id start shown ≡ true → was_committed realm id start (shown ++ more) ≡ true
+  pub more_shown : (start : World) (shown more : List Output) → was_committed realm id start shown ≡ true → was_committed realm id start (shown ++ more) ≡ true
   more_shown start shown more is = elim (or_cases (option_map_or is_committed_row (row_in realm id start.rows) false) (list_any (stores_commit realm id) shown) is) [
     | inl stood ↦ or_left (option_map_or is_committed_row (row_in realm id start.rows) false) _ stood
     | inr stored ↦ or_right (option_map_or is_committed_row (row_in realm id start.rows) false) _ (list_any-append (stores_commit realm id) shown more ∙ or_left (list_any (stores_commit realm id) shown) _ stored)
   ]
 
-  now_shown : (start : World) (shown more : List Output) → list_any (stores_commit realm id) more ≡ true → was_committed realm id start (shown ++ more) ≡ true
+  pub now_shown : (start : World) (shown more : List Output) → list_any (stores_commit realm id) more ≡ true → was_committed realm id start (shown ++ more) ≡ true
   now_shown start shown more is = or_right (option_map_or is_committed_row (row_in realm id start.rows) false) _ (list_any-append (stores_commit realm id) shown more ∙ or_right (list_any (stores_commit realm id) shown) _ is)
 
   run_stored : (serving : Serving) (start world : World) (moves : List Move) (shown : List Output) → IsSound world → (is_committed_at world.rows ≡ true → was_committed realm id start shown ≡ true) → is_run serving world moves ≡ true → is_committed_at (led_to serving world moves).rows ≡ true → was_committed realm id start (shown ++ shown_in (traced serving world moves)) ≡ true
@@ -157,15 +156,9 @@ module _ (realm : List ℕ) (k : Key) (fine : is_spelled k ≡ true) where
 pub row_was_stored : (serving : Serving) (world : World) (moves : List Move) (key : Key) → IsStart world → is_run serving world moves ≡ true → is_spelled key ≡ true → has_committed_row key (led_to serving world moves) ≡ true → was_committed world.state.head.name (identifier world.state.head.name key) world (shown_in (traced serving world moves)) ≡ true
 row_was_stored serving world moves key start honest fine is = run_stored world.state.head.name key fine serving world world moves [] (start_sound world start) (λ stands. or_left _ false (ap (λ r. option_map_or is_committed_row r false) (same_row world.state.head.name key fine world.rows start.rows.spelled) ∙ stands)) honest is
 
--- a committed transaction has its row
-row_of : (t : Transaction) (r : Option Row) → is_stored_as Committed t r ≡ true → option_map_or is_committed_row r false ≡ true
-row_of t (Some (row.Committed branches subordinates)) is = refl
-row_of t (Some (row.Prepared address superior branches subordinates)) is = absurd (cc)
-row_of t None is = absurd (cc)
-
 pub committed_was_stored : (serving : Serving) (world : World) (moves : List Move) (key : Key) (t : Transaction) → IsStart world → is_run serving world moves ≡ true → is_spelled key ≡ true → transaction_of key (led_to serving world moves).state ≡ Some t → t.phase ≡ Committed → was_committed world.state.head.name (identifier world.state.head.name key) world (shown_in (traced serving world moves)) ≡ true
 committed_was_stored serving world moves key t start honest fine found committed =
     let last = led_to serving world moves in
     let stored = (to_says last.state last.rows (reached_sound serving world moves start honest).stored).1 key in
     let its : is_stored_as t.phase t (row_at key last.rows) ≡ true = subst (λ o. says o (row_at key last.rows) ≡ true) found stored in
-    row_was_stored serving world moves key start honest fine (row_of t (row_at key last.rows) (subst (λ f. is_stored_as f t (row_at key last.rows) ≡ true) committed its))
+    row_was_stored serving world moves key start honest fine (committed_row t (row_at key last.rows) (subst (λ f. is_stored_as f t (row_at key last.rows) ≡ true) committed its))

@@ -5,6 +5,7 @@ use Rattle.std.specs.List.{list_any}
 use Rattle.std.specs.Option.{option_and_then, option_map_or}
 use Rattle.std.proofs.lemmas.Bool.{and_parts, and_right, not-true, or_from}
 use Rattle.tip_branch.specs.Members.{is_active as is_member_active}
+use Rattle.tip_branch.specs.Notes.{PartyNotes}
 use Rattle.tip_line.specs.declared.command.Command.{Command}
 use Rattle.tip_line.specs.declared.command.Command.TheVariants as commands
 use Rattle.tip_line.specs.declared.command.CommandName.{CommandName}
@@ -17,6 +18,8 @@ use Rattle.tip_txn.specs.declared.answer.Ballot.TheVariants.{Yes, No, ReadOnly, 
 use Rattle.tip_txn.specs.declared.answer.Phase.{Phase}
 use Rattle.tip_txn.specs.declared.answer.Phase.TheVariants.{Active, Asking, Prepared, Committed, Aborted}
 use Rattle.tip_txn.specs.declared.part.Participant.{Participant}
+use Rattle.tip_machine.specs.Agreement.Verdicts.{is_commit}
+use Rattle.tip_machine.specs.Answers.{identifier}
 use Rattle.tip_machine.specs.Changes.{alter, attempt_on, change, reply, tell}
 use Rattle.tip_machine.specs.Commands.{begin, decide_abort, decide_commit, exists, identify, make, obey, prepare, pull, pull_into, push, push_new, query, reconnect, reconnect_to, serve, superior_role, take_over}
 use Rattle.tip_machine.specs.Connections.{identified, is_superior_of, owing, taking}
@@ -40,6 +43,7 @@ use Rattle.tip_machine.specs.declared.event.Change.TheVariants.{Remove}
 use Rattle.tip_machine.specs.declared.transaction.Origin.TheVariants as origin
 use Rattle.tip_machine.specs.declared.transaction.PartyPlace.TheVariants.{Here}
 use Rattle.tip_machine.proofs.Lists.{find_any}
+use Rattle.tip_agreement.specs.Truth.{will_tell}
 use Rattle.tip_agreement.proofs.Apart.{all_found}
 use Rattle.tip_agreement.proofs.Around.{Whole}
 use Rattle.tip_agreement.proofs.Closing.{is_stoppable}
@@ -48,8 +52,8 @@ use Rattle.tip_agreement.proofs.Enlisting.{only_active}
 use Rattle.tip_agreement.proofs.Following.{AllOnward, AreApart, HasNoneActive, abort_onward, commit_onward, none_stored, owns_here, stop_onward, turned_to}
 use Rattle.tip_agreement.proofs.Keys.{key_self, keys_of}
 use Rattle.tip_agreement.proofs.Speaking.{doubt_aborts, doubt_commits}
-use Rattle.tip_agreement.proofs.Wording.{Quiet, closes_more, fits_still, quiet_then, says_more, silent, is_of}
-use Rattle.tip_agreement.proofs.Onward.{Speaks, alters, before, beside, of_none, of_remove, row_in, then}
+use Rattle.tip_agreement.proofs.Wording.{Quiet, are_said, closes_more, fits_still, quiet_then, says_more, silent, is_of}
+use Rattle.tip_agreement.proofs.Onward.{Speaks, alters, before, beside, of_none, of_remove, row_in, tells_commit, then}
 use Rattle.tip_agreement.proofs.Owned.{have_parts, in_phase, own_still, parts_from}
 use Rattle.tip_agreement.proofs.Sound.{found_by}
 
@@ -65,10 +69,20 @@ pub record Beside (w u : Work) : Type 0 where
   pub spent : u.answer.spent ≡ w.answer.spent
   pub said : Quiet w.answer.sent u.answer.sent
 
-beside_says : (key : Key) (w u : Work) → Beside w u → Speaks key w u
+abbrev said_in : List ℕ → ℕ → Key → Bool → Option PartyNotes → Bool
+said_in realm now k said work = said || option_map_or (will_tell is_commit now (identifier realm k)) work false
+
+-- no commit more is told
+pub commits_still : (w u : Work) → u.state.head.epoch ≡ w.state.head.epoch → u.state.head.name ≡ w.state.head.name → u.answer.work ≡ w.answer.work → Quiet w.answer.sent u.answer.sent → (k : Key) → tells_commit k u ≡ true → tells_commit k w ≡ true
+commits_still w u epoch name work said k told =
+    (λ i. said_in (sym name i) (sym epoch i) k (are_said is_commit (sym name i) (identifier (sym name i) k) w.answer.sent) (sym work i))
+    ∙ ((λ i. said_in u.state.head.name u.state.head.epoch k (sym (said is_commit u.state.head.name (identifier u.state.head.name k)) i) u.answer.work) ∙ told)
+
+beside_says : (key : Key) (w u : Work) → Beside w u → Speaks None key w u
 beside_says key w u is = record {
   fits = λ spelled k fine before. fits_still before k w u is.epoch is.name is.transactions is.work is.spent is.said;
   ours = λ test realm id at speaks. inl ((λ i. (sym (is.said test realm id)) i || is_of id ((sym is.spent) i)) ∙ speaks);
+  backed = λ spelled k fine row fits told. inl (commits_still w u is.epoch is.name is.work is.said k told);
 }
 
 pub beside_goes : (w u : Work) → Beside w u → Goes None w u

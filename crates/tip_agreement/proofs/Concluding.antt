@@ -72,7 +72,7 @@ module _ (t : Transaction) (w : Work) (found : transaction_of t.key w.state ≡ 
   own = owns_here w.state t ready.own
 
   stays : Onward None t.key w w
-  stays = beside t.key w w refl refl refl refl (speaks_not t.key w)
+  stays = beside t.key w w refl refl refl refl (speaks_not None t.key w)
 
   module _ (which : (t.phase ≡ Active) ⊎ (t.phase ≡ Asking)) where
     can_stop : is_stoppable t.phase ≡ true
@@ -217,7 +217,7 @@ Goes change w v = (key : Key) × Onward change key w v
 
 module _ (v : Work) (apart : AreApart v) (ready : AllReady v.state) where
   same_goes : Goes None v v
-  same_goes = (record { epoch = 0; connection = 0; number = 0 }, beside (record { epoch = 0; connection = 0; number = 0 }) v v refl refl refl refl (speaks_not (record { epoch = 0; connection = 0; number = 0 }) v))
+  same_goes = (record { epoch = 0; connection = 0; number = 0 }, beside (record { epoch = 0; connection = 0; number = 0 }) v v refl refl refl refl (speaks_not None (record { epoch = 0; connection = 0; number = 0 }) v))
 
   stopped : (t : Transaction) → transaction_of t.key v.state ≡ Some t → is_stoppable t.phase ≡ true → Goes None v (abort t.key v)
   stopped t found can = (t.key, stop_onward t.key v t found apart (owns_here v.state t (ready t found).own) can)

@@ -10,8 +10,11 @@ use Rattle.tip_branch.specs.declared.member.Errand.{Errand}
 use Rattle.tip_rows.specs.Keys.{Key, is_same}
 use Rattle.tip_rows.specs.declared.row.Row.{Row}
 use Rattle.tip_rows.proofs.MemoryLemmas.{bytes_eq-self}
+use Rattle.tip_rows.proofs.OrderLemmas.{same_key}
 use Rattle.tip_txn.specs.declared.answer.Phase.{Phase}
 use Rattle.tip_txn.specs.declared.answer.Phase.TheVariants.{Active, Asking, Prepared, Committed, Aborted}
+use Rattle.tip_machine.specs.Agreement.Verdicts.{is_commit}
+use Rattle.tip_machine.specs.Answers.{identifier}
 use Rattle.tip_machine.specs.Changes.{end, on}
 use Rattle.tip_machine.specs.Connections.{is_on}
 use Rattle.tip_machine.specs.Invariants.Links.{are_distinct}
@@ -29,9 +32,9 @@ use Rattle.tip_machine.specs.declared.transaction.PartyPlace.TheVariants.{Here, 
 use Rattle.tip_agreement.proofs.Around.{found_altered}
 use Rattle.tip_agreement.proofs.Closing.{is_stoppable}
 use Rattle.tip_agreement.proofs.Keys.{key_self, keys_of}
-use Rattle.tip_agreement.proofs.Onward.{IsOf, Onward, Speaks, Turns, alters, before, beside, dispatches, ends, of_none, of_put, of_remove, row_in, then, speaks_not}
+use Rattle.tip_agreement.proofs.Onward.{IsOf, Onward, Speaks, Turns, alters, before, beside, committed_row, dispatches, ends, of_none, of_put, of_remove, row_in, says, speaks_not, then}
 use Rattle.tip_agreement.proofs.Proceeding.{HasLeft}
-use Rattle.tip_agreement.proofs.Speaking.{IsSilent, StillFits, aborts_fits, commits_fits, needs_nothing_silent, promises_silent, silent_fits, stopped_fits, aborts_ours, commits_ours, silent_ours}
+use Rattle.tip_agreement.proofs.Speaking.{IsSilent, StillFits, aborts_fits, aborts_only, aborts_ours, commits_backed, commits_fits, commits_ours, ids_differ, mute_commits, needs_nothing_silent, promises_silent, silent_fits, silent_ours, stopped_fits}
 
 -- The row of one transaction
 
@@ -91,17 +94,26 @@ module _ (key : Key) where
   onward_after u w (Attempt.Done v) first rest = then key None u w v first rest
   onward_after u w (Attempt.Asks change stored refused) first rest = (before key (Some change) u w stored first rest.0, then key None u w refused first rest.1)
 
-  pub reacts_onward : (reaction : Reaction) (w : Work) → Speaks key w (react reaction key w) → Onward None key w (react reaction key w)
+  pub reacts_onward : (reaction : Reaction) (w : Work) → Speaks None key w (react reaction key w) → Onward None key w (react reaction key w)
   unfolding react
   reacts_onward reaction w says = beside key w (react reaction key w) refl refl refl refl says
 
   -- where a reaction tells no verdict
   pub reacts_silently : (reaction : Reaction) (w : Work) → IsSilent reaction → Onward None key w (react reaction key w)
-  reacts_silently reaction w silent = reacts_onward reaction w (record { fits = λ spelled k fine before. silent_fits reaction silent key w k before; ours = λ test realm id at is. inl (silent_ours reaction silent key w test realm id is) })
+  unfolding react
+  reacts_silently reaction w silent = reacts_onward reaction w (record { fits = λ spelled k fine before. silent_fits reaction silent key w k before; ours = λ test realm id at is. inl (silent_ours reaction silent key w test realm id is); backed = λ spelled k fine row fits is. inl (mute_commits reaction key w k (silent is_commit w.state.head.name (identifier w.state.head.name k) key) is) })
 
   -- where one is committed already
   pub commits_again : (w : Work) (t : Transaction) → transaction_of key w.state ≡ Some t → t.phase ≡ Committed → Onward None key w (react commits key w)
-  commits_again w t found committed = reacts_onward commits w (record { fits = λ spelled. commits_fits key w t found (spelled (ap is_some found)) committed; ours = λ test realm id at is. elim (commits_ours key w test realm id is) [ inl before ↦ inl before | inr now ↦ inr (now, ap is_some found) ] })
+  unfolding react
+  commits_again w t found committed = reacts_onward commits w (record {
+    fits = λ spelled. commits_fits key w t found (spelled (ap is_some found)) committed;
+    ours = λ test realm id at is. elim (commits_ours key w test realm id is) [ inl before ↦ inl before | inr now ↦ inr (now, ap is_some found) ];
+    backed = λ spelled k fine row fits is. elim (commits_backed key w k (λ there. ids_differ w.state.head.name key k (spelled (ap is_some found)) fine there) is) [
+      | inl told ↦ inl told
+      | inr same ↦ inr (inl (committed_row t row (subst (λ f. is_stored_as f t row ≡ true) committed (subst (λ o. says o row ≡ true) found (subst (λ x. says (transaction_of x w.state) row ≡ true) (sym (same_key key k same)) fits)))))
+    ];
+  })
 
   module _ (w : Work) (t : Transaction) (found : transaction_of key w.state ≡ Some t) (apart : AreApart w) (own : OwnsHere w.state t) where
     -- the phase is entered, with what is stored
@@ -119,7 +131,8 @@ module _ (key : Key) where
     found_in phase reaction = found_altered key w.state (entering phase) (λ t. refl) t found
 
     tells_aborts : Onward None key (enter Aborted key w) (entered_in Aborted aborts)
-    tells_aborts = reacts_onward aborts (enter Aborted key w) (record { fits = λ spelled. aborts_fits key (enter Aborted key w) (entering Aborted t) (found_entered Aborted) (spelled (ap is_some (found_entered Aborted))) refl; ours = λ test realm id at is. elim (aborts_ours key (enter Aborted key w) test realm id is) [ inl before ↦ inl before | inr now ↦ inr (now, ap is_some (found_entered Aborted)) ] })
+    unfolding react
+    tells_aborts = reacts_onward aborts (enter Aborted key w) (record { fits = λ spelled. aborts_fits key (enter Aborted key w) (entering Aborted t) (found_entered Aborted) (spelled (ap is_some (found_entered Aborted))) refl; ours = λ test realm id at is. elim (aborts_ours key (enter Aborted key w) test realm id is) [ inl before ↦ inl before | inr now ↦ inr (now, ap is_some (found_entered Aborted)) ]; backed = λ spelled k fine row fits is. inl (mute_commits aborts key (enter Aborted key w) k (aborts_only w.state.head.name (identifier w.state.head.name k) key) is) })
 
     own_in : (phase : Phase) (reaction : Reaction) → OwnsHere (entered_in phase reaction).state (entering phase t)
     unfolding react
@@ -137,7 +150,7 @@ module _ (key : Key) where
         then key change w d (release key d) sent (subst (λ o. Onward None key d (on o (λ (u : Transaction) (v : Work). cond (is_spent u.place && not (list_any (is_on key) v.state.connections)) (end key v) v) d)) (sym gone.found) (step d gone.place gone.found (sent.keys apart) (is_spent gone.place && not (list_any (is_on key) d.state.connections)) refl)) where
           step : (d : Work) (place : PartyPlace) → transaction_of key d.state ≡ Some (standing_at place (entering Aborted t)) → AreApart d → (b : Bool) → (is_spent place && not (list_any (is_on key) d.state.connections)) ≡ b → Onward None key d (cond b (end key d) d)
           step d place there keys true is = ends key None (of_none key) d (standing_at place (entering Aborted t)) keys there (turned_off (λ r. r) (standing_at place (entering Aborted t)) (spent_within place (and_parts (is_spent place) _ is).0) (λ r fits. fits))
-          step d place there keys false is = beside key d d refl refl refl refl (speaks_not key d)
+          step d place there keys false is = beside key d d refl refl refl refl (speaks_not None key d)
 
     pub stop_onward : is_stoppable t.phase ≡ true → Onward None key w (abort key w)
     stop_onward can = abort_onward None (of_none key) (none_stored t.phase can t) (stopped_fits t can)
@@ -182,5 +195,5 @@ module _ (key : Key) where
       removed r = subst (λ k. is_none (row_in (Some (Remove k)) key r) ≡ true) (sym same) (subst (λ b. is_none (cond b None r) ≡ true) (sym (key_self key)) refl)
 
       step : (b : Bool) → is_done t ≡ b → AllOnward w (cond b (Attempt.Asks (Remove t.key) (end t.key w) w) (Attempt.Done w))
-      step true done = (subst (λ k. Onward (Some (Remove k)) key w (end k w)) (sym same) (ends key (Some (Remove key)) (of_remove key) w t apart found (subst (λ k. Turns (row_in (Some (Remove k)) key) (Some t) None) same (turned_off (row_in (Some (Remove t.key)) key) t (spent_within t.place (and_parts (is_spent t.place) _ done).0) (λ r fits. removed r)))), beside key w w refl refl refl refl (speaks_not key w))
-      step false not = beside key w w refl refl refl refl (speaks_not key w)
+      step true done = (subst (λ k. Onward (Some (Remove k)) key w (end k w)) (sym same) (ends key (Some (Remove key)) (of_remove key) w t apart found (subst (λ k. Turns (row_in (Some (Remove k)) key) (Some t) None) same (turned_off (row_in (Some (Remove t.key)) key) t (spent_within t.place (and_parts (is_spent t.place) _ done).0) (λ r fits. removed r)))), beside key w w refl refl refl refl (speaks_not None key w))
+      step false not = beside key w w refl refl refl refl (speaks_not None key w)

@@ -91,7 +91,7 @@ record StepKeys (old new : State) : Type 0 where
   stays : (k : Key) → was_given old k ≡ true → was_given new k ≡ true
   fresh : (k : Key) → transaction_of k old ≡ None → is_some (transaction_of k new) ≡ true → was_given old k ≡ false
 
-no_party : (event : Event) → brings_no_party event ≡ true → (brought event ≡ []) × ((returned Frozen event).spent ≡ None)
+pub no_party : (event : Event) → brings_no_party event ≡ true → (brought event ≡ []) × ((returned Frozen event).spent ≡ None)
 no_party (Open boxes) is = (refl, refl)
 no_party (Dial address purpose boxes) is = (refl, refl)
 no_party (Line seat heard) is = (refl, refl)
@@ -167,7 +167,7 @@ module _ (serving : Serving) (world : World) (sound : IsSound world) (event : Ev
 
 -- A PARTY THAT COMES BACK
 
-brought_back : (party : PartyNotes) (back : Back) → brought (event_of party back) ≡ calls_of (back_of party back)
+pub brought_back : (party : PartyNotes) (back : Back) → brought (event_of party back) ≡ calls_of (back_of party back)
 brought_back party back = step party.errand where
   step : (e : Errand) → brought (back_from e (back_of party back)) ≡ calls_of (back_of party back)
   step errand.Vote = refl

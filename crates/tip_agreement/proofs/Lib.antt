@@ -6,6 +6,7 @@ pub mod Answering
 pub mod Apart
 pub mod Around
 pub mod Asking
+pub mod Backed
 pub mod Backing
 pub mod Beginning
 pub mod Bounded

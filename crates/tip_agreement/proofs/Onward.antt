@@ -1,7 +1,8 @@
--- How transactions go on over a rule: what their rows say, which parties stay out, and what has no outcome.
+-- How transactions go on over a rule: what their rows say, which parties stay out, what has no outcome, and who is told.
 use Rattle.std.proofs.Common.{◌≡◌, Bool, true, false, List, [], ◌∷◌, Option, Some, None, cond, refl, ap, subst, sym, ◌∙◌, ◌⊎◌, inl, inr, ℕ}
 use Rattle.std.specs.Prelude.{◌&&◌, ◌||◌, ◌==◌, not, find, map, is_none, is_some}
 use Rattle.std.specs.List.{list_all, list_any}
+use Rattle.std.specs.Option.{option_map_or}
 use Rattle.std.specs.Str.{bytes_eq}
 use Rattle.std.proofs.lemmas.Bool.{and_parts, both_ways, cases_Bool, not-true, or_parts, or_cases, or_left}
 use Rattle.std.proofs.lemmas.Option.{same_Some}
@@ -31,12 +32,13 @@ use Rattle.tip_machine.specs.declared.event.Change.{Change}
 use Rattle.tip_machine.specs.declared.event.Change.TheVariants.{Put, Remove}
 use Rattle.tip_machine.specs.declared.transaction.PartyPlace.TheVariants.{Here, Out, Spent}
 use Rattle.tip_rows.proofs.MemoryLemmas.{same_text}
-use Rattle.tip_machine.specs.Agreement.Verdicts.{Verdict}
-use Rattle.tip_agreement.specs.Truth.{Word, fits, is_uncalled}
+use Rattle.tip_machine.specs.Agreement.{is_committed_row}
+use Rattle.tip_machine.specs.Agreement.Verdicts.{Verdict, is_commit}
+use Rattle.tip_agreement.specs.Truth.{Word, fits, is_uncalled, verdict_of, will_tell}
 use Rattle.tip_agreement.proofs.Around.{found_altered, other_found, other_left}
 use Rattle.tip_agreement.proofs.Keys.{apart_without, keys_changed, keys_of}
 use Rattle.tip_agreement.proofs.Owned.{key_found}
-use Rattle.tip_agreement.proofs.Speaking.{MayLet, StillFits, altered_fits, give_fits, let_fits, may_go, over_fits, placed_fits}
+use Rattle.tip_agreement.proofs.Speaking.{MayLet, StillFits, altered_fits, give_fits, ids_differ, is_told_commit, let_fits, may_go, over_fits, placed_fits}
 use Rattle.tip_agreement.proofs.Wording.{Fits, word_at, are_said, speaks_of}
 
 -- ONE TRANSACTION
@@ -80,12 +82,30 @@ SaysFitting key w v = (is_some (transaction_of key w.state) ≡ true → is_spel
 abbrev pub SpeaksOf : Key → Work → Work → Type 0
 SpeaksOf key w v = (test : Verdict → Bool) (realm id : List ℕ) → realm ≡ w.state.head.name → speaks_of test realm id v.answer ≡ true → (speaks_of test realm id w.answer ≡ true) ⊎ ((bytes_eq id (identifier realm key) ≡ true) × (is_some (transaction_of key w.state) ≡ true))
 
-pub record Speaks (key : Key) (w v : Work) : Type 0 where
+-- a committed row stands
+abbrev pub is_committed : Option Row → Bool
+is_committed row = option_map_or is_committed_row row false
+
+abbrev pub tells_commit : Key → Work → Bool
+tells_commit key w = is_told_commit w.state.head.name w.state.head.epoch key w.answer
+
+-- where the key fits, a commit is told only where the committed row stood, or stands once this was stored
+abbrev pub SaysBacked : Option Change → Key → Work → Work → Type 0
+SaysBacked change key w v = (is_some (transaction_of key w.state) ≡ true → is_spelled key ≡ true) → (k : Key) → is_spelled k ≡ true → (row : Option Row) → says (transaction_of k w.state) row ≡ true → tells_commit k v ≡ true → (tells_commit k w ≡ true) ⊎ ((is_committed row ≡ true) ⊎ (is_committed (row_in change k row) ≡ true))
+
+pub record Speaks (change : Option Change) (key : Key) (w v : Work) : Type 0 where
   pub fits : SaysFitting key w v
   pub ours : SpeaksOf key w v
+  pub backed : SaysBacked change key w v
 
-pub speaks_not : (key : Key) (w : Work) → Speaks key w w
-speaks_not key w = record { fits = λ spelled k fine before is. is; ours = λ test realm id at is. inl is }
+pub speaks_not : (change : Option Change) (key : Key) (w : Work) → Speaks change key w w
+speaks_not change key w = record { fits = λ spelled k fine before is. is; ours = λ test realm id at is. inl is; backed = λ spelled k fine row fits is. inl is }
+
+-- a committed transaction has its row
+pub committed_row : (t : Transaction) (r : Option Row) → is_stored_as Committed t r ≡ true → is_committed r ≡ true
+committed_row t (Some (row.Committed branches subordinates)) is = refl
+committed_row t (Some (row.Prepared address superior branches subordinates)) is = absurd (cc)
+committed_row t None is = absurd (cc)
 
 -- the party of this transaction goes out, which was not out before
 pub record Sends (key : Key) (w v : Work) : Type 0 where
@@ -106,11 +126,11 @@ pub record Onward (change : Option Change) (key : Key) (w v : Work) : Type 0 whe
   pub turns : (k : Key) → Turns (row_in change k) (transaction_of k w.state) (transaction_of k v.state)
   pub keys : are_distinct is_same (keys_of w.state.transactions) ≡ true → are_distinct is_same (keys_of v.state.transactions) ≡ true
   pub sends : (v.answer.work ≡ w.answer.work) ⊎ Sends key w v
-  pub says : Speaks key w v
+  pub says : Speaks change key w v
 
 module _ (key : Key) where
   -- no transaction is touched
-  pub beside : (w v : Work) → v.state.head.epoch ≡ w.state.head.epoch → v.state.head.name ≡ w.state.head.name → v.state.transactions ≡ w.state.transactions → v.answer.work ≡ w.answer.work → Speaks key w v → Onward None key w v
+  pub beside : (w v : Work) → v.state.head.epoch ≡ w.state.head.epoch → v.state.head.name ≡ w.state.head.name → v.state.transactions ≡ w.state.transactions → v.answer.work ≡ w.answer.work → Speaks None key w v → Onward None key w v
   beside w v epoch name same work says = record {
     epoch = epoch;
     name = name;
@@ -153,8 +173,21 @@ module _ (key : Key) where
     | inr now ↦ inr (now.0, (first.turns key).was now.1)
   ]
 
-  says_then : (c d : Option Change) (u w v : Work) → Onward c key u w → Onward d key w v → Speaks key u v
-  says_then c d u w v first next = record { fits = fits_then c d u w v first next; ours = ours_then c d u w v first next }
+  -- the row before is the row between, or the row between is the row after
+  backed_then : (change : Option Change) (u w v : Work) → Onward change key u w → Onward None key w v → SaysBacked change key u v
+  backed_then change u w v first next spelled k fine row fits is = elim (next.says.backed (λ there. spelled ((first.turns key).was there)) k fine (row_in change k row) ((first.turns k).rows row fits) is) [
+    | inl told ↦ first.says.backed spelled k fine row fits told
+    | inr stands ↦ inr (inr (elim stands [ inl was ↦ was | inr is ↦ is ]))
+  ]
+
+  backed_before : (change : Option Change) (u w v : Work) → Onward None key u w → Onward change key w v → SaysBacked change key u v
+  backed_before change u w v first next spelled k fine row fits is = elim (next.says.backed (λ there. spelled ((first.turns key).was there)) k fine row ((first.turns k).rows row fits) is) [
+    | inl told ↦ elim (first.says.backed spelled k fine row fits told) [
+      | inl old ↦ inl old
+      | inr stands ↦ inr (inl (elim stands [ inl was ↦ was | inr is ↦ is ]))
+    ]
+    | inr stands ↦ inr stands
+  ]
 
   -- one after another
   pub then : (change : Option Change) (u w v : Work) → Onward change key u w → Onward None key w v → Onward change key u v
@@ -164,7 +197,7 @@ module _ (key : Key) where
     turns = λ k. turns_then (row_in change k) (λ row. row) _ _ _ (first.turns k) (next.turns k);
     keys = λ apart. next.keys (first.keys apart);
     sends = sends_then change None u w v first next;
-    says = says_then change None u w v first next;
+    says = record { fits = fits_then change None u w v first next; ours = ours_then change None u w v first next; backed = backed_then change u w v first next };
   }
 
   pub before : (change : Option Change) (u w v : Work) → Onward None key u w → Onward change key w v → Onward change key u v
@@ -174,7 +207,7 @@ module _ (key : Key) where
     turns = λ k. turns_then (λ row. row) (row_in change k) _ _ _ (first.turns k) (next.turns k);
     keys = λ apart. next.keys (first.keys apart);
     sends = sends_then None change u w v first next;
-    says = says_then None change u w v first next;
+    says = record { fits = fits_then None change u w v first next; ours = ours_then None change u w v first next; backed = backed_before change u w v first next };
   }
 
   -- the transaction of the key is altered, or ends
@@ -215,7 +248,7 @@ module _ (key : Key) (change : Option Change) (of : IsOf key change) (w : Work) 
     turns = each_key (alter key f w) (subst (λ o. Turns (row_in change key) o (transaction_of key (alter key f w).state)) (sym found) (subst (Turns (row_in change key) (Some t)) (sym (found_altered key w.state f same t found)) turns)) (other_found key w.state f same);
     keys = λ apart. rw (keys_changed (has_key key) f w.state.transactions same) apart;
     sends = inl refl;
-    says = record { fits = λ spelled k fine before. altered_fits key w f t same found may k before; ours = λ test realm id at is. inl is };
+    says = record { fits = λ spelled k fine before. altered_fits key w f t same found may k before; ours = λ test realm id at is. inl is; backed = λ spelled k fine row fits is. inl is };
   }
 
   gone_now : (ts : List Transaction) → are_distinct is_same (keys_of ts) ≡ true → find (has_key key) (without (has_key key) ts) ≡ None
@@ -245,7 +278,7 @@ module _ (key : Key) (change : Option Change) (of : IsOf key change) (w : Work) 
     turns = each_key (end key w) (subst (λ o. Turns (row_in change key) o (transaction_of key (end key w).state)) (sym found) (subst (Turns (row_in change key) (Some t)) (sym (gone_now w.state.transactions apart)) turns)) (other_left key w.state);
     keys = λ apart. apart_without (has_key key) w.state.transactions apart;
     sends = inl refl;
-    says = record { fits = λ spelled k fine before. ended_fits t apart found k before; ours = λ test realm id at is. inl is };
+    says = record { fits = λ spelled k fine before. ended_fits t apart found k before; ours = λ test realm id at is. inl is; backed = λ spelled k fine row fits is. inl is };
   }
 
 -- THE PARTY
@@ -309,7 +342,25 @@ module _ (key : Key) (w : Work) (t : Transaction) (party : PartyNotes) (found : 
   pub lets : is_its_own w.state t (Here party) ≡ true → MayLet t party → Onward None key w (let_go party key w)
   lets own may =
       let a = alters key None (of_none key) w (standing_at Spent) t (λ t. refl) found (moves Spent) (placed_fits t party Spent here) in
-      record { epoch = a.epoch; name = a.name; turns = a.turns; keys = a.keys; sends = inl refl; says = record { fits = λ spelled. let_fits key w t party found here (own_id own) (spelled (ap is_some found)) may; ours = let_ours own } }
+      record { epoch = a.epoch; name = a.name; turns = a.turns; keys = a.keys; sends = inl refl; says = record { fits = λ spelled. let_fits key w t party found here (own_id own) (spelled (ap is_some found)) may; ours = let_ours own; backed = λ spelled k fine row fits is. inl is } }
+
+  -- only the party of a committed transaction goes out to tell a commit
+  gives_backed : (e : Errand) → is_its_own w.state t (Here party) ≡ true → may_go t.phase e ≡ true → SaysBacked None key w (give_out e party key w)
+  gives_backed e own may spelled k fine row fits is = elim (or_cases (are_said is_commit w.state.head.name (identifier w.state.head.name k) w.answer.sent) (will_tell is_commit w.state.head.epoch (identifier w.state.head.name k) (given party e)) is) [
+    | inl said ↦ inl (or_left (are_said is_commit w.state.head.name (identifier w.state.head.name k) w.answer.sent) _ said)
+    | inr will ↦ inr (inl (elim (cases_Bool (is_same key k)) [
+      | inl same ↦ committed_row t row (stored_in t.phase e may (and_parts (bytes_eq (identifier w.state.head.name k) party.id) _ will).1 (subst (λ o. says o row ≡ true) found (subst (λ x. says (transaction_of x w.state) row ≡ true) (sym (same_key key k same)) fits)))
+      | inr differ ↦ absurd (both_ways (bytes_eq (identifier w.state.head.name k) party.id) (subst (λ x. bytes_eq (identifier w.state.head.name k) x ≡ false) (sym (same_text party.id (identifier w.state.head.name key) (own_id own))) (ids_differ w.state.head.name key k (spelled (ap is_some found)) fine differ)) (and_parts (bytes_eq (identifier w.state.head.name k) party.id) _ will).0)
+    ]))
+  ] where
+    stored_in : (phase : Phase) (e : Errand) → may_go phase e ≡ true → option_map_or is_commit (verdict_of w.state.head.epoch e party.epoch) false ≡ true → is_stored_as phase t row ≡ true → is_stored_as Committed t row ≡ true
+    stored_in Committed errand.Commit may tells fits = fits
+    stored_in Aborted errand.Abort may tells fits = absurd (cc)
+    stored_in Asking errand.Vote may tells fits = absurd (votes (party.epoch == w.state.head.epoch) tells) where
+      votes : (b : Bool) → option_map_or is_commit (cond b None (Some Verdict.Abort)) false ≡ true → ⊥
+      votes true is = cc
+      votes false is = cc
+    stored_in phase e may tells fits = absurd (cc)
 
   pub gives : (e : Errand) → CanGo e party → is_its_own w.state t (Here party) ≡ true → may_go t.phase e ≡ true → Onward None key w (give_out e party key w)
   gives e can own may =
@@ -332,7 +383,7 @@ module _ (key : Key) (w : Work) (t : Transaction) (party : PartyNotes) (found : 
           out = refl;
           before = λ u f is at. never f (sym here ∙ (ap (λ (x : Transaction). x.place) (same_Some t u (sym found ∙ is)) ∙ at));
         });
-        says = record { fits = λ spelled. give_fits key w t party found here (own_id own) its.0 (spelled (ap is_some found)) e may; ours = λ test realm id at is. inl is };
+        says = record { fits = λ spelled. give_fits key w t party found here (own_id own) its.0 (spelled (ap is_some found)) e may; ours = λ test realm id at is. inl is; backed = gives_backed e own may };
       } where
         never : (f : Errand) → Here party ≡ Out f → ⊥
         never f is = cc
@@ -354,7 +405,7 @@ pub record Dispatched (key : Key) (t : Transaction) (w v : Work) : Type 0 where
 
 module _ (key : Key) (w : Work) (t : Transaction) (found : transaction_of key w.state ≡ Some t) where
   stood : (place : PartyPlace) → t.place ≡ place → Dispatched key t w w
-  stood place at = record { onward = beside key w w refl refl refl refl (speaks_not key w); place = place; found = found ∙ ap Some (λ i. record t { place = at i }); stays_in = λ never none e out. never e (at ∙ out) }
+  stood place at = record { onward = beside key w w refl refl refl refl (speaks_not None key w); place = place; found = found ∙ ap Some (λ i. record t { place = at i }); stays_in = λ never none e out. never e (at ∙ out) }
 
   pub dispatches : ((party : PartyNotes) → t.place ≡ Here party → MayBeSent w t party) → Dispatched key t w (dispatch key w)
   unfolding dispatch

@@ -22,14 +22,18 @@ use Rattle.tip_machine.specs.Proceeding.{give_out, let_go}
 use Rattle.tip_machine.specs.Reactions.{Reaction, aborts, asks, commits, needs_nothing, promises, react}
 use Rattle.tip_machine.specs.States.{Work, transaction_of}
 use Rattle.tip_machine.specs.Transactions.{entering, standing_at}
-use Rattle.tip_machine.specs.Types.{PartyPlace, Transaction}
+use Rattle.tip_machine.specs.Types.{Answer, PartyPlace, Transaction}
 use Rattle.tip_machine.specs.declared.transaction.PartyPlace.TheVariants.{Here, Out, Spent}
 use Rattle.tip_agreement.specs.Truth.{Word, fits, fits_in, is_lost, will_tell, will_vote}
 use Rattle.tip_agreement.proofs.Around.{found_altered, other_found}
 use Rattle.tip_agreement.proofs.Closing.{is_stoppable}
 use Rattle.tip_agreement.proofs.Keys.{key_self}
 use Rattle.tip_agreement.proofs.Spelling.{keys_told}
-use Rattle.tip_agreement.proofs.Wording.{Fits, IsMute, Less, fits_less, fits_so, fits_still, mute_said, no_fourth, no_second, no_third, no_third_of_four, not_less, rolls_back, word_at, word_in, is_of, speaks_of, or_none}
+use Rattle.tip_agreement.proofs.Wording.{Fits, IsMute, Less, are_said, fits_less, fits_so, fits_still, mute_said, no_fourth, no_second, no_third, no_third_of_four, not_less, rolls_back, word_at, word_in, is_of, speaks_of, or_none}
+
+-- a commit of the transaction of this key is said, or a party goes out to tell it
+abbrev pub is_told_commit : List ℕ → ℕ → Key → Answer → Bool
+is_told_commit realm now key answer = let id = identifier realm key in are_said is_commit realm id answer.sent || option_map_or (will_tell is_commit now id) answer.work false
 
 -- Identifiers of other keys are others
 
@@ -257,7 +261,7 @@ never test verdict not false = refl
 commits_only : (realm id : List ℕ) (key : Key) → IsMute is_abort realm id commits key
 commits_only realm id key = record { enlisted = tt; prepared = never is_abort Verdict.Commit refl (bytes_eq id (identifier realm key)) }
 
-aborts_only : (realm id : List ℕ) (key : Key) → IsMute is_commit realm id aborts key
+pub aborts_only : (realm id : List ℕ) (key : Key) → IsMute is_commit realm id aborts key
 aborts_only realm id key =
     let off = never is_commit Verdict.Abort refl (bytes_eq id (identifier realm key)) in
     record { enlisted = off; prepared = off }
@@ -325,4 +329,16 @@ pub aborts_ours : (key : Key) (w : Work) (test : Verdict → Bool) (realm id : L
 aborts_ours key w test realm id is = elim (cases_Bool (bytes_eq id (identifier realm key))) [
   | inl same ↦ inr same
   | inr differ ↦ inl (mute_ours aborts key w test realm id (aborts_mute test realm id key differ) is)
+]
+
+-- no commit more is said, or it is one of the transaction that is committed
+
+pub mute_commits : (reaction : Reaction) (key : Key) (w : Work) (k : Key) → IsMute is_commit w.state.head.name (identifier w.state.head.name k) reaction key → is_told_commit w.state.head.name w.state.head.epoch k (react reaction key w).answer ≡ true → is_told_commit w.state.head.name w.state.head.epoch k w.answer ≡ true
+unfolding react
+mute_commits reaction key w k mute is = sym (ap (λ b. b || option_map_or (will_tell is_commit w.state.head.epoch (identifier w.state.head.name k)) w.answer.work false) (mute_said is_commit w.state.head.name (identifier w.state.head.name k) reaction key mute w.answer.sent w.state.connections)) ∙ is
+
+pub commits_backed : (key : Key) (w : Work) (k : Key) → (is_same key k ≡ false → bytes_eq (identifier w.state.head.name k) (identifier w.state.head.name key) ≡ false) → is_told_commit w.state.head.name w.state.head.epoch k (react commits key w).answer ≡ true → (is_told_commit w.state.head.name w.state.head.epoch k w.answer ≡ true) ⊎ (is_same key k ≡ true)
+commits_backed key w k apart is = elim (cases_Bool (is_same key k)) [
+  | inl same ↦ inr same
+  | inr differ ↦ inl (mute_commits commits key w k (commits_mute is_commit w.state.head.name (identifier w.state.head.name k) key (apart differ)) is)
 ]

@@ -49,7 +49,7 @@ pub record Spoke (w v : Work) : Type 0 where
   pub fits : (k : Key) → is_spelled k ≡ true → (before : Word) → (transaction_of k w.state ≡ None → is_some (transaction_of k v.state) ≡ true → has_word before ≡ false) → Fits before k w → Fits before k v
 
 module _ (w : Work) (spelled : AreSpelled w.state) (quiet : IsQuiet w) where
-  spelled_there : (key : Key) → is_some (transaction_of key w.state) ≡ true → is_spelled key ≡ true
+  pub spelled_there : (key : Key) → is_some (transaction_of key w.state) ≡ true → is_spelled key ≡ true
   spelled_there key = step (transaction_of key w.state) refl where
     step : (found : Option Transaction) → transaction_of key w.state ≡ found → is_some found ≡ true → is_spelled key ≡ true
     step None is there = absurd (cc)

@@ -48,7 +48,7 @@ any_behind p errands o is = elim (or_cases (list_any p errands) (list_any p (opt
 ]
 
 -- what is let go is rolled back
-let_go_rolls : (test : Verdict → Bool) (realm id : List ℕ) (spent : Option PartyNotes) → let_go_told test realm id spent ≡ true → (test Verdict.Abort ≡ true) × (rolls_back id spent ≡ true)
+pub let_go_rolls : (test : Verdict → Bool) (realm id : List ℕ) (spent : Option PartyNotes) → let_go_told test realm id spent ≡ true → (test Verdict.Abort ≡ true) × (rolls_back id spent ≡ true)
 let_go_rolls test realm id None is = absurd (cc)
 let_go_rolls test realm id (Some party) is = let rolled = drops_told test realm id party is in (rolled.aborts, and_from _ _ rolled.id_is rolled.active)
 

@@ -2,8 +2,8 @@
 ghost use Rattle.std.specs.Prelude.{◌≡◌, ℕ, ◌++◌, List, [], Some, true};
 ghost use Rattle.tip_rows.specs.Keys.{Key};
 ghost use Rattle.tip_txn.specs.declared.answer.Phase.TheVariants.{Committed};
-ghost use Rattle.tip_machine.specs.Agreement.Traces.{shown_in, traced};
-ghost use Rattle.tip_machine.specs.Agreement.{is_one, was_committed};
+ghost use Rattle.tip_machine.specs.Agreement.Traces.{at_each, shown_in, traced};
+ghost use Rattle.tip_machine.specs.Agreement.{is_backed, is_one, was_committed};
 ghost use Rattle.tip_machine.specs.Answers.{identifier};
 ghost use Rattle.tip_machine.specs.Given.{are_numbered};
 ghost use Rattle.tip_machine.specs.Honest.{is_honest, is_run};
@@ -67,4 +67,10 @@ pub fn a_committed_row_was_stored()
     ensures phase { (serving : Serving) (world : World) (moves : List Move) (key : Key) (transaction : Transaction) → IsStart world → is_run serving world moves ≡ true → is_spelled key ≡ true →
         transaction_of key (led_to serving world moves).state ≡ Some transaction → transaction.phase ≡ Committed →
         was_committed world.state.head.name (identifier world.state.head.name key) world (shown_in (traced serving world moves)) ≡ true }
+{}
+
+/// So agreement, the second of its sentences: in an honest run from a start a branch of a transaction is told to commit only once
+/// the committed row of the transaction was stored, in this event or before, or where that row stood at the start.
+pub fn a_commit_is_told_once_its_row_was_stored()
+    ensures { (serving : Serving) (world : World) (moves : List Move) (id : List ℕ) → IsStart world → is_run serving world moves ≡ true → at_each (is_backed world.state.head.name id world) (traced serving world moves) ≡ true }
 {}
