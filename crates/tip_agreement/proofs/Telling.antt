@@ -130,7 +130,7 @@ put_same test turn s (x ∷ xs) = step (nat_le (turn s) (turn x)) (put_same test
   step true rest = refl
   step false rest = ap (λ b. test x || b) rest ∙ or_swap (test s) (test x) (list_any test xs)
 
-turn_same : (test : Sent → Bool) (turn : Sent → ℕ) (xs : List Sent) → list_any test (in_turn turn xs) ≡ list_any test xs
+pub turn_same : (test : Sent → Bool) (turn : Sent → ℕ) (xs : List Sent) → list_any test (in_turn turn xs) ≡ list_any test xs
 turn_same test turn [] = refl
 turn_same test turn (x ∷ xs) = put_same test turn x (in_turn turn xs) ∙ ap (λ b. test x || b) (turn_same test turn xs)
 

@@ -1,0 +1,15 @@
+//! Laws of a realm's runs, each carried by a function that does nothing. They hold whatever is served.
+ghost use Rattle.std.specs.Prelude.{◌≡◌, ◌||◌, not, ℕ, List, is_none, true};
+ghost use Rattle.tip_machine.specs.Agreement.Traces.{at_each, traced};
+ghost use Rattle.tip_machine.specs.Agreement.{is_denied, row_in};
+ghost use Rattle.tip_machine.specs.Honest.{is_run};
+ghost use Rattle.tip_machine.specs.Moves.{Move, World};
+ghost use Rattle.tip_machine.specs.Served.{Serving};
+ghost use Rattle.tip_machine.specs.Starting.{IsStart};
+
+/// What has a row, in doubt or committed, is not denied: in an honest run from a start a QUERY for its identifier is never answered
+/// QUERIEDNOTFOUND.
+pub fn what_has_a_row_is_not_denied()
+    ensures { (serving : Serving) (world : World) (moves : List Move) (id : List ℕ) → IsStart world → is_run serving world moves ≡ true →
+        at_each (λ before moment. not (is_denied world.state.head.name id moment) || is_none (row_in world.state.head.name id moment.world.rows)) (traced serving world moves) ≡ true }
+{}
