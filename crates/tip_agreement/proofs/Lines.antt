@@ -62,7 +62,7 @@ module _ (c : Connection) (w : Work) (whole : Whole w.state) (given : are_given 
   heard_so : (serving : Serving) (side : Side) (heard : Heard) → c.side ≡ side → may_take c ≡ true → AllWhole (hear serving side heard c w)
   heard_so serving Secondary (ACommand line') side turn = let silent = nothing_owed c turn in served_or_not c w whole there side silent serving line' (served side silent line')
   heard_so serving Primary (ACommand commands.Error) side turn = closed_whole c w whole there
-  heard_so serving Primary (AResponse response) side turn = either_attempt AllWhole serving.dials (answered_by c.awaited response c w) (Attempt.Done (wrong c w)) (answered_so serving response c.awaited side refl) (wrong_whole c w whole there)
+  heard_so serving Primary (AResponse response) side turn = either_attempt AllWhole (serving.responses c.awaited) (answered_by c.awaited response c w) (Attempt.Done (wrong c w)) (answered_so serving response c.awaited side refl) (wrong_whole c w whole there)
   heard_so serving Secondary (AResponse response) side turn = wrong_whole c w whole there
   heard_so serving Secondary Malformed side turn = wrong_whole c w whole there
   heard_so serving Primary Malformed side turn = wrong_whole c w whole there

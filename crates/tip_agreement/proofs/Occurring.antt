@@ -79,7 +79,7 @@ module _ (w : Work) (whole : Whole w.state) (spelled : IsNextSpelled w) where
     hears : (serving : Serving) (side : Side) (heard : Heard) → c.side ≡ side → EndsGo w (hear serving side heard c w)
     hears serving Secondary (ACommand command) side = commands_go serving command
     hears serving Primary (ACommand commands.Error) side = hangs_up c w whole
-    hears serving Primary (AResponse response) side = either_attempt (EndsGo w) serving.dials (answered_by c.awaited response c w) (Attempt.Done (wrong c w)) (answers_go side c.awaited response refl) (goes_wrong c w whole)
+    hears serving Primary (AResponse response) side = either_attempt (EndsGo w) (serving.responses c.awaited) (answered_by c.awaited response c w) (Attempt.Done (wrong c w)) (answers_go side c.awaited response refl) (goes_wrong c w whole)
     hears serving Secondary (AResponse response) side = goes_wrong c w whole
     hears serving Secondary Malformed side = goes_wrong c w whole
     hears serving Primary Malformed side = goes_wrong c w whole

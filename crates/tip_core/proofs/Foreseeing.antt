@@ -1,28 +1,34 @@
 -- What an event wants is what reading alone foresees.
-use Rattle.std.proofs.Common.{arith, ◌≡◌, ◌++◌, ◌+◌, ◌==◌, ◌&&◌, Bool, true, false, cond, ℕ, List, [], ◌∷◌, Option, Some, None, map, refl, ap, sym, subst, ◌∙◌}
-use Rattle.std.specs.Prelude.{drop, filter, find, if◌then◌else◌}
-use Rattle.std.specs.List.{flat_map, list_all}
-use Rattle.std.specs.Option.{IfSome, option_and_then}
+use Rattle.std.proofs.Common.{arith, ◌≡◌, ◌++◌, ◌+◌, ◌==◌, ◌&&◌, Bool, true, false, cond, ℕ, List, [], ◌∷◌, Option, Some, None, refl, ap, sym, ◌∙◌}
+use Rattle.std.specs.Prelude.{drop, filter, find, not, if◌then◌else◌}
+use Rattle.std.specs.List.{flat_map}
+use Rattle.std.specs.Option.{option_and_then}
 use Rattle.std.proofs.lemmas.Bool.Decides.{nat_tests}
 use Rattle.std.proofs.lemmas.Option.{none-some, same_Some}
 use Rattle.std.specs.Str.{bytes_eq}
 use Rattle.tip_branch.specs.Notes.{PartyNotes}
-use Rattle.tip_branch.specs.declared.member.Errand.{Errand}
 use Rattle.tip_branch.specs.declared.member.Errand.TheVariants as errand
-use Rattle.tip_conn.specs.Table.{admit_of}
+use Rattle.tip_conn.specs.Table.{admit_of, next_of}
 use Rattle.tip_conn.specs.declared.state.Admit.{Admit}
 use Rattle.tip_conn.specs.declared.state.Admit.TheVariants.{Serve, Wrong}
 use Rattle.tip_conn.specs.declared.state.Side.{Side}
 use Rattle.tip_conn.specs.declared.state.Side.TheVariants.{Primary, Secondary}
+use Rattle.tip_conn.specs.declared.state.State.{State as ConnectionState}
+use Rattle.tip_conn.specs.declared.state.State.TheVariants as states
+use Rattle.tip_conn.specs.declared.state.Turn.{Turn}
 use Rattle.tip_line.specs.Command.{name_of}
 use Rattle.tip_line.specs.declared.command.Command.{Command as ACommand}
 use Rattle.tip_line.specs.declared.command.Command.TheVariants as commands
 use Rattle.tip_line.specs.declared.command.CommandName.{CommandName}
 use Rattle.tip_line.specs.declared.command.CommandName.TheVariants as command
+use Rattle.tip_line.specs.Response.{name_of as response_name}
+use Rattle.tip_line.specs.declared.response.Response.{Response as AResponse}
+use Rattle.tip_line.specs.declared.response.ResponseName.{ResponseName}
 use Rattle.tip_line.specs.declared.refusal.Refusal.TheVariants.{Busy, NotActive}
 use Rattle.tip_rows.proofs.OrderLemmas.{same_key}
 use Rattle.tip_rows.specs.Keys.{Key, is_same}
 use Rattle.tip_rows.specs.declared.row.Row.TheVariants as row
+use Rattle.tip_table.proofs.Standing.{change_none}
 use Rattle.tip_table.specs.Lists.{changed}
 use Rattle.tip_txn.specs.Parts.{answered, is_yes}
 use Rattle.tip_txn.specs.declared.answer.Decision.{Decision}
@@ -34,21 +40,23 @@ use Rattle.tip_machine.proofs.Walks.{found_changed, found_passes, on_found, seat
 use Rattle.tip_machine.specs.Answers.{identifier}
 use Rattle.tip_machine.specs.Changes.{alter, attempt_on, change, end, refuse}
 use Rattle.tip_machine.specs.Commands.{commanded, decide_abort, decide_commit, obey, prepare, serve_if, superior_role}
-use Rattle.tip_machine.specs.Connections.{asks_for, has_number, is_superior_of, may_take, owing}
-use Rattle.tip_machine.specs.Proceeding.{agree, ask, asked_for_votes, conclude, dispatch, dispatched, enter, errand_in, finish, give_out, let_go, owed_to_superior, proceed, proceed_in}
+use Rattle.tip_machine.specs.Connections.{advanced, advanced_to, asks_for, has_number, is_secondary, is_superior_of, may_take, owing, role_in}
+use Rattle.tip_machine.specs.Proceeding.{agree, ask, asked_for_votes, conclude, dispatch, enter, errand_in, finish, give_out, let_go, owed_to_superior, proceed, proceed_in}
 use Rattle.tip_machine.specs.Reactions.{commits, react}
 use Rattle.tip_machine.specs.Requests.{hear, line, owner, resume, resume_in, settled, settled_for, voted, voted_for}
+use Rattle.tip_machine.specs.Responses.{go_on}
 use Rattle.tip_machine.specs.Served.{today}
 use Rattle.tip_machine.specs.States.{Attempt, State, Work, connection_of, identified_by, seated, transaction_of}
 use Rattle.tip_machine.specs.Steps.{attempt, entered, is_open, wanted, wants}
-use Rattle.tip_machine.specs.Transactions.{decision_of, entering, has_id, has_key, has_ready, is_committed, is_done, is_spent, noting, pair_of, party_answer, standing_at, subordinates, willing_from}
+use Rattle.tip_machine.specs.Transactions.{decision_of, entering, has_id, has_key, has_ready, is_committed, is_done, is_spent, noting, pair_of, party_answer, standing_at, willing_from}
 use Rattle.tip_machine.specs.Types.{Connection, Event, PartyPlace, Transaction}
 use Rattle.tip_machine.specs.declared.event.Event.TheVariants.{AskPull, AskPush, Dial, Line, Lost, Open, Resume, Settled, Voted}
 use Rattle.tip_machine.specs.declared.event.Change.{Change}
 use Rattle.tip_machine.specs.declared.event.Change.TheVariants.{Put, Remove}
 use Rattle.tip_machine.specs.declared.event.Heard.{Heard}
 use Rattle.tip_machine.specs.declared.event.Heard.TheVariants.{Command, Malformed, Response}
-use Rattle.tip_machine.specs.declared.event.Seat.{Seat}
+use Rattle.tip_machine.specs.declared.connection.Awaited.{Awaited}
+use Rattle.tip_machine.specs.declared.connection.Awaited.TheVariants as awaited
 use Rattle.tip_machine.specs.declared.connection.Role.{Role}
 use Rattle.tip_machine.specs.declared.connection.Role.TheVariants.{Subordinate, Superior}
 use Rattle.tip_machine.specs.declared.transaction.Origin.{Origin}
@@ -56,7 +64,10 @@ use Rattle.tip_machine.specs.declared.transaction.Origin.TheVariants as origin
 use Rattle.tip_machine.specs.declared.transaction.PartyPlace.TheVariants.{Here, Out, Spent}
 use Rattle.tip_core.proofs.Outcomes.{acknowledged_all}
 use Rattle.tip_core.proofs.Proceeding.{dispatch_some}
-use Rattle.tip_core.specs.Wanting.{abort_for, abort_wanted, agreed_change, asked, away, back_at, command_wanted, commit_for, commit_wanted, committed_of, concluded, finished, foreseen, in_doubt_of, is_admitted, is_over, line_wanted, of_superior, outlook, owed_then, pair_at, pairs_of, prepare_for, prepare_wanted, promised_of, resume_wanted, resumed_at, settled_wanted, vote_wanted, wished, wished_in}
+use Rattle.tip_core.proofs.Responses.{hears_none, hears_some, noting_nobody, noting_part_of}
+use Rattle.tip_core.specs.Noting.{asked_of, note_of, noted, noting_as, part_of, responding}
+use Rattle.tip_core.specs.Wanting.{abort_for, abort_wanted, agreed_change, answer_wanted, asked, away, command_wanted, commit_for, commit_wanted, concluded, finished, foreseen, hears_responses, is_admitted, is_over, line_wanted, of_superior, outlook, owed_then, pair_at, pairs_of, prepare_for, prepare_wanted, promised_of, response_wanted, resume_wanted, resumed_at, settled_wanted, vote_wanted, wanted_noting, wanted_of_part, wished, wished_in}
+use Rattle.tip_core.specs.declared.noting.Note.{Note}
 
 -- The rows
 
@@ -266,6 +277,97 @@ module _ (w : Work) where
     step true = quiet c c.side
     step false = refl
 
+-- Responses
+
+-- the superior's connection is where it was, once another connection is changed
+same_superior : (key : Key) (number : ℕ) (f : Connection → Connection) (cs : List Connection) (c : Connection) → find (has_number number) cs ≡ Some c → is_superior_of key c ≡ false → is_superior_of key (f c) ≡ false → find (is_superior_of key) (changed (has_number number) f cs) ≡ find (is_superior_of key) cs
+same_superior key number f [] c is off later = absurd (none-some c is)
+same_superior key number f (x ∷ xs) c is off later = at (has_number number x) refl is (same_superior key number f xs c) where
+  at : (this : Bool) → has_number number x ≡ this → cond this (Some x) (find (has_number number) xs) ≡ Some c → (find (has_number number) xs ≡ Some c → is_superior_of key c ≡ false → is_superior_of key (f c) ≡ false → find (is_superior_of key) (changed (has_number number) f xs) ≡ find (is_superior_of key) xs) →
+      find (is_superior_of key) (cond this (f x ∷ xs) (x ∷ changed (has_number number) f xs)) ≡ cond (is_superior_of key x) (Some x) (find (is_superior_of key) xs)
+  at true so here rest =
+      let same : x ≡ c = same_Some x c here in
+      ap (λ b. cond b (Some (f x)) (find (is_superior_of key) xs)) (ap (λ d. is_superior_of key (f d)) same ∙ later) ∙ sym (ap (λ b. cond b (Some x) (find (is_superior_of key) xs)) (ap (is_superior_of key) same ∙ off))
+  at false so there rest = ap (λ found. cond (is_superior_of key x) (Some x) found) (rest there off later)
+
+kept_off : (key : Key) (at : ConnectionState) (role : Option Role) → asks_for key role ≡ false → asks_for key (role_in at role) ≡ false
+kept_off key states.Initial role off = off
+kept_off key states.Idle role off = refl
+kept_off key states.Begun role off = off
+kept_off key states.Enlisted role off = off
+kept_off key states.Prepared role off = off
+kept_off key states.Error role off = off
+
+advanced_off : (key : Key) (to : Option (ConnectionState × Turn)) (c : Connection) → is_superior_of key c ≡ false → is_superior_of key (advanced_to to c) ≡ false
+advanced_off key None c off = off
+advanced_off key (Some place) c off = kept_off key place.0 c.role off
+
+none_altered : (key : Key) (f : Transaction → Transaction) (w : Work) → transaction_of key w.state ≡ None → transaction_of key (alter key f w).state ≡ None
+none_altered key f w none = ap (find (has_key key)) (change_none (has_key key) f w.state.transactions none) ∙ none
+
+proceed_none : (key : Key) (w : Work) → transaction_of key w.state ≡ None → wanted (proceed key w) ≡ None
+unfolding proceed
+proceed_none key w none = ap (λ o. wanted (attempt_on o (λ t. proceed_in t.phase t) w)) none
+
+module _ (w : Work) (c : Connection) (there : connection_of c.number w.state ≡ Some c) where
+  owed_after : (name : CommandName) (said : ResponseName) (key : Key) (place : Key × ℕ) → part_of c.role ≡ Some place → owed_to_superior key (go_on name said c w).state ≡ owed_to_superior key w.state
+  owed_after name said key place is =
+      let off : is_superior_of key c ≡ false = at c.role is in
+      ap (option_and_then (λ d. d.owed)) (same_superior key c.number (advanced name said) w.state.connections c there off (advanced_off key (next_of name c.state said) c off)) where
+        at : (role : Option Role) → part_of role ≡ Some place → asks_for key role ≡ false
+        at None so = refl
+        at (Some (Superior other)) so = absurd (none-some place so)
+        at (Some (Subordinate other part)) so = refl
+
+  noted_wants : (n : Note) (name : CommandName) (said : ResponseName) → wanted (noting_as n c.role (go_on name said c w)) ≡ wanted_of_part n (part_of c.role) w.state
+  noted_wants n name said = step (part_of c.role) refl where
+    -- the transaction of the part
+    on : (key : Key) (part : ℕ) → part_of c.role ≡ Some (key, part) → (found : Option Transaction) → transaction_of key w.state ≡ found → wanted (proceed key (alter key (noting part (noted n)) (go_on name said c w))) ≡ option_and_then (wanted_noting n part w.state) found
+    on key part is None none = proceed_none key _ (none_altered key (noting part (noted n)) (go_on name said c w) none)
+    on key part is (Some t) found =
+        proceed_wants key _ (noting part (noted n) t) (found_changed key (noting part (noted n)) w.state.transactions t found (found_passes (has_key key) w.state.transactions t found))
+        ∙ ap (λ owed. wished owed (outlook (noting part (noted n) t))) (owed_after name said t.key (key, part) is)
+
+    step : (place : Option (Key × ℕ)) → part_of c.role ≡ place → wanted (noting_as n c.role (go_on name said c w)) ≡ wanted_of_part n place w.state
+    step None is = ap wanted (noting_nobody n c.role (go_on name said c w) is)
+    step (Some place) is = ap wanted (noting_part_of n c.role place.0 place.1 (go_on name said c w) is) ∙ on place.0 place.1 is (transaction_of place.0 w.state) refl
+
+  responding_wants : (n : Option Note) (name : CommandName) (said : AResponse) → wanted (responding n name said c w) ≡ answer_wanted n c w.state
+  responding_wants None name said = refl
+  responding_wants (Some n) name said = noted_wants n name (response_name said)
+
+  unasked_nothing : (a : Option Awaited) (said : AResponse) → asked_of a ≡ None → note_of a said ≡ None
+  unasked_nothing None said is = refl
+  unasked_nothing (Some (awaited.Identify purpose)) said is = refl
+  unasked_nothing (Some awaited.Push) said is = refl
+  unasked_nothing (Some awaited.Pull) said is = refl
+  unasked_nothing (Some awaited.Prepare) said is = absurd (cc)
+  unasked_nothing (Some awaited.Commit) said is = absurd (cc)
+  unasked_nothing (Some awaited.Abort) said is = absurd (cc)
+  unasked_nothing (Some (awaited.Query key)) said is = refl
+  unasked_nothing (Some awaited.Reconnect) said is = refl
+
+  said_wants : (said : AResponse) → wanted (hear today Primary (Response said) c w) ≡ answer_wanted (note_of c.awaited said) c w.state
+  said_wants said = step (asked_of c.awaited) refl where
+    step : (asked : Option CommandName) → asked_of c.awaited ≡ asked → wanted (hear today Primary (Response said) c w) ≡ answer_wanted (note_of c.awaited said) c w.state
+    step None is = ap wanted (hears_none said c w is) ∙ sym (ap (λ n. answer_wanted n c w.state) (unasked_nothing c.awaited said is))
+    step (Some name) is = ap wanted (hears_some said c w name is) ∙ responding_wants (note_of c.awaited said) name said
+
+  heard_wants : (side : Side) → c.side ≡ side → (said : AResponse) → wanted (hear today side (Response said) c w) ≡ cond (not (is_secondary side)) (answer_wanted (note_of c.awaited said) c w.state) None
+  heard_wants Primary is said = said_wants said
+  heard_wants Secondary is said = refl
+
+  taken_response : (said : AResponse) → wanted (cond (may_take c) (hear today c.side (Response said) c w) (Attempt.Done (refuse Busy w))) ≡ response_wanted (Some c) said w.state
+  taken_response said = step (may_take c) where
+    step : (b : Bool) → wanted (cond b (hear today c.side (Response said) c w) (Attempt.Done (refuse Busy w))) ≡ cond (b && not (is_secondary c.side)) (answer_wanted (note_of c.awaited said) c w.state) None
+    step true = heard_wants c.side refl said
+    step false = refl
+
+response_wants : (w : Work) (found : Option Connection) → ((c : Connection) → found ≡ Some c → connection_of c.number w.state ≡ Some c) → (said : AResponse) → wanted (line today found (Response said) w) ≡ response_wanted found said w.state
+unfolding line
+response_wants w None there said = refl
+response_wants w (Some c) there said = taken_response w c (there c refl) said
+
 -- Parties that come back
 
 -- the first transaction of an identifier is the first of its key
@@ -347,10 +449,7 @@ attempt_wants : (event : Event) (w : Work) → wanted (attempt today event w) �
 attempt_wants (Open boxes) w = refl
 attempt_wants (Dial address purpose boxes) w = refl
 attempt_wants (Line seat (Command line)) w = line_wants w (seated seat w.state) (seated_there seat w.state) line
-attempt_wants (Line seat (Response response)) w = other_line w (seated seat w.state) (Response response) (λ c. quiet c) where
-  quiet : (c : Connection) (side : Side) → wanted (hear today side (Response response) c w) ≡ None
-  quiet c Primary = refl
-  quiet c Secondary = refl
+attempt_wants (Line seat (Response said)) w = response_wants w (seated seat w.state) (seated_there seat w.state) said
 attempt_wants (Line seat Malformed) w = other_line w (seated seat w.state) Malformed (λ c side. quiet_line side c w)
 attempt_wants (Voted party) w = voted_wants party w (owner party w.state) refl
 attempt_wants (Settled party) w = settled_all party w (owner party w.state) refl
@@ -379,6 +478,18 @@ module _ (state : State) where
   line_before None line = refl
   line_before (Some c) line = ap (λ change. cond (may_take c && is_admitted (admit_of c.state c.side (name_of line))) change None) (command_before line c)
 
+  part_before : (n : Note) (place : Option (Key × ℕ)) → wanted_of_part n place (entered state).state ≡ wanted_of_part n place state
+  part_before n None = refl
+  part_before n (Some place) = refl
+
+  answer_before : (n : Option Note) (c : Connection) → answer_wanted n c (entered state).state ≡ answer_wanted n c state
+  answer_before None c = refl
+  answer_before (Some n) c = part_before n (part_of c.role)
+
+  response_before : (found : Option Connection) (said : AResponse) → response_wanted found said (entered state).state ≡ response_wanted found said state
+  response_before None said = refl
+  response_before (Some c) said = ap (λ change. cond (hears_responses c) change None) (answer_before (note_of c.awaited said) c)
+
   vote_before : (place : PartyPlace) (party : PartyNotes) (t : Transaction) → vote_wanted place party t (entered state).state ≡ vote_wanted place party t state
   vote_before (Here other) party t = refl
   vote_before (Out errand.Idle) party t = refl
@@ -399,7 +510,7 @@ module _ (state : State) where
   seen_before (Open boxes) = refl
   seen_before (Dial address purpose boxes) = refl
   seen_before (Line seat (Command line)) = line_before (seated seat state) line
-  seen_before (Line seat (Response response)) = refl
+  seen_before (Line seat (Response said)) = response_before (seated seat state) said
   seen_before (Line seat Malformed) = refl
   seen_before (Voted party) = by (owner party state) where
     by : (found : Option Transaction) → option_and_then (λ t. vote_wanted t.place party t (entered state).state) found ≡ option_and_then (λ t. vote_wanted t.place party t state) found

@@ -1,12 +1,11 @@
 -- What an event comes to, by its kind.
-use Rattle.std.proofs.Common.{◌≡◌, ◌≢◌, ◌<◌, ◌≤◌, ◌+◌, ℕ, List, Bool, true, false, cond, Option, Some, None, length, refl, ap, arith, sym, subst, ◌∙◌}
-use Rattle.std.specs.Prelude.{find, is_some, nat_lt}
+use Rattle.std.proofs.Common.{◌≡◌, ◌≢◌, ◌<◌, ◌+◌, ℕ, List, Bool, true, false, cond, Option, Some, None, length, refl, ap, arith, sym, subst, ◌∙◌}
+use Rattle.std.specs.Prelude.{find, is_some}
 use Rattle.std.specs.Option.{option_and_then, option_map_or}
 use Rattle.std.proofs.lemmas.Bool.Decides.{nat_tests}
-use Rattle.tip_branch.specs.Notes.{PartyNotes}
 use Rattle.tip_branch.specs.declared.branch.Badge.{Badge}
 use Rattle.tip_conn.specs.declared.state.Side.{Side}
-use Rattle.tip_conn.specs.declared.state.Side.TheVariants.{Primary, Secondary}
+use Rattle.tip_conn.specs.declared.state.Side.TheVariants.{Primary}
 use Rattle.tip_line.specs.declared.command.Command.{Command as ACommand}
 use Rattle.tip_line.specs.declared.command.Command.TheVariants as commands
 use Rattle.tip_line.specs.declared.command.CommandName.TheVariants as name
@@ -19,12 +18,12 @@ use Rattle.tip_machine.specs.Connections.{has_number, may_take}
 use Rattle.tip_machine.specs.Counts.{HasCounts}
 use Rattle.tip_machine.specs.Failing.{closed, wrong}
 use Rattle.tip_machine.specs.Given.{are_numbered}
-use Rattle.tip_machine.specs.Requests.{ask_pull, ask_push, dial, hand_back, hear, line, owner}
+use Rattle.tip_machine.specs.Requests.{ask_pull, ask_push, dial, hand_back, hear, line}
 use Rattle.tip_machine.specs.Served.{today}
-use Rattle.tip_machine.specs.States.{Attempt, State, Work, connection_of, has_room, seated}
+use Rattle.tip_machine.specs.States.{Attempt, State, connection_of, has_room, seated}
 use Rattle.tip_machine.specs.Steps.{attempt, chosen, entered, frozen, is_open}
 use Rattle.tip_machine.specs.Transactions.{next_key}
-use Rattle.tip_machine.specs.Types.{Connection, Event, Transaction}
+use Rattle.tip_machine.specs.Types.{Connection, Event}
 use Rattle.tip_machine.specs.declared.connection.Purpose.{Purpose}
 use Rattle.tip_machine.specs.declared.connection.Role.{Role}
 use Rattle.tip_machine.specs.declared.connection.Role.TheVariants.{Subordinate, Superior}
@@ -34,13 +33,12 @@ use Rattle.tip_machine.specs.declared.event.Heard.TheVariants.{Command}
 use Rattle.tip_machine.specs.declared.event.Outcome.{Outcome}
 use Rattle.tip_machine.specs.declared.event.Seat.{Seat}
 use Rattle.tip_machine.proofs.Counting.{entered_below}
-use Rattle.tip_machine.proofs.Walks.{found-number}
 use Rattle.tip_core.proofs.Openings.{first_found}
 use Rattle.tip_core.proofs.Works.{then}
 use Rattle.tip_core.specs.Growing.{CanGrow}
-use Rattle.tip_core.specs.Needs.{HasNeeds, IsReady, begins, begins_on, happened, joined, lines_needed, peer_needed, room_needed, room_on, transactions_for}
+use Rattle.tip_core.specs.Needs.{HasNeeds, IsReady, begins, begins_on, happened, joined, lines_needed, peer_needed, room_on, transactions_for}
 use Rattle.tip_core.specs.Rooms.{room_for}
-use Rattle.tip_core.specs.Works.{CanMake, Does, Held, IsIdle, is_named, MayMake, lines_as, lines_at, lines_for, lines_of, work_of}
+use Rattle.tip_core.specs.Works.{CanMake, Does, Held, is_named, MayMake, lines_as, lines_at, work_of}
 
 -- where no connection is dialled, there is none to ask on
 module _ (a b : Held) (seat : Seat) where

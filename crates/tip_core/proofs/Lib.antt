@@ -10,6 +10,8 @@ pub mod Commanding
 pub mod Coming
 pub mod Foreseeing
 pub mod Outlooks
+pub mod Subordinates
+pub mod Responses
 pub mod Needing
 pub mod Happening
 pub mod Turning

@@ -10,7 +10,7 @@ use Rattle.std.proofs.lemmas.Slice.Eq.{bytes_eq-Decides}
 use Rattle.tip_machine.specs.Heads.{have_names, is_other, starting}
 use Rattle.tip_machine.specs.Served.{today}
 use Rattle.tip_machine.specs.States.{State, started}
-use Rattle.tip_machine.specs.Types.{Answer, Connection, Event}
+use Rattle.tip_machine.specs.Types.{Answer, Event}
 use Rattle.tip_machine.specs.declared.event.Outcome.{Outcome}
 use Rattle.tip_machine.specs.declared.head.Start.{Start}
 use Rattle.tip_machine.proofs.Stepping.{step-named}

@@ -1,6 +1,6 @@
 -- What an event needs is counted on the tables.
 use Rattle.std.proofs.Common.{◌≡◌, ◌<◌, ◌+◌, ℕ, List, [], ◌∷◌, Bool, true, false, cond, Option, Some, None, inl, inr, map, refl, ap, arith, subst, sym, ◌∙◌}
-use Rattle.std.specs.Prelude.{find, nat_lt, option_map}
+use Rattle.std.specs.Prelude.{find, option_map}
 use Rattle.std.specs.Option.{option_and_then, option_map_or}
 use Rattle.std.proofs.lemmas.Bool.{cases_eq}
 use Rattle.std.proofs.lemmas.Bool.Decides.{nat_tests}
@@ -14,7 +14,7 @@ use Rattle.tip_table.proofs.Standing.{found as found_first}
 use Rattle.tip_machine.specs.Connections.{has_number}
 use Rattle.tip_machine.specs.Counts.{HasCounts}
 use Rattle.tip_machine.specs.Requests.{owner}
-use Rattle.tip_machine.specs.States.{State, connection_of, has_room, transaction_of}
+use Rattle.tip_machine.specs.States.{connection_of, has_room, transaction_of}
 use Rattle.tip_machine.specs.Steps.{is_open}
 use Rattle.tip_machine.specs.Transactions.{has_key, next_key}
 use Rattle.tip_machine.specs.Types.{Connection, Event, Transaction, seen}

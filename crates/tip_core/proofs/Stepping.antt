@@ -1,5 +1,5 @@
 -- From the shared tables to the realms that they stand for.
-use Rattle.std.proofs.Common.{◌≡◌, ◌≢◌, ℕ, ◌<◌, ◌≤◌, zero, suc, Bool, true, false, cond, List, [], ◌∷◌, length, map, Option, Some, None, refl, ap, arith, ◌∙◌, sym, subst, inl, inr}
+use Rattle.std.proofs.Common.{◌≡◌, ℕ, ◌<◌, ◌≤◌, zero, suc, Bool, true, false, cond, List, [], ◌∷◌, length, map, Option, Some, None, refl, ap, arith, ◌∙◌, sym, subst, inl, inr}
 use Rattle.std.specs.Prelude.{slice_get, slice_index_or, option_map}
 use Rattle.std.specs.List.{All}
 use Rattle.std.proofs.lemmas.Option.{slice_get_past, slice_get-get_or, slice_get-map, same_Some, none-some}
@@ -10,7 +10,7 @@ use Rattle.std.proofs.lemmas.List.{length-map}
 use Rattle.std.proofs.lemmas.List.Elements.{All-head, All-nil, All-tail}
 use Rattle.tip_machine.specs.Counts.{HasCounts, IsBelow}
 use Rattle.tip_machine.specs.Heads.{starting}
-use Rattle.tip_machine.specs.Order.{in_turn, ordered, turn}
+use Rattle.tip_machine.specs.Order.{in_turn, ordered}
 use Rattle.tip_machine.specs.Runs.{unstored_outcome}
 use Rattle.tip_machine.specs.Served.{today}
 use Rattle.tip_machine.specs.States.{Attempt, State, started}
@@ -22,16 +22,16 @@ use Rattle.tip_machine.specs.declared.event.Outcome.{Outcome}
 use Rattle.tip_machine.specs.declared.event.Outcome.TheVariants.{NoChange, Refused}
 use Rattle.tip_machine.specs.declared.head.Head.{Head}
 use Rattle.tip_machine.specs.declared.head.Start.{Start}
-use Rattle.tip_machine.proofs.Counting.{counts_start, counts_stay}
+use Rattle.tip_machine.proofs.Counting.{counts_stay}
 use Rattle.tip_machine.proofs.Identifiers.{none_numbered}
-use Rattle.tip_table.specs.Kept.{Kept, of}
+use Rattle.tip_table.specs.Kept.{of}
 use Rattle.tip_core.proofs.Turning.{in_turn_of_state}
 use Rattle.tip_core.specs.Hosted.{HasEpoch, Hosted, IsRoomFor, Steps, realm}
 use Rattle.tip_core.specs.Makings.{Made}
 use Rattle.tip_core.specs.Needs.{Granted, HasNeeds, Suits, happened}
 use Rattle.tip_core.specs.Turns.{noted, turn_in}
 use Rattle.tip_core.specs.declared.turns.Turn.{Turn}
-use Rattle.tip_core.specs.Works.{Does, HaveCounts, HeldTransaction, Realms, no_head, state_in, working}
+use Rattle.tip_core.specs.Works.{Does, HaveCounts, Realms, no_head, state_in, working}
 
 -- what the tables stand for, with room to note so many turns
 abbrev pub hosted : Realms → ℕ → Hosted

@@ -4,6 +4,8 @@ pub mod Turns
 pub mod Works
 pub mod Growing
 pub mod Reacting
+pub mod Noting
+pub mod Deciding
 pub mod Wanting
 pub mod Needs
 pub mod Hosted

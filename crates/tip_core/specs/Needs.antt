@@ -1,10 +1,8 @@
 -- What an event needs, made before it happens, and what it comes to where it has that.
 use Rattle.std.specs.Prelude.{ℕ, ◌≡◌, ◌+◌, ◌<◌, ◌≤◌, Bool, true, false, List, Option, Some, None, is_some, length, if◌then◌else◌}
 use Rattle.std.specs.Option.{option_and_then}
-use Rattle.tip_line.specs.declared.command.Command.{Command as ACommand}
 use Rattle.tip_line.specs.declared.command.Command.TheVariants as commands
 use Rattle.tip_table.specs.Kept.{of}
-use Rattle.tip_machine.specs.Connections.{has_number}
 use Rattle.tip_machine.specs.Given.{are_numbered}
 use Rattle.tip_machine.specs.Requests.{owner}
 use Rattle.tip_machine.specs.Served.{today}

@@ -1,6 +1,6 @@
 -- The change of its row that an event wants, by reading alone (RFC 2371, sections 10 and 13): how the transaction will be once
 -- the event is noted, and what that wants.
-use Rattle.std.specs.Prelude.{ℕ, ◌==◌, ◌&&◌, Bool, true, false, List, [], Option, Some, None, find, drop, filter, if◌then◌else◌}
+use Rattle.std.specs.Prelude.{ℕ, ◌==◌, ◌&&◌, Bool, true, false, not, List, Option, Some, None, find, drop, filter, if◌then◌else◌}
 use Rattle.std.specs.List.{flat_map, list_all, list_any}
 use Rattle.std.specs.Option.{option_and_then}
 use Rattle.tip_branch.specs.Notes.{PartyNotes}
@@ -15,6 +15,7 @@ use Rattle.tip_line.specs.declared.command.Command.{Command as ACommand}
 use Rattle.tip_line.specs.declared.command.Command.TheVariants as commands
 use Rattle.tip_line.specs.declared.command.CommandName.{CommandName}
 use Rattle.tip_line.specs.declared.command.CommandName.TheVariants as command
+use Rattle.tip_line.specs.declared.response.Response.{Response}
 use Rattle.tip_rows.specs.Keys.{Key}
 use Rattle.tip_rows.specs.declared.row.Row.{Row}
 use Rattle.tip_rows.specs.declared.row.Row.TheVariants as row
@@ -25,19 +26,21 @@ use Rattle.tip_txn.specs.declared.answer.Phase.{Phase}
 use Rattle.tip_txn.specs.declared.answer.Phase.TheVariants.{Active, Asking, Prepared, Committed, Aborted}
 use Rattle.tip_txn.specs.declared.part.Participant.{Participant}
 use Rattle.tip_machine.specs.Commands.{superior_role}
-use Rattle.tip_machine.specs.Connections.{has_number, is_superior_of, may_take}
+use Rattle.tip_machine.specs.Connections.{has_number, is_secondary, is_superior_of, may_take}
 use Rattle.tip_machine.specs.Proceeding.{owed_to_superior}
 use Rattle.tip_machine.specs.Requests.{owner}
 use Rattle.tip_machine.specs.States.{State, identified_by, seated, transaction_of}
 use Rattle.tip_machine.specs.Transactions.{decision_of, has_ready, is_committed, is_spent, members_at, noting, pair_of, party_answer, standing_at}
-use Rattle.tip_machine.specs.Types.{Connection, Event, PartyPlace, Transaction, seen}
+use Rattle.tip_machine.specs.Types.{Connection, Event, PartyPlace, Transaction}
 use Rattle.tip_machine.specs.declared.event.Change.{Change}
 use Rattle.tip_machine.specs.declared.event.Change.TheVariants.{Put, Remove}
 use Rattle.tip_machine.specs.declared.event.Event.TheVariants.{Line, Resume, Settled, Voted}
-use Rattle.tip_machine.specs.declared.event.Heard.TheVariants.{Command}
+use Rattle.tip_machine.specs.declared.event.Heard.TheVariants.{Command, Response as AResponse}
 use Rattle.tip_machine.specs.declared.transaction.Origin.{Origin}
 use Rattle.tip_machine.specs.declared.transaction.Origin.TheVariants as origin
 use Rattle.tip_machine.specs.declared.transaction.PartyPlace.TheVariants.{Here, Out, Spent}
+use Rattle.tip_core.specs.Noting.{note_of, noted, part_of}
+use Rattle.tip_core.specs.declared.noting.Note.{Note}
 
 -- what of a transaction says which change it wants
 pub record Outlook : Type 0 where
@@ -180,6 +183,31 @@ line_wanted (Some connection) command state =
     then command_wanted command connection state
     else None
 
+-- Responses
+
+-- what a transaction wants once this is noted of a part of it
+abbrev pub wanted_noting : Note → ℕ → State → Transaction → Option Change
+wanted_noting note part state t = wished (owed_to_superior t.key state) (outlook (noting part (noted note) t))
+
+-- the same of the transaction of this part
+abbrev pub wanted_of_part : Note → Option (Key × ℕ) → State → Option Change
+wanted_of_part note None state = None
+wanted_of_part note (Some place) state = option_and_then (wanted_noting note place.1 state) (transaction_of place.0 state)
+
+-- of the part whose connection it is, if the response is one to what the part was asked
+abbrev pub answer_wanted : Option Note → Connection → State → Option Change
+answer_wanted None connection state = None
+answer_wanted (Some note) connection state = wanted_of_part note (part_of connection.role) state
+
+-- a response is taken from the secondary, where one is awaited
+abbrev pub hears_responses : Connection → Bool
+hears_responses connection = may_take connection && not (is_secondary connection.side)
+
+-- what a response wants that comes on a connection
+abbrev pub response_wanted : Option Connection → Response → State → Option Change
+response_wanted None response state = None
+response_wanted (Some connection) response state = if hears_responses connection then answer_wanted (note_of connection.awaited response) connection state else None
+
 -- Parties that come back
 
 abbrev pub vote_wanted : PartyPlace → PartyNotes → Transaction → State → Option Change
@@ -206,6 +234,7 @@ resume_wanted t = if is_committed t.phase then resumed_at t.place t else None
 -- WHAT AN EVENT WANTS that has its entry: a law says that it is the change that its rule asks for
 abbrev pub foreseen : Event → State → Option Change
 foreseen (Line seat (Command command)) state = line_wanted (seated seat state) command state
+foreseen (Line seat (AResponse response)) state = response_wanted (seated seat state) response state
 foreseen (Voted party) state = option_and_then (λ t. vote_wanted t.place party t state) (owner party state)
 foreseen (Settled party) state = option_and_then (λ t. settled_wanted t.place party t state) (owner party state)
 foreseen (Resume id) state = option_and_then resume_wanted (identified_by id state)

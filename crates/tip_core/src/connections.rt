@@ -25,7 +25,13 @@ impl Work<Connection, Transaction, Making> {
     }
 
     /// A connection goes on by the connection table, now that this command was answered so.
-    fn go(&mut self, number: u32, place: usize, command: CommandName, response: ResponseName)
+    pub(crate) fn go(
+        &mut self,
+        number: u32,
+        place: usize,
+        command: CommandName,
+        response: ResponseName,
+    )
         requires { StandsAt self.old.connections self.old.realm (has_number number) place }
         ensures { Does self.old self.new (change number (advanced command response) (work_of self.old)) }
     {

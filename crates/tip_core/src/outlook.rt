@@ -7,9 +7,12 @@ ghost use Rattle.tip_txn.specs.Parts.{answered};
 ghost use Rattle.tip_machine.specs.Types.{seen};
 ghost use Rattle.tip_machine.specs.declared.event.Change.TheVariants.{Put};
 ghost use Rattle.tip_machine.specs.declared.transaction.PartyPlace.TheVariants.{Here, Spent};
+ghost use Rattle.tip_core.specs.Noting.{noted};
 ghost use Rattle.tip_core.specs.Wanting.{agreed_change, asked, committed_of, concluded, finished, in_doubt_of, is_over, outlook, pairs_of, promised_of, wished};
 
-use crate::rows::{pairs, promised};
+use crate::noting::Note;
+use crate::others::{Others, decide_noting};
+use crate::rows::promised;
 use crate::work::is_spent;
 use std::alloc::{AllocError, Global};
 use std::marker::Model;
@@ -17,7 +20,7 @@ use tip_branch::Member;
 use tip_line::{Address, CommandName, Id};
 use tip_machine::{Change, Origin, PartyPlace, Transaction};
 use tip_rows::{Branches, Row, Subordinates};
-use tip_txn::{Ballot, Decision, Phase};
+use tip_txn::{Ballot, Decision, Part, Phase};
 
 /// A transaction, and what will be otherwise once the event at hand is noted.
 #[derive(Drop)]
@@ -30,10 +33,10 @@ pub struct Outlook<'a> {
     members: &'a [Member],
     /// Whether its party will be let go.
     spent: bool,
+    others: Others<'a>,
 }
 
 impl<'a> Model for Outlook<'a> {
-    ghost use Rattle.std.specs.Prelude.{drop};
     ghost use Rattle.tip_core.specs.Wanting.{Outlook};
 
     ghost Value = { Outlook };
@@ -46,7 +49,7 @@ impl<'a> Model for Outlook<'a> {
       decision = o.decision;
       members = o.members.now;
       spent = o.spent;
-      others = drop 1 o.transaction.now.txn.parts;
+      others = o.others;
     } };
 }
 
@@ -62,6 +65,7 @@ impl<'a> Outlook<'a> {
             decision: transaction.txn.decide(),
             members: members_at(&transaction.place),
             spent: is_spent(&transaction.place),
+            others: Others::of(&transaction.txn),
         }
     }
 
@@ -76,6 +80,7 @@ impl<'a> Outlook<'a> {
             decision: transaction.txn.decide(),
             members: &[],
             spent: is_spent(&transaction.place),
+            others: Others::of(&transaction.txn),
         }
     }
 
@@ -90,6 +95,7 @@ impl<'a> Outlook<'a> {
             decision: transaction.txn.decide_with(answer),
             members,
             spent: false,
+            others: Others::of(&transaction.txn),
         }
     }
 
@@ -104,6 +110,7 @@ impl<'a> Outlook<'a> {
             decision: transaction.txn.decide(),
             members,
             spent: false,
+            others: Others::of(&transaction.txn),
         }
     }
 
@@ -118,6 +125,21 @@ impl<'a> Outlook<'a> {
             decision: transaction.txn.decide(),
             members: &[],
             spent: true,
+            others: Others::of(&transaction.txn),
+        }
+    }
+
+    /// Once this is noted of a part.
+    pub fn noted(transaction: &'a Transaction, part: Part, note: Note) -> Outlook<'a>
+        ensures { result ≡ outlook (noting part (noted note) (seen transaction.now)) }
+    {
+        Outlook {
+            transaction,
+            phase: transaction.txn.phase(),
+            decision: decide_noting(&transaction.txn, part, note),
+            members: members_at(&transaction.place),
+            spent: is_spent(&transaction.place),
+            others: Others::noting(&transaction.txn, part, note),
         }
     }
 
@@ -234,7 +256,7 @@ impl<'a> Outlook<'a> {
     fn pairs(&self, alloc: Global) -> Result<Subordinates, AllocError>
         ensures { IfOk result (λ pairs. pairs ≡ pairs_of self.now.others) }
     {
-        pairs(alloc, self.transaction.txn.others())
+        self.others.pairs(alloc)
     }
 
     /// The row is removed once all has been told that was to be told.
@@ -253,7 +275,7 @@ impl<'a> Outlook<'a> {
     fn is_over(&self) -> bool
         ensures { result ≡ is_over self.now }
     {
-        self.spent && self.transaction.txn.is_acknowledged()
+        self.spent && self.others.are_settled()
     }
 }
 

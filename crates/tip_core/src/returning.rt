@@ -214,7 +214,7 @@ fn agree(members: &[Member]) -> bool
 }
 
 /// Whether an answer refuses.
-fn refuses(answer: Option<Ballot>) -> bool
+pub(crate) fn refuses(answer: Option<Ballot>) -> bool
     ensures { result ≡ refuses answer }
 {
     matches!(answer, Some(Ballot::No | Ballot::Lost))

@@ -2,14 +2,11 @@
 ghost use Rattle.std.specs.Prelude.{◌≡◌, ◌++◌, ◌==◌, ◌&&◌, [], ◌∷◌, filter, IfOk, OnOk};
 ghost use Rattle.std.specs.List.{list_any};
 ghost use Rattle.tip_branch.specs.Members.{is_ready};
-ghost use Rattle.tip_core.specs.Wanting.{has_promised, pairs_of};
+ghost use Rattle.tip_core.specs.Wanting.{has_promised};
 
-use crate::returning::is_yes;
 use std::alloc::{AllocError, Global};
 use tip_branch::Member;
-use tip_line::{Address, Id};
-use tip_rows::{Branches, Label, Subordinates};
-use tip_txn::Participant;
+use tip_rows::{Branches, Label};
 
 /// The branches whose members promised to commit.
 #[tactic(auto, using(crate::proofs::Outlooks::still_branches))]
@@ -64,28 +61,4 @@ fn has_promised(members: &[Member], number: u8) -> bool
     members
         .iter()
         .any(|member| member.is_ready() && member.number == number)
-}
-
-/// The subordinates that said yes, of those that gave an identifier.
-#[tactic(auto, using(crate::proofs::Outlooks::filtering))]
-pub(crate) fn pairs(alloc: Global, others: &[Participant]) -> Result<Subordinates, AllocError>
-    ensures { IfOk result (λ pairs. pairs ≡ pairs_of others.now) }
-{
-    let mut pairs = Vec::new(alloc);
-    for other in others {
-        add_pair(&mut pairs, other)?;
-    }
-    Ok(Subordinates::new(pairs))
-}
-
-/// Adds a subordinate, if it said yes and gave an identifier.
-fn add_pair(pairs: &mut Vec<(Address, Id)>, other: &Participant) -> Result<(), AllocError>
-    ensures { OnOk result (pairs.new.items ≡ pairs.old.items ++ pairs_of (other.now ∷ [])) }
-{
-    if let (Some(address), Some(id)) = (&other.address, &other.id)
-        && is_yes(other.answer)
-    {
-        pairs.push((address.copy()?, id.copy()?))?;
-    }
-    Ok(())
 }

@@ -116,7 +116,7 @@ impl Work<Connection, Transaction, Making> {
         }
     }
 
-    /// As its primary we hear ERROR alone, also where a connection turned round at PULL.
+    /// As its primary we wait for a response; ERROR is a command too.
     fn hear_as_primary(&mut self, number: u32, place: usize, heard: Heard)
         requires stands { StandsAt self.old.connections self.old.realm (has_number number) place }
         requires lines { lines_at number (work_of self.old).state + 2 ≤ self.old.making.free }
@@ -125,7 +125,8 @@ impl Work<Connection, Transaction, Making> {
     {
         match heard {
             Heard::Command(command) => self.name_as_primary(number, place, command.name()),
-            Heard::Response(_) | Heard::Malformed => self.reject(number, place),
+            Heard::Response(response) => self.respond(number, place, response),
+            Heard::Malformed => self.reject(number, place),
         }
     }
 

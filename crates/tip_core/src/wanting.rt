@@ -1,5 +1,6 @@
 //! The change of its row that an event wants, by reading alone, so that its outcome can be had before the event happens.
 ghost use Rattle.std.specs.Prelude.{◌≡◌, ◌<◌, Some, length, IfOk};
+ghost use Rattle.std.specs.Option.{option_and_then};
 ghost use Rattle.tip_branch.specs.Notes.{PartyNotes};
 ghost use Rattle.tip_conn.specs.Table.{admit_of};
 ghost use Rattle.tip_line.specs.Command.{name_of};
@@ -12,22 +13,24 @@ ghost use Rattle.tip_machine.specs.Transactions.{noting, standing_at};
 ghost use Rattle.tip_machine.specs.Types.{seen, Transaction as ATransaction};
 ghost use Rattle.tip_machine.specs.declared.transaction.PartyPlace.TheVariants.{Here, Spent};
 ghost use Rattle.tip_machine.specs.declared.event.Event.TheVariants.{Line, Resume, Settled, Voted};
-ghost use Rattle.tip_core.specs.Wanting.{abort_for, asked, command_wanted, foreseen, is_admitted, line_wanted, of_superior, outlook, owed_then, resume_wanted, wished};
+ghost use Rattle.tip_core.specs.Noting.{part_of};
+ghost use Rattle.tip_core.specs.Wanting.{abort_for, asked, command_wanted, foreseen, hears_responses, is_admitted, line_wanted, of_superior, outlook, owed_then, response_wanted, resume_wanted, wanted_noting, wanted_of_part, wished};
 ghost use Rattle.tip_core.specs.Works.{is_keyed, work_of};
 
 use crate::commands::superior_role;
 use crate::making::Making;
+use crate::noting::Note;
 use crate::outlook::Outlook;
 use crate::query::SuperiorOf;
 use crate::returning::{answer_of, is_aborting, is_committed, is_committing, is_voting};
 use crate::work::{Work, has_ready};
 use std::alloc::{AllocError, Global};
 use tip_branch::{HeldParty, Member};
-use tip_conn::{Admit, admit};
-use tip_line::{Command, CommandName, Id};
-use tip_machine::{Change, Connection, Event, Heard, PartyPlace, Seat, Transaction};
+use tip_conn::{Admit, Side, admit};
+use tip_line::{Command, CommandName, Id, Response};
+use tip_machine::{Change, Connection, Event, Heard, PartyPlace, Role, Seat, Transaction};
 use tip_rows::Key;
-use tip_txn::{Ballot, Phase};
+use tip_txn::{Ballot, Part, Phase};
 
 impl Work<Connection, Transaction, Making> {
     /// What the event wants, once it has its entry.
@@ -48,7 +51,7 @@ impl Work<Connection, Transaction, Making> {
         }
     }
 
-    /// What a line wants: a command, where it may be taken and is valid.
+    /// What a line wants: a command, or a response, where it may be taken and is valid.
     fn wanted_by_line(
         &self,
         alloc: Global,
@@ -60,7 +63,8 @@ impl Work<Connection, Transaction, Making> {
     {
         match heard {
             Heard::Command(command) => self.wanted_on(alloc, seat, command),
-            Heard::Response(_) | Heard::Malformed => Ok(None),
+            Heard::Response(response) => self.wanted_by_response(alloc, seat, response),
+            Heard::Malformed => Ok(None),
         }
     }
 
@@ -192,6 +196,78 @@ impl Work<Connection, Transaction, Making> {
         }
     }
 
+    /// What a response wants that comes for a connection: the row that all agree on, or that it is removed once all have
+    /// acknowledged.
+    fn wanted_by_response(
+        &self,
+        alloc: Global,
+        seat: Seat,
+        response: &Response,
+    ) -> Result<Option<Change>, AllocError>
+        requires { self.now.realm < length self.now.heads.items }
+        ensures { IfOk result (λ change. change ≡ response_wanted (seated seat (work_of self.now).state) response.now (work_of self.now).state) }
+    {
+        let Some(place) = self.seated(seat) else {
+            return Ok(None);
+        };
+        let connection = self.connection(seat.number, place);
+        if !hears_responses(connection) {
+            return Ok(None);
+        }
+        match Note::of(&connection.awaited, response) {
+            Some(note) => self.wanted_once_noted(alloc, connection.role, note),
+            None => Ok(None),
+        }
+    }
+
+    /// What the transaction wants whose part's connection one of this role is, once this is noted of the part.
+    fn wanted_once_noted(
+        &self,
+        alloc: Global,
+        role: Option<Role>,
+        note: Note,
+    ) -> Result<Option<Change>, AllocError>
+        ensures { IfOk result (λ change. change ≡ wanted_of_part note (part_of role) (work_of self.now).state) }
+    {
+        match role {
+            Some(role) => self.wanted_on_role(alloc, role, note),
+            None => Ok(None),
+        }
+    }
+
+    /// The same, of a connection that is on a transaction.
+    fn wanted_on_role(
+        &self,
+        alloc: Global,
+        role: Role,
+        note: Note,
+    ) -> Result<Option<Change>, AllocError>
+        ensures { IfOk result (λ change. change ≡ wanted_of_part note (part_of (Some role)) (work_of self.now).state) }
+    {
+        match role {
+            Role::Subordinate { key, part } => self.wanted_noting(alloc, key, part, note),
+            Role::Superior(_) => Ok(None),
+        }
+    }
+
+    /// What a transaction wants once this is noted of a part of it.
+    fn wanted_noting(
+        &self,
+        alloc: Global,
+        key: Key,
+        part: Part,
+        note: Note,
+    ) -> Result<Option<Change>, AllocError>
+        ensures { IfOk result (λ change. change ≡ option_and_then (wanted_noting note part (work_of self.now).state) (transaction_of key (work_of self.now).state)) }
+    {
+        let Some(place) = self.transaction(key) else {
+            return Ok(None);
+        };
+        let transaction = self.at(key, place);
+        let owed = self.owed_to_superior(transaction.key);
+        Outlook::noted(transaction, part, note).wished(alloc, owed)
+    }
+
     /// What a vote wants: the row that all agree on.
     #[tactic(auto, using(crate::proofs::Outlooks::voting_ahead))]
     fn wanted_by_vote(&self, alloc: Global, party: &HeldParty) -> Result<Option<Change>, AllocError>
@@ -304,6 +380,13 @@ fn wanted_again(transaction: &Transaction) -> Option<Change>
         PartyPlace::Spent => Outlook::of(transaction).finished(),
         PartyPlace::Here(_) | PartyPlace::Out(_) => None,
     }
+}
+
+/// Whether a response is taken on a connection: where we are its primary, and await one.
+fn hears_responses(connection: &Connection) -> bool
+    ensures { result ≡ hears_responses connection.now }
+{
+    connection.may_take() && connection.side == Side::Primary
 }
 
 /// Whether a command is valid on a connection.

@@ -1,7 +1,7 @@
 //! What an event has done so far: the tables of all realms, and the answer in the making for the event of one of them.
 ghost use Rattle.std.specs.Prelude.{◌≡◌, ◌≢◌, ◌↔◌, ℕ, ◌+◌, ◌<◌, ◌≤◌, [], ◌∷◌, ◌++◌, length, map, None, Some, IfSome, IsSome, is_some};
 ghost use Rattle.std.specs.List.{find, list_any};
-ghost use Rattle.tip_txn.specs.Parts.{answer_at, answered, changed_at};
+ghost use Rattle.tip_txn.specs.Parts.{acknowledged, answer_at, answered, changed_at};
 ghost use Rattle.tip_table.specs.Kept.{StandsAt, item_at};
 ghost use Rattle.tip_machine.specs.Changes.{alter, end, tell};
 ghost use Rattle.tip_machine.specs.Connections.{is_on};
@@ -82,6 +82,15 @@ impl Work<Connection, Transaction, Making> {
     {
         let transaction = self.transactions.item_mut(place);
         answer_part(&mut transaction.txn, part, answer);
+    }
+
+    /// A part has acknowledged the commit, where there is such a part.
+    pub(crate) fn acknowledge(&mut self, key: Key, place: usize, part: Part)
+        requires { StandsAt self.old.transactions self.old.realm (is_keyed key) place }
+        ensures { Does self.old self.new (alter key (noting part acknowledged) (work_of self.old)) }
+    {
+        let transaction = self.transactions.item_mut(place);
+        acknowledge_part(&mut transaction.txn, part);
     }
 
     /// The transaction of a key is open no more.
@@ -224,6 +233,15 @@ fn answer_part(txn: &mut Txn, part: Part, answer: Ballot)
 {
     if txn.part(part).is_some() {
         txn.answer(part, answer);
+    }
+}
+
+/// A part acknowledges the commit, where there is such a part.
+fn acknowledge_part(txn: &mut Txn, part: Part)
+    ensures { txn.new ≡ record txn.old { parts = changed_at part acknowledged txn.old.parts } }
+{
+    if txn.part(part).is_some() {
+        txn.acked(part);
     }
 }
 

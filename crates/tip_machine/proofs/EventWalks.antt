@@ -43,7 +43,7 @@ module _ (R : Work → Work → Type 0) (May : ℕ → Type 0) (On : Key → Typ
 
   proceed_as-keeps : (v : Work) (role : Option Role) (w : Work) → IfSome (key_of role) On → R v w → EndsOn On (R v) (proceed_as role w)
   proceed_as-keeps v None w on r = r
-  proceed_as-keeps v (Some (Superior key)) w on r = proceed-keeps R May On k v key w on r
+  proceed_as-keeps v (Some (Superior key)) w on r = r
   proceed_as-keeps v (Some (Subordinate key part)) w on r = proceed-keeps R May On k v key w on r
 
   abort_as-keeps : (role : Option Role) (w : Work) → IfSome (key_of role) On → R w (abort_as role w)
@@ -153,5 +153,5 @@ module _ (R : Key → Work → Work → Type 0) (May : ℕ → Type 0) (k : (key
     pub is_heard : (serving : Serving) (side : Side) (heard : Heard) → connection_of c.number w.state ≡ Some c → EndsAtOne R w (hear serving side heard c w)
     is_heard serving Secondary (ACommand command) is = is_commanded R May k serving command c w may is
     is_heard serving Primary (ACommand commands.Error) is = closes R May k c w may
-    is_heard serving Primary (AResponse response) is = either_attempt (EndsAtOne R w) serving.dials (answered_by c.awaited response c w) (Attempt.Done (wrong c w)) (is_answered c.awaited response) (goes_wrong R May k c w may)
+    is_heard serving Primary (AResponse response) is = either_attempt (EndsAtOne R w) (serving.responses c.awaited) (answered_by c.awaited response c w) (Attempt.Done (wrong c w)) (is_answered c.awaited response) (goes_wrong R May k c w may)
     is_heard serving side other is = goes_wrong R May k c w may

@@ -67,7 +67,7 @@ lost (Some connection) work = fail connection work
 abbrev pub hear : Serving → Side → Heard → Connection → Work → Attempt
 hear serving Secondary (ACommand command) connection work = commanded serving command connection work
 hear serving Primary (ACommand Error) connection work = Attempt.Done (closed connection work)
-hear serving Primary (AResponse response) connection work = if serving.dials then answered_by connection.awaited response connection work else Attempt.Done (wrong connection work)
+hear serving Primary (AResponse response) connection work = if serving.responses connection.awaited then answered_by connection.awaited response connection work else Attempt.Done (wrong connection work)
 hear serving side other connection work = Attempt.Done (wrong connection work)
 
 -- a line for a connection, if it is there; one that comes out of turn is not heard, and may come again (section 12)

@@ -37,10 +37,10 @@ note_as None note work = Attempt.Done work
 note_as (Some (Superior key)) note work = Attempt.Done work
 note_as (Some (Subordinate key part)) note work = proceed key (alter key (noting part note) work)
 
--- the transaction that the connection is on goes on (section 13)
+-- the transaction goes on whose part's connection it is (section 13)
 abbrev pub proceed_as : Option Role → Work → Attempt
 proceed_as None work = Attempt.Done work
-proceed_as (Some (Superior key)) work = proceed key work
+proceed_as (Some (Superior key)) work = Attempt.Done work
 proceed_as (Some (Subordinate key part)) work = proceed key work
 
 -- the transaction that the connection is on is aborted (section 13)

@@ -1,4 +1,4 @@
-use Rattle.std.proofs.Common.{◌≡◌, ◌∙◌, List, ap, map, rules, subst, sym}
+use Rattle.std.proofs.Common.{◌∙◌, List, ap, rules, subst, sym}
 use Rattle.tip_machine.specs.Order.{in_turn}
 use Rattle.tip_core.proofs.Naming.{still_named}
 use Rattle.tip_core.proofs.Stepping.{counted, hosted, needs, nowhere_steps, steps, there, turned_down}

@@ -1,4 +1,4 @@
-use Rattle.std.proofs.Common.{◌≡◌, ◌≤◌, ◌<◌, ◌∙◌, ap, arith, List, length, rules, sym, subst}
+use Rattle.std.proofs.Common.{◌≤◌, ◌<◌, ap, arith, List, length, rules, sym, subst}
 use Rattle.std.proofs.lemmas.Result.{IfOk-weaker}
 use Rattle.tip_machine.specs.States.{State}
 use Rattle.tip_machine.specs.declared.head.Head.{Head}

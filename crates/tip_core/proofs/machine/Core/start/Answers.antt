@@ -1,8 +1,6 @@
 -- Realms at their start.
-use Rattle.std.proofs.Common.{◌≡◌, ◌∙◌, ap, map, sym, subst}
-use Rattle.std.specs.List.{All}
-use Rattle.tip_machine.specs.Heads.{have_names, starting}
-use Rattle.tip_core.specs.Hosted.{HasEpoch}
+use Rattle.std.proofs.Common.{◌≡◌, ◌∙◌, ap, map}
+use Rattle.tip_machine.specs.Heads.{starting}
 use Rattle.tip_core.proofs.Naming.{heads_named}
 use Rattle.tip_core.proofs.Stepping.{new_counts, new_realm}
 use Rattle.tip_core.proofs.machine.Core.start.Goals as goal

@@ -1,0 +1,245 @@
+-- What responses come to, case by case.
+use Rattle.std.proofs.Common.{◌≡◌, ◌≤◌, ◌+◌, Bool, true, false, cond, ℕ, suc, zero, List, [], ◌∷◌, Option, Some, None, length, refl, ap, arith, sym, subst, ◌∙◌}
+use Rattle.std.specs.Prelude.{filter}
+use Rattle.std.specs.Option.{IfSome, option_map_or}
+use Rattle.std.proofs.lemmas.Option.{none-some, same_Some}
+use Rattle.tip_conn.specs.Table.{next_of}
+use Rattle.tip_conn.specs.declared.state.Side.TheVariants.{Primary}
+use Rattle.tip_conn.specs.declared.state.State.{State as ConnectionState}
+use Rattle.tip_conn.specs.declared.state.State.TheVariants as state
+use Rattle.tip_conn.specs.declared.state.Turn.{Turn}
+use Rattle.tip_line.specs.Response.{name_of}
+use Rattle.tip_line.specs.declared.command.CommandName.{CommandName}
+use Rattle.tip_line.specs.declared.response.Response.{Response as AResponse}
+use Rattle.tip_line.specs.declared.response.Response.TheVariants as response
+use Rattle.tip_line.specs.declared.response.ResponseName.{ResponseName}
+use Rattle.tip_rows.specs.Keys.{Key}
+use Rattle.tip_table.specs.Lists.{changed}
+use Rattle.tip_txn.specs.Parts.{changed_at}
+use Rattle.tip_txn.specs.declared.part.Participant.{Participant}
+use Rattle.tip_machine.proofs.Walks.{found-number}
+use Rattle.tip_machine.specs.Changes.{alter, change}
+use Rattle.tip_machine.specs.Connections.{advanced, advanced_to, has_number, is_on, names, role_in}
+use Rattle.tip_machine.specs.Failing.{closed, wrong}
+use Rattle.tip_machine.specs.Proceeding.{proceed}
+use Rattle.tip_machine.specs.Requests.{hear}
+use Rattle.tip_machine.specs.Responses.{answered_by, go_on, responded}
+use Rattle.tip_machine.specs.Served.{is_asked_of_parts, today}
+use Rattle.tip_machine.specs.States.{Attempt, Work, connection_of}
+use Rattle.tip_machine.specs.Steps.{chosen}
+use Rattle.tip_machine.specs.Transactions.{has_key, noting}
+use Rattle.tip_machine.specs.Types.{Connection, Transaction}
+use Rattle.tip_machine.specs.declared.connection.Awaited.{Awaited}
+use Rattle.tip_machine.specs.declared.connection.Awaited.TheVariants as awaited
+use Rattle.tip_machine.specs.declared.connection.Role.{Role}
+use Rattle.tip_machine.specs.declared.connection.Role.TheVariants.{Subordinate, Superior}
+use Rattle.tip_machine.specs.declared.event.Heard.TheVariants.{Response}
+use Rattle.tip_machine.specs.declared.event.Outcome.{Outcome}
+use Rattle.tip_core.proofs.Losing.{same_room, still_idle}
+use Rattle.tip_core.proofs.Works.{may_idle, nothing, then, unaltered}
+use Rattle.tip_core.specs.Noting.{asked_of, ends, note_of, noted, noting_as, part_of, responding}
+use Rattle.tip_core.specs.Works.{Does, Held, IsIdle, lines_as, lines_at, lines_for, work_of}
+use Rattle.tip_core.specs.declared.noting.Note.{Note}
+use Rattle.tip_core.specs.declared.noting.Note.TheVariants as note
+
+-- What a response is to
+
+responds_to : (a : Awaited) (said : AResponse) (c : Connection) (w : Work) → IfSome (asked_of (Some a)) (λ command. responded a said c w ≡ responding (note_of (Some a) said) command said c w)
+responds_to awaited.Prepare response.Prepared c w = refl
+responds_to awaited.Prepare response.Aborted c w = refl
+responds_to awaited.Prepare response.ReadOnly c w = refl
+responds_to awaited.Prepare response.NeedTls c w = refl
+responds_to awaited.Prepare response.Error c w = refl
+responds_to awaited.Prepare said c w = refl
+responds_to awaited.Commit response.Committed c w = refl
+responds_to awaited.Commit response.NeedTls c w = refl
+responds_to awaited.Commit response.Error c w = refl
+responds_to awaited.Commit said c w = refl
+responds_to awaited.Abort response.Aborted c w = refl
+responds_to awaited.Abort response.NeedTls c w = refl
+responds_to awaited.Abort response.Error c w = refl
+responds_to awaited.Abort said c w = refl
+responds_to other said c w = tt
+
+responds_if : (found : Option CommandName) (command : CommandName) (P : CommandName → Type 0) → found ≡ Some command → IfSome found P → P command
+responds_if None command P is all = absurd (none-some command is)
+responds_if (Some other) command P is all = subst P (same_Some other command is) all
+
+asked_alone : (a : Option Awaited) → asked_of a ≡ None → is_asked_of_parts a ≡ false
+asked_alone None is = refl
+asked_alone (Some (awaited.Identify purpose)) is = refl
+asked_alone (Some awaited.Push) is = refl
+asked_alone (Some awaited.Pull) is = refl
+asked_alone (Some awaited.Prepare) is = absurd (cc)
+asked_alone (Some awaited.Commit) is = absurd (cc)
+asked_alone (Some awaited.Abort) is = absurd (cc)
+asked_alone (Some (awaited.Query key)) is = refl
+asked_alone (Some awaited.Reconnect) is = refl
+
+asked_then : (a : Option Awaited) (command : CommandName) → asked_of a ≡ Some command → is_asked_of_parts a ≡ true
+asked_then None command is = absurd (none-some command is)
+asked_then (Some (awaited.Identify purpose)) command is = absurd (none-some command is)
+asked_then (Some awaited.Push) command is = absurd (none-some command is)
+asked_then (Some awaited.Pull) command is = absurd (none-some command is)
+asked_then (Some awaited.Prepare) command is = refl
+asked_then (Some awaited.Commit) command is = refl
+asked_then (Some awaited.Abort) command is = refl
+asked_then (Some (awaited.Query key)) command is = absurd (none-some command is)
+asked_then (Some awaited.Reconnect) command is = absurd (none-some command is)
+
+pub hears_none : (said : AResponse) (c : Connection) (w : Work) → asked_of c.awaited ≡ None → hear today Primary (Response said) c w ≡ Attempt.Done (wrong c w)
+hears_none said c w is = ap (λ b. cond b (answered_by c.awaited said c w) (Attempt.Done (wrong c w))) (asked_alone c.awaited is)
+
+pub hears_some : (said : AResponse) (c : Connection) (w : Work) (command : CommandName) → asked_of c.awaited ≡ Some command → hear today Primary (Response said) c w ≡ responding (note_of c.awaited said) command said c w
+hears_some said c w command is = ap (λ b. cond b (answered_by c.awaited said c w) (Attempt.Done (wrong c w))) (asked_then c.awaited command is) ∙ step c.awaited is where
+  step : (a : Option Awaited) → asked_of a ≡ Some command → answered_by a said c w ≡ responding (note_of a said) command said c w
+  step None so = absurd (none-some command so)
+  step (Some a) so = responds_if (asked_of (Some a)) command (λ name. responded a said c w ≡ responding (note_of (Some a) said) name said c w) so (responds_to a said c w)
+
+module _ (a b : Held) (said : AResponse) (c : Connection) (outcome : Outcome) where
+  pub hears_unasked : asked_of c.awaited ≡ None → Does a b (wrong c (work_of a)) → Does a b (chosen (hear today Primary (Response said) c (work_of a)) outcome)
+  hears_unasked is does = subst (λ t. Does a b (chosen t outcome)) (sym (hears_none said c (work_of a) is)) does
+
+  module _ (command : CommandName) (is : asked_of c.awaited ≡ Some command) where
+    hears_so : (n : Option Note) → note_of c.awaited said ≡ n → Does a b (chosen (responding n command said c (work_of a)) outcome) → Does a b (chosen (hear today Primary (Response said) c (work_of a)) outcome)
+    hears_so n at does = subst (λ t. Does a b (chosen t outcome)) (sym (hears_some said c (work_of a) command is)) (subst (λ m. Does a b (chosen (responding m command said c (work_of a)) outcome)) (sym at) does)
+
+    pub hears_ended : note_of c.awaited said ≡ None → ends said ≡ true → Does a b (closed c (work_of a)) → Does a b (chosen (hear today Primary (Response said) c (work_of a)) outcome)
+    hears_ended none so does = hears_so None none (subst (λ e. Does a b (cond e (closed c (work_of a)) (wrong c (work_of a)))) (sym so) does)
+
+    pub hears_wrong : note_of c.awaited said ≡ None → ends said ≡ false → Does a b (wrong c (work_of a)) → Does a b (chosen (hear today Primary (Response said) c (work_of a)) outcome)
+    hears_wrong none so does = hears_so None none (subst (λ e. Does a b (cond e (closed c (work_of a)) (wrong c (work_of a)))) (sym so) does)
+
+    pub hears_noted : (n : Note) (name : ResponseName) → note_of c.awaited said ≡ Some n → name ≡ name_of said → Does a b (chosen (noting_as n c.role (go_on command name c (work_of a))) outcome) → Does a b (chosen (hear today Primary (Response said) c (work_of a)) outcome)
+    hears_noted n name at same does = hears_so (Some n) at (subst (λ m. Does a b (chosen (noting_as n c.role (go_on command m c (work_of a))) outcome)) same does)
+
+pub one_more : (held : Held) (number : ℕ) → lines_at number (work_of held).state + 2 ≤ held.making.free → lines_at number (work_of held).state + 1 ≤ held.making.free
+one_more held number enough = omega (arith, enough)
+
+pub ruleset hearing = (hears_unasked, hears_ended, hears_wrong, hears_noted, one_more)
+
+-- The connection goes on
+
+kept_role : (key : Key) (at : ConnectionState) (role : Option Role) → names key (role_in at role) ≡ true → names key role ≡ true
+kept_role key state.Initial role is = is
+kept_role key state.Idle role is = absurd (cc)
+kept_role key state.Begun role is = is
+kept_role key state.Enlisted role is = is
+kept_role key state.Prepared role is = is
+kept_role key state.Error role is = is
+
+on_before : (key : Key) (to : Option (ConnectionState × Turn)) (c : Connection) → is_on key (advanced_to to c) ≡ true → is_on key c ≡ true
+on_before key None c is = is
+on_before key (Some place) c is = kept_role key place.0 c.role is
+
+-- no more connections are on a transaction than before
+fewer_on : (key : Key) (number : ℕ) (command : CommandName) (name : ResponseName) (cs : List Connection) → length (filter (is_on key) (changed (has_number number) (advanced command name) cs)) ≤ length (filter (is_on key) cs)
+fewer_on key number command name [] = omega arith
+fewer_on key number command name (x ∷ xs) = step (has_number number x) (is_on key x) refl (is_on key (advanced command name x)) refl (fewer_on key number command name xs) where
+  step : (this : Bool) → (on : Bool) → is_on key x ≡ on → (still : Bool) → is_on key (advanced command name x) ≡ still → length (filter (is_on key) (changed (has_number number) (advanced command name) xs)) ≤ length (filter (is_on key) xs) →
+      length (filter (is_on key) (cond this (advanced command name x ∷ xs) (x ∷ changed (has_number number) (advanced command name) xs))) ≤ length (cond on (x ∷ filter (is_on key) xs) (filter (is_on key) xs))
+  step true true at true after rest = rw after (omega arith)
+  step true true at false after rest = rw after (omega arith)
+  step true false at true after rest = absurd (differ (is_on key x) (on_before key (next_of command x.state name) x after) at) where
+    differ : (b : Bool) → b ≡ true → b ≡ false → ⊥
+    differ true is not = absurd (cc)
+    differ false is not = absurd (cc)
+  step true false at false after rest = rw after (omega arith)
+  step false true at still after rest = rw at (omega (arith, rest))
+  step false false at still after rest = rw at rest
+
+module _ (a b : Held) (number : ℕ) (command : CommandName) (name : ResponseName) (first : Does a b (change number (advanced command name) (work_of a))) where
+  pub gone_idle : IsIdle a.making.answer → IsIdle b.making.answer
+  gone_idle idle = record { work = ap (λ w. w.answer.work) first.own ∙ idle.work; spent = ap (λ w. w.answer.spent) first.own ∙ idle.spent }
+
+  pub gone_lines : (c : Connection) (role : Role) → connection_of number (work_of a).state ≡ Some c → c.role ≡ Some role → lines_at number (work_of a).state + 2 ≤ a.making.free → lines_as (Some role) (work_of b).state ≤ b.making.free
+  gone_lines c role found is enough =
+      let before : lines_at number (work_of a).state ≡ lines_as (Some role) (work_of a).state = ap (λ o. option_map_or (λ (d : Connection). lines_as d.role (work_of a).state) o 0) found ∙ ap (λ r. lines_as r (work_of a).state) is in
+      let less = fewer role in
+      let free = same_room a b (change number (advanced command name) (work_of a)) first refl in
+      omega (arith, before, less, free, enough) where
+        fewer : (r : Role) → lines_as (Some r) (work_of b).state ≤ lines_as (Some r) (work_of a).state
+        fewer (Superior key) = subst (λ n. n ≤ lines_for key (work_of a).state) (sym (ap (λ w. lines_for key w.state) first.own)) (fewer_on key number command name (work_of a).state.connections)
+        fewer (Subordinate key part) = subst (λ n. n ≤ lines_for key (work_of a).state) (sym (ap (λ w. lines_for key w.state) first.own)) (fewer_on key number command name (work_of a).state.connections)
+
+-- The part is noted
+
+still_parts : (f : Participant → Participant) (same : (p : Participant) → f p ≡ p) (part : ℕ) (parts : List Participant) → changed_at part f parts ≡ parts
+still_parts f same part [] = refl
+still_parts f same zero (p ∷ parts) = ap (λ q. q ∷ parts) (same p)
+still_parts f same (suc part) (p ∷ parts) = ap (λ ps. p ∷ ps) (still_parts f same part parts)
+
+pub still_noting : (part : ℕ) (t : Transaction) → noting part (noted note.Nothing) t ≡ t
+still_noting part t = ap (λ parts. record t { parts = parts }) (still_parts (noted note.Nothing) (λ p. refl) part t.parts)
+
+still_changed : {T : Type 0} (test : T → Bool) (f : T → T) (same : (item : T) → f item ≡ item) (items : List T) → changed test f items ≡ items
+still_changed test f same [] = refl
+still_changed test f same (x ∷ xs) = step (test x) (still_changed test f same xs) where
+  step : (b : Bool) → changed test f xs ≡ xs → cond b (f x ∷ xs) (x ∷ changed test f xs) ≡ x ∷ xs
+  step true rest = ap (λ y. y ∷ xs) (same x)
+  step false rest = ap (λ ys. x ∷ ys) rest
+
+still_altered : (key : Key) (part : ℕ) (w : Work) → alter key (noting part (noted note.Nothing)) w ≡ w
+still_altered key part w = ap (λ ts. record w { state = record w.state { transactions = ts } }) (still_changed (has_key key) (noting part (noted note.Nothing)) (still_noting part) w.state.transactions)
+
+pub noted_nothing : (a : Held) (key : Key) (part : ℕ) → Does a a (alter key (noting part (noted note.Nothing)) (work_of a))
+noted_nothing a key part = subst (Does a a) (sym (still_altered key part (work_of a))) (nothing a)
+
+pub ruleset noting_part = (unaltered, noted_nothing)
+
+-- All in a row
+
+pub noting_nobody : (n : Note) (role : Option Role) (w : Work) → part_of role ≡ None → noting_as n role w ≡ Attempt.Done w
+noting_nobody note.Nothing None w is = refl
+noting_nobody note.Nothing (Some (Superior key)) w is = refl
+noting_nobody note.Nothing (Some (Subordinate key part)) w is = absurd (cc)
+noting_nobody (note.Answered said) None w is = refl
+noting_nobody (note.Answered said) (Some (Superior key)) w is = refl
+noting_nobody (note.Answered said) (Some (Subordinate key part)) w is = absurd (cc)
+noting_nobody note.Acknowledged None w is = refl
+noting_nobody note.Acknowledged (Some (Superior key)) w is = refl
+noting_nobody note.Acknowledged (Some (Subordinate key part)) w is = absurd (cc)
+
+noting_someone : (n : Note) (key : Key) (part : ℕ) (w : Work) → noting_as n (Some (Subordinate key part)) w ≡ proceed key (alter key (noting part (noted n)) w)
+noting_someone note.Nothing key part w = ap (proceed key) (sym (still_altered key part w))
+noting_someone (note.Answered said) key part w = refl
+noting_someone note.Acknowledged key part w = refl
+
+pub noting_part_of : (n : Note) (role : Option Role) (key : Key) (part : ℕ) (w : Work) → part_of role ≡ Some (key, part) → noting_as n role w ≡ proceed key (alter key (noting part (noted n)) w)
+noting_part_of n None key part w is = absurd (cc)
+noting_part_of n (Some (Superior other)) key part w is = absurd (cc)
+noting_part_of n (Some (Subordinate other place)) key part w is = noting_someone n other place w ∙ ap (λ (s : Key × ℕ). proceed s.0 (alter s.0 (noting s.1 (noted n)) w)) (same_Some (other, place) (key, part) is)
+
+module _ (a b : Held) (number : ℕ) (command : CommandName) (name : ResponseName) (n : Note) (c : Connection) (found : connection_of number (work_of a).state ≡ Some c) (first : Does a b (change number (advanced command name) (work_of a))) where
+  goes_on : Does a b (go_on command name c (work_of a))
+  goes_on = subst (λ m. Does a b (change m (advanced command name) (work_of a))) (sym (found-number number (work_of a).state.connections c found)) first
+
+  pub notes_nobody : c.role ≡ None → Does a b (chosen (noting_as n c.role (go_on command name c (work_of a))) a.outcome)
+  notes_nobody is = subst (λ t. Does a b (chosen t a.outcome)) (sym (noting_nobody n c.role (go_on command name c (work_of a)) (ap part_of is))) goes_on
+
+  pub notes_someone : (d : Held) (role : Role) → c.role ≡ Some role → Does b d (chosen (noting_as n (Some role) (work_of b)) b.outcome) → Does a d (chosen (noting_as n c.role (go_on command name c (work_of a))) a.outcome)
+  notes_someone d role is second =
+      subst (λ r. Does a d (chosen (noting_as n r (go_on command name c (work_of a))) a.outcome)) (sym is)
+      (subst (λ o. Does a d (chosen (noting_as n (Some role) (go_on command name c (work_of a))) o)) first.outcome
+      (then a b d (λ w. chosen (noting_as n (Some role) w) b.outcome) _ goes_on second))
+
+pub ruleset noting_one = (gone_idle, gone_lines, notes_nobody, notes_someone)
+
+-- The transaction goes on
+
+pub noted_lines : (a b : Held) (key : Key) (part : ℕ) (f : Participant → Participant) → Does a b (alter key (noting part f) (work_of a)) → lines_for key (work_of a).state ≤ a.making.free → lines_for key (work_of b).state ≤ b.making.free
+noted_lines a b key part f does enough =
+    let free = same_room a b (alter key (noting part f) (work_of a)) does refl in
+    let same : lines_for key (work_of b).state ≡ lines_for key (work_of a).state = ap (λ w. lines_for key w.state) does.own in
+    omega (arith, free, same, enough)
+
+pub noted_on : (a b c : Held) (n : Note) (key : Key) (part : ℕ) → Does a b (alter key (noting part (noted n)) (work_of a)) → Does b c (chosen (proceed key (work_of b)) b.outcome) → Does a c (chosen (noting_as n (Some (Subordinate key part)) (work_of a)) a.outcome)
+noted_on a b c n key part first second =
+    subst (λ t. Does a c (chosen t a.outcome)) (sym (noting_someone n key part (work_of a)))
+    (subst (λ o. Does a c (chosen (proceed key (alter key (noting part (noted n)) (work_of a))) o)) first.outcome
+    (then a b c (λ w. chosen (proceed key w) b.outcome) _ first second))
+
+pub noted_off : (a : Held) (n : Note) (key : Key) → Does a a (chosen (noting_as n (Some (Superior key)) (work_of a)) a.outcome)
+noted_off a n key = subst (λ t. Does a a (chosen t a.outcome)) (sym (noting_nobody n (Some (Superior key)) (work_of a) refl)) (nothing a)
+
+pub ruleset noting_role = (noted_lines, noted_on, noted_off, still_idle, may_idle)
