@@ -45,7 +45,7 @@ use Rattle.tip_machine.specs.Proceeding.{agree, ask, asked_for_votes, conclude, 
 use Rattle.tip_machine.specs.Reactions.{commits, react}
 use Rattle.tip_machine.specs.Requests.{hear, line, owner, resume, resume_in, settled, settled_for, voted, voted_for}
 use Rattle.tip_machine.specs.Responses.{go_on}
-use Rattle.tip_machine.specs.Served.{today}
+use Rattle.tip_machine.specs.Served.{is_heard, today}
 use Rattle.tip_machine.specs.States.{Attempt, State, Work, connection_of, identified_by, seated, transaction_of}
 use Rattle.tip_machine.specs.Steps.{attempt, entered, is_open, wanted, wants}
 use Rattle.tip_machine.specs.Transactions.{decision_of, entering, has_id, has_key, has_ready, is_committed, is_done, is_spent, noting, pair_of, party_answer, standing_at, willing_from}
@@ -64,8 +64,9 @@ use Rattle.tip_machine.specs.declared.transaction.Origin.TheVariants as origin
 use Rattle.tip_machine.specs.declared.transaction.PartyPlace.TheVariants.{Here, Out, Spent}
 use Rattle.tip_core.proofs.Outcomes.{acknowledged_all}
 use Rattle.tip_core.proofs.Proceeding.{dispatch_some}
-use Rattle.tip_core.proofs.Responses.{hears_none, hears_some, noting_nobody, noting_part_of}
-use Rattle.tip_core.specs.Noting.{asked_of, note_of, noted, noting_as, part_of, responding}
+use Rattle.tip_core.proofs.Responses.{hears_nothing, hears_part, hears_pull, noting_nobody, noting_part_of}
+use Rattle.tip_core.specs.Noting.{awaits_of, note_of, noted, noting_as, part_of, pulled_of, pulling, responding}
+use Rattle.tip_core.specs.declared.noting.Awaits.TheVariants as awaits
 use Rattle.tip_core.specs.Wanting.{abort_for, abort_wanted, agreed_change, answer_wanted, asked, away, command_wanted, commit_for, commit_wanted, concluded, finished, foreseen, hears_responses, is_admitted, is_over, line_wanted, of_superior, outlook, owed_then, pair_at, pairs_of, prepare_for, prepare_wanted, promised_of, response_wanted, resume_wanted, resumed_at, settled_wanted, vote_wanted, wanted_noting, wanted_of_part, wished, wished_in}
 use Rattle.tip_core.specs.declared.noting.Note.{Note}
 
@@ -336,22 +337,29 @@ module _ (w : Work) (c : Connection) (there : connection_of c.number w.state ≡
   responding_wants None name said = refl
   responding_wants (Some n) name said = noted_wants n name (response_name said)
 
-  unasked_nothing : (a : Option Awaited) (said : AResponse) → asked_of a ≡ None → note_of a said ≡ None
-  unasked_nothing None said is = refl
-  unasked_nothing (Some (awaited.Identify purpose)) said is = refl
-  unasked_nothing (Some awaited.Push) said is = refl
-  unasked_nothing (Some awaited.Pull) said is = refl
-  unasked_nothing (Some awaited.Prepare) said is = absurd (cc)
-  unasked_nothing (Some awaited.Commit) said is = absurd (cc)
-  unasked_nothing (Some awaited.Abort) said is = absurd (cc)
-  unasked_nothing (Some (awaited.Query key)) said is = refl
-  unasked_nothing (Some awaited.Reconnect) said is = refl
+  pulling_wants : (pulled : Option Bool) (said : AResponse) → wanted (pulling pulled said c w) ≡ None
+  pulling_wants None said = refl
+  pulling_wants (Some true) said = refl
+  pulling_wants (Some false) said = refl
 
   said_wants : (said : AResponse) → wanted (hear today Primary (Response said) c w) ≡ answer_wanted (note_of c.awaited said) c w.state
-  said_wants said = step (asked_of c.awaited) refl where
-    step : (asked : Option CommandName) → asked_of c.awaited ≡ asked → wanted (hear today Primary (Response said) c w) ≡ answer_wanted (note_of c.awaited said) c w.state
-    step None is = ap wanted (hears_none said c w is) ∙ sym (ap (λ n. answer_wanted n c w.state) (unasked_nothing c.awaited said is))
-    step (Some name) is = ap wanted (hears_some said c w name is) ∙ responding_wants (note_of c.awaited said) name said
+  said_wants said = step c.awaited refl where
+    of_part : (name : CommandName) → awaits_of c.awaited ≡ awaits.OfPart name → wanted (hear today Primary (Response said) c w) ≡ answer_wanted (note_of c.awaited said) c w.state
+    of_part name is = ap wanted (hears_part said c w name is) ∙ responding_wants (note_of c.awaited said) name said
+
+    unheard : (a : Option Awaited) → c.awaited ≡ a → is_heard a ≡ false → None ≡ answer_wanted (note_of a said) c w.state → wanted (hear today Primary (Response said) c w) ≡ answer_wanted (note_of c.awaited said) c w.state
+    unheard a is not none = ap wanted (hears_nothing said c w (ap is_heard is ∙ not)) ∙ none ∙ ap (λ b. answer_wanted (note_of b said) c w.state) (sym is)
+
+    step : (a : Option Awaited) → c.awaited ≡ a → wanted (hear today Primary (Response said) c w) ≡ answer_wanted (note_of c.awaited said) c w.state
+    step None is = unheard None is refl refl
+    step (Some (awaited.Identify purpose)) is = unheard (Some (awaited.Identify purpose)) is refl refl
+    step (Some awaited.Push) is = of_part command.Push (ap awaits_of is)
+    step (Some awaited.Pull) is = ap wanted (hears_pull said c w (ap awaits_of is)) ∙ pulling_wants (pulled_of said) said ∙ ap (λ b. answer_wanted (note_of b said) c w.state) (sym is)
+    step (Some awaited.Prepare) is = of_part command.Prepare (ap awaits_of is)
+    step (Some awaited.Commit) is = of_part command.Commit (ap awaits_of is)
+    step (Some awaited.Abort) is = of_part command.Abort (ap awaits_of is)
+    step (Some (awaited.Query key)) is = unheard (Some (awaited.Query key)) is refl refl
+    step (Some awaited.Reconnect) is = of_part command.Reconnect (ap awaits_of is)
 
   heard_wants : (side : Side) → c.side ≡ side → (said : AResponse) → wanted (hear today side (Response said) c w) ≡ cond (not (is_secondary side)) (answer_wanted (note_of c.awaited said) c w.state) None
   heard_wants Primary is said = said_wants said

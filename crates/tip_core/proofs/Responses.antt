@@ -1,5 +1,5 @@
 -- What responses come to, case by case.
-use Rattle.std.proofs.Common.{◌≡◌, ◌≤◌, ◌+◌, Bool, true, false, cond, ℕ, suc, zero, List, [], ◌∷◌, Option, Some, None, length, refl, ap, arith, sym, subst, ◌∙◌}
+use Rattle.std.proofs.Common.{◌≡◌, ◌≢◌, ◌≤◌, ◌+◌, Bool, true, false, cond, ℕ, suc, zero, List, [], ◌∷◌, Option, Some, None, length, refl, ap, arith, sym, subst, ◌∙◌, ◌⊎◌, inl, inr}
 use Rattle.std.specs.Prelude.{filter}
 use Rattle.std.specs.Option.{IfSome, option_map_or}
 use Rattle.std.proofs.lemmas.Option.{none-some, same_Some}
@@ -8,23 +8,25 @@ use Rattle.tip_conn.specs.declared.state.Side.TheVariants.{Primary}
 use Rattle.tip_conn.specs.declared.state.State.{State as ConnectionState}
 use Rattle.tip_conn.specs.declared.state.State.TheVariants as state
 use Rattle.tip_conn.specs.declared.state.Turn.{Turn}
-use Rattle.tip_line.specs.Response.{name_of}
 use Rattle.tip_line.specs.declared.command.CommandName.{CommandName}
+use Rattle.tip_line.specs.declared.command.CommandName.TheVariants as command
 use Rattle.tip_line.specs.declared.response.Response.{Response as AResponse}
 use Rattle.tip_line.specs.declared.response.Response.TheVariants as response
 use Rattle.tip_line.specs.declared.response.ResponseName.{ResponseName}
+use Rattle.tip_line.specs.declared.response.ResponseName.TheVariants as names
 use Rattle.tip_rows.specs.Keys.{Key}
 use Rattle.tip_table.specs.Lists.{changed}
 use Rattle.tip_txn.specs.Parts.{changed_at}
 use Rattle.tip_txn.specs.declared.part.Participant.{Participant}
 use Rattle.tip_machine.proofs.Walks.{found-number}
 use Rattle.tip_machine.specs.Changes.{alter, change}
-use Rattle.tip_machine.specs.Connections.{advanced, advanced_to, has_number, is_on, names, role_in}
-use Rattle.tip_machine.specs.Failing.{closed, wrong}
+use Rattle.tip_machine.specs.Connections.{advanced, advanced_to, has_number, is_on, role_in}
+use Rattle.tip_machine.specs.Connections.{names as is_named_in}
+use Rattle.tip_machine.specs.Failing.{wrong}
 use Rattle.tip_machine.specs.Proceeding.{proceed}
 use Rattle.tip_machine.specs.Requests.{hear}
-use Rattle.tip_machine.specs.Responses.{answered_by, go_on, responded}
-use Rattle.tip_machine.specs.Served.{is_asked_of_parts, today}
+use Rattle.tip_machine.specs.Responses.{abort_as, answered_by, go_on, responded}
+use Rattle.tip_machine.specs.Served.{is_heard, today}
 use Rattle.tip_machine.specs.States.{Attempt, Work, connection_of}
 use Rattle.tip_machine.specs.Steps.{chosen}
 use Rattle.tip_machine.specs.Transactions.{has_key, noting}
@@ -37,14 +39,29 @@ use Rattle.tip_machine.specs.declared.event.Heard.TheVariants.{Response}
 use Rattle.tip_machine.specs.declared.event.Outcome.{Outcome}
 use Rattle.tip_core.proofs.Losing.{same_room, still_idle}
 use Rattle.tip_core.proofs.Works.{may_idle, nothing, then, unaltered}
-use Rattle.tip_core.specs.Noting.{asked_of, ends, note_of, noted, noting_as, part_of, responding}
+use Rattle.tip_core.specs.Noting.{awaits_of, note_of, noted, noting_as, part_of, pulled_of, pulling, responding}
+use Rattle.tip_core.specs.declared.noting.Awaits.{Awaits}
+use Rattle.tip_core.specs.declared.noting.Awaits.TheVariants as awaits
 use Rattle.tip_core.specs.Works.{Does, Held, IsIdle, lines_as, lines_at, lines_for, work_of}
 use Rattle.tip_core.specs.declared.noting.Note.{Note}
 use Rattle.tip_core.specs.declared.noting.Note.TheVariants as note
 
 -- What a response is to
 
-responds_to : (a : Awaited) (said : AResponse) (c : Connection) (w : Work) → IfSome (asked_of (Some a)) (λ command. responded a said c w ≡ responding (note_of (Some a) said) command said c w)
+abbrev command_in : Awaits → Option CommandName
+command_in awaits.Nothing = None
+command_in (awaits.OfPart name) = Some name
+command_in awaits.Identified = None
+command_in awaits.Pulled = None
+command_in (awaits.Queried key) = None
+
+responds_to : (a : Awaited) (said : AResponse) (c : Connection) (w : Work) → IfSome (command_in (awaits_of (Some a))) (λ name. responded a said c w ≡ responding (note_of (Some a) said) name said c w)
+responds_to awaited.Push (response.Pushed id) c w = refl
+responds_to awaited.Push (response.AlreadyPushed id) c w = refl
+responds_to awaited.Push response.NotPushed c w = refl
+responds_to awaited.Push response.NeedTls c w = refl
+responds_to awaited.Push response.Error c w = refl
+responds_to awaited.Push said c w = refl
 responds_to awaited.Prepare response.Prepared c w = refl
 responds_to awaited.Prepare response.Aborted c w = refl
 responds_to awaited.Prepare response.ReadOnly c w = refl
@@ -59,68 +76,94 @@ responds_to awaited.Abort response.Aborted c w = refl
 responds_to awaited.Abort response.NeedTls c w = refl
 responds_to awaited.Abort response.Error c w = refl
 responds_to awaited.Abort said c w = refl
+responds_to awaited.Reconnect response.Reconnected c w = refl
+responds_to awaited.Reconnect response.NotReconnected c w = refl
+responds_to awaited.Reconnect response.NeedTls c w = refl
+responds_to awaited.Reconnect response.Error c w = refl
+responds_to awaited.Reconnect said c w = refl
 responds_to other said c w = tt
 
-responds_if : (found : Option CommandName) (command : CommandName) (P : CommandName → Type 0) → found ≡ Some command → IfSome found P → P command
-responds_if None command P is all = absurd (none-some command is)
-responds_if (Some other) command P is all = subst P (same_Some other command is) all
+responds_if : (found : Option CommandName) (name : CommandName) (P : CommandName → Type 0) → found ≡ Some name → IfSome found P → P name
+responds_if None name P is all = absurd (none-some name is)
+responds_if (Some other) name P is all = subst P (same_Some other name is) all
 
-asked_alone : (a : Option Awaited) → asked_of a ≡ None → is_asked_of_parts a ≡ false
-asked_alone None is = refl
-asked_alone (Some (awaited.Identify purpose)) is = refl
-asked_alone (Some awaited.Push) is = refl
-asked_alone (Some awaited.Pull) is = refl
-asked_alone (Some awaited.Prepare) is = absurd (cc)
-asked_alone (Some awaited.Commit) is = absurd (cc)
-asked_alone (Some awaited.Abort) is = absurd (cc)
-asked_alone (Some (awaited.Query key)) is = refl
-asked_alone (Some awaited.Reconnect) is = refl
+pulls : (said : AResponse) (c : Connection) (w : Work) → responded awaited.Pull said c w ≡ pulling (pulled_of said) said c w
+pulls response.Pulled c w = refl
+pulls response.NotPulled c w = refl
+pulls response.NeedTls c w = refl
+pulls response.Error c w = refl
+pulls said c w = refl
 
-asked_then : (a : Option Awaited) (command : CommandName) → asked_of a ≡ Some command → is_asked_of_parts a ≡ true
-asked_then None command is = absurd (none-some command is)
-asked_then (Some (awaited.Identify purpose)) command is = absurd (none-some command is)
-asked_then (Some awaited.Push) command is = absurd (none-some command is)
-asked_then (Some awaited.Pull) command is = absurd (none-some command is)
-asked_then (Some awaited.Prepare) command is = refl
-asked_then (Some awaited.Commit) command is = refl
-asked_then (Some awaited.Abort) command is = refl
-asked_then (Some (awaited.Query key)) command is = absurd (none-some command is)
-asked_then (Some awaited.Reconnect) command is = absurd (none-some command is)
+module _ (said : AResponse) (c : Connection) (w : Work) where
+  hears_at : (a : Option Awaited) → c.awaited ≡ a → hear today Primary (Response said) c w ≡ cond (is_heard a) (answered_by a said c w) (Attempt.Done (wrong c w))
+  hears_at a is = ap (λ b. cond (is_heard b) (answered_by b said c w) (Attempt.Done (wrong c w))) is
 
-pub hears_none : (said : AResponse) (c : Connection) (w : Work) → asked_of c.awaited ≡ None → hear today Primary (Response said) c w ≡ Attempt.Done (wrong c w)
-hears_none said c w is = ap (λ b. cond b (answered_by c.awaited said c w) (Attempt.Done (wrong c w))) (asked_alone c.awaited is)
+  pub hears_part : (name : CommandName) → awaits_of c.awaited ≡ awaits.OfPart name → hear today Primary (Response said) c w ≡ responding (note_of c.awaited said) name said c w
+  hears_part name so = step c.awaited refl where
+    as_asked : (a : Awaited) → c.awaited ≡ Some a → is_heard (Some a) ≡ true → hear today Primary (Response said) c w ≡ responding (note_of c.awaited said) name said c w
+    as_asked a is heard =
+        hears_at (Some a) is ∙ ap (λ b. cond b (responded a said c w) (Attempt.Done (wrong c w))) heard
+        ∙ responds_if (command_in (awaits_of (Some a))) name (λ n. responded a said c w ≡ responding (note_of (Some a) said) n said c w) (ap command_in (sym (ap awaits_of is) ∙ so)) (responds_to a said c w)
+        ∙ sym (ap (λ b. responding (note_of b said) name said c w) is)
 
-pub hears_some : (said : AResponse) (c : Connection) (w : Work) (command : CommandName) → asked_of c.awaited ≡ Some command → hear today Primary (Response said) c w ≡ responding (note_of c.awaited said) command said c w
-hears_some said c w command is = ap (λ b. cond b (answered_by c.awaited said c w) (Attempt.Done (wrong c w))) (asked_then c.awaited command is) ∙ step c.awaited is where
-  step : (a : Option Awaited) → asked_of a ≡ Some command → answered_by a said c w ≡ responding (note_of a said) command said c w
-  step None so = absurd (none-some command so)
-  step (Some a) so = responds_if (asked_of (Some a)) command (λ name. responded a said c w ≡ responding (note_of (Some a) said) name said c w) so (responds_to a said c w)
+    step : (a : Option Awaited) → c.awaited ≡ a → hear today Primary (Response said) c w ≡ responding (note_of c.awaited said) name said c w
+    step None is = absurd (none-some name (ap command_in (sym (ap awaits_of is) ∙ so)))
+    step (Some (awaited.Identify purpose)) is = absurd (none-some name (ap command_in (sym (ap awaits_of is) ∙ so)))
+    step (Some awaited.Push) is = as_asked awaited.Push is refl
+    step (Some awaited.Pull) is = absurd (none-some name (ap command_in (sym (ap awaits_of is) ∙ so)))
+    step (Some awaited.Prepare) is = as_asked awaited.Prepare is refl
+    step (Some awaited.Commit) is = as_asked awaited.Commit is refl
+    step (Some awaited.Abort) is = as_asked awaited.Abort is refl
+    step (Some (awaited.Query key)) is = absurd (none-some name (ap command_in (sym (ap awaits_of is) ∙ so)))
+    step (Some awaited.Reconnect) is = as_asked awaited.Reconnect is refl
+
+  pub hears_pull : awaits_of c.awaited ≡ awaits.Pulled → hear today Primary (Response said) c w ≡ pulling (pulled_of said) said c w
+  hears_pull so = step c.awaited refl where
+    step : (a : Option Awaited) → c.awaited ≡ a → hear today Primary (Response said) c w ≡ pulling (pulled_of said) said c w
+    step None is = absurd (let no = sym (ap awaits_of is) ∙ so in cc)
+    step (Some (awaited.Identify purpose)) is = absurd (let no = sym (ap awaits_of is) ∙ so in cc)
+    step (Some awaited.Push) is = absurd (let no = sym (ap awaits_of is) ∙ so in cc)
+    step (Some awaited.Pull) is = hears_at (Some awaited.Pull) is ∙ pulls said c w
+    step (Some awaited.Prepare) is = absurd (let no = sym (ap awaits_of is) ∙ so in cc)
+    step (Some awaited.Commit) is = absurd (let no = sym (ap awaits_of is) ∙ so in cc)
+    step (Some awaited.Abort) is = absurd (let no = sym (ap awaits_of is) ∙ so in cc)
+    step (Some (awaited.Query key)) is = absurd (let no = sym (ap awaits_of is) ∙ so in cc)
+    step (Some awaited.Reconnect) is = absurd (let no = sym (ap awaits_of is) ∙ so in cc)
+
+  hears_unheard : (a : Option Awaited) → c.awaited ≡ a → is_heard a ≡ false → hear today Primary (Response said) c w ≡ Attempt.Done (wrong c w)
+  hears_unheard a is not = hears_at a is ∙ ap (λ b. cond b (answered_by a said c w) (Attempt.Done (wrong c w))) not
+
+  pub hears_nothing : is_heard c.awaited ≡ false → hear today Primary (Response said) c w ≡ Attempt.Done (wrong c w)
+  hears_nothing not = hears_unheard c.awaited refl not
+
+unheard_by : (a : Option Awaited) (kind : Awaits) → awaits_of a ≡ kind → command_in kind ≡ None → kind ≢ awaits.Pulled → is_heard a ≡ false
+unheard_by None kind is none differ = refl
+unheard_by (Some (awaited.Identify purpose)) kind is none differ = refl
+unheard_by (Some awaited.Push) kind is none differ = absurd (none-some command.Push (sym none ∙ sym (ap command_in is)))
+unheard_by (Some awaited.Pull) kind is none differ = absurd (differ (sym is))
+unheard_by (Some awaited.Prepare) kind is none differ = absurd (none-some command.Prepare (sym none ∙ sym (ap command_in is)))
+unheard_by (Some awaited.Commit) kind is none differ = absurd (none-some command.Commit (sym none ∙ sym (ap command_in is)))
+unheard_by (Some awaited.Abort) kind is none differ = absurd (none-some command.Abort (sym none ∙ sym (ap command_in is)))
+unheard_by (Some (awaited.Query key)) kind is none differ = refl
+unheard_by (Some awaited.Reconnect) kind is none differ = absurd (none-some command.Reconnect (sym none ∙ sym (ap command_in is)))
 
 module _ (a b : Held) (said : AResponse) (c : Connection) (outcome : Outcome) where
-  pub hears_unasked : asked_of c.awaited ≡ None → Does a b (wrong c (work_of a)) → Does a b (chosen (hear today Primary (Response said) c (work_of a)) outcome)
-  hears_unasked is does = subst (λ t. Does a b (chosen t outcome)) (sym (hears_none said c (work_of a) is)) does
+  pub answered_part : (name : CommandName) → awaits_of c.awaited ≡ awaits.OfPart name → Does a b (chosen (responding (note_of c.awaited said) name said c (work_of a)) outcome) → Does a b (chosen (hear today Primary (Response said) c (work_of a)) outcome)
+  answered_part name is does = subst (λ t. Does a b (chosen t outcome)) (sym (hears_part said c (work_of a) name is)) does
 
-  module _ (command : CommandName) (is : asked_of c.awaited ≡ Some command) where
-    hears_so : (n : Option Note) → note_of c.awaited said ≡ n → Does a b (chosen (responding n command said c (work_of a)) outcome) → Does a b (chosen (hear today Primary (Response said) c (work_of a)) outcome)
-    hears_so n at does = subst (λ t. Does a b (chosen t outcome)) (sym (hears_some said c (work_of a) command is)) (subst (λ m. Does a b (chosen (responding m command said c (work_of a)) outcome)) (sym at) does)
+  pub answered_pull : awaits_of c.awaited ≡ awaits.Pulled → Does a b (chosen (pulling (pulled_of said) said c (work_of a)) outcome) → Does a b (chosen (hear today Primary (Response said) c (work_of a)) outcome)
+  answered_pull is does = subst (λ t. Does a b (chosen t outcome)) (sym (hears_pull said c (work_of a) is)) does
 
-    pub hears_ended : note_of c.awaited said ≡ None → ends said ≡ true → Does a b (closed c (work_of a)) → Does a b (chosen (hear today Primary (Response said) c (work_of a)) outcome)
-    hears_ended none so does = hears_so None none (subst (λ e. Does a b (cond e (closed c (work_of a)) (wrong c (work_of a)))) (sym so) does)
-
-    pub hears_wrong : note_of c.awaited said ≡ None → ends said ≡ false → Does a b (wrong c (work_of a)) → Does a b (chosen (hear today Primary (Response said) c (work_of a)) outcome)
-    hears_wrong none so does = hears_so None none (subst (λ e. Does a b (cond e (closed c (work_of a)) (wrong c (work_of a)))) (sym so) does)
-
-    pub hears_noted : (n : Note) (name : ResponseName) → note_of c.awaited said ≡ Some n → name ≡ name_of said → Does a b (chosen (noting_as n c.role (go_on command name c (work_of a))) outcome) → Does a b (chosen (hear today Primary (Response said) c (work_of a)) outcome)
-    hears_noted n name at same does = hears_so (Some n) at (subst (λ m. Does a b (chosen (noting_as n c.role (go_on command m c (work_of a))) outcome)) same does)
-
-pub one_more : (held : Held) (number : ℕ) → lines_at number (work_of held).state + 2 ≤ held.making.free → lines_at number (work_of held).state + 1 ≤ held.making.free
-one_more held number enough = omega (arith, enough)
-
-pub ruleset hearing = (hears_unasked, hears_ended, hears_wrong, hears_noted, one_more)
+  pub answered_wrong : (kind : Awaits) → kind ≡ awaits_of c.awaited → (kind ≡ awaits.Nothing) ⊎ ((kind ≡ awaits.Identified) ⊎ ((key : Key) × (kind ≡ awaits.Queried key))) → Does a b (wrong c (work_of a)) → Does a b (chosen (hear today Primary (Response said) c (work_of a)) outcome)
+  answered_wrong kind same which does = subst (λ t. Does a b (chosen t outcome)) (sym (hears_nothing said c (work_of a) (not which))) does where
+    not : (kind ≡ awaits.Nothing) ⊎ ((kind ≡ awaits.Identified) ⊎ ((key : Key) × (kind ≡ awaits.Queried key))) → is_heard c.awaited ≡ false
+    not (inl is) = unheard_by c.awaited awaits.Nothing (sym same ∙ is) refl (λ so. absurd (cc))
+    not (inr (inl is)) = unheard_by c.awaited awaits.Identified (sym same ∙ is) refl (λ so. absurd (cc))
+    not (inr (inr is)) = unheard_by c.awaited (awaits.Queried is.0) (sym same ∙ is.1) refl (λ so. absurd (cc))
 
 -- The connection goes on
 
-kept_role : (key : Key) (at : ConnectionState) (role : Option Role) → names key (role_in at role) ≡ true → names key role ≡ true
+kept_role : (key : Key) (at : ConnectionState) (role : Option Role) → is_named_in key (role_in at role) ≡ true → is_named_in key role ≡ true
 kept_role key state.Initial role is = is
 kept_role key state.Idle role is = absurd (cc)
 kept_role key state.Begun role is = is
@@ -196,6 +239,9 @@ noting_nobody note.Nothing (Some (Subordinate key part)) w is = absurd (cc)
 noting_nobody (note.Answered said) None w is = refl
 noting_nobody (note.Answered said) (Some (Superior key)) w is = refl
 noting_nobody (note.Answered said) (Some (Subordinate key part)) w is = absurd (cc)
+noting_nobody (note.Named id) None w is = refl
+noting_nobody (note.Named id) (Some (Superior key)) w is = refl
+noting_nobody (note.Named id) (Some (Subordinate key part)) w is = absurd (cc)
 noting_nobody note.Acknowledged None w is = refl
 noting_nobody note.Acknowledged (Some (Superior key)) w is = refl
 noting_nobody note.Acknowledged (Some (Subordinate key part)) w is = absurd (cc)
@@ -204,6 +250,7 @@ noting_someone : (n : Note) (key : Key) (part : ℕ) (w : Work) → noting_as n 
 noting_someone note.Nothing key part w = ap (proceed key) (sym (still_altered key part w))
 noting_someone (note.Answered said) key part w = refl
 noting_someone note.Acknowledged key part w = refl
+noting_someone (note.Named id) key part w = refl
 
 pub noting_part_of : (n : Note) (role : Option Role) (key : Key) (part : ℕ) (w : Work) → part_of role ≡ Some (key, part) → noting_as n role w ≡ proceed key (alter key (noting part (noted n)) w)
 noting_part_of n None key part w is = absurd (cc)
@@ -243,3 +290,20 @@ pub noted_off : (a : Held) (n : Note) (key : Key) → Does a a (chosen (noting_a
 noted_off a n key = subst (λ t. Does a a (chosen t a.outcome)) (sym (noting_nobody n (Some (Superior key)) (work_of a) refl)) (nothing a)
 
 pub ruleset noting_role = (noted_lines, noted_on, noted_off, still_idle, may_idle)
+
+-- PULL
+
+module _ (a b : Held) (number : ℕ) (c : Connection) (said : AResponse) (found : connection_of number (work_of a).state ≡ Some c) where
+  pub pull_came : (came : Bool) → came ≡ true → Does a b (change number (advanced command.Pull names.Pulled) (work_of a)) → Does a b (chosen (pulling (Some came) said c (work_of a)) a.outcome)
+  pull_came came is first = subst (λ y. Does a b (chosen (pulling (Some y) said c (work_of a)) a.outcome)) (sym is) (goes_on a b number command.Pull names.Pulled note.Nothing c found first)
+
+  pull_refused : (came : Bool) (d : Held) → came ≡ false → Does a d (abort_as c.role (go_on command.Pull names.NotPulled c (work_of a))) → Does a d (chosen (pulling (Some came) said c (work_of a)) a.outcome)
+  pull_refused came d is does = subst (λ y. Does a d (chosen (pulling (Some y) said c (work_of a)) a.outcome)) (sym is) does
+
+  pub pull_alone : (came : Bool) → came ≡ false → c.role ≡ None → Does a b (change number (advanced command.Pull names.NotPulled) (work_of a)) → Does a b (chosen (pulling (Some came) said c (work_of a)) a.outcome)
+  pull_alone came is none first = pull_refused came b is (subst (λ r. Does a b (abort_as r (go_on command.Pull names.NotPulled c (work_of a)))) (sym none) (goes_on a b number command.Pull names.NotPulled note.Nothing c found first))
+
+  pub pull_aborts : (came : Bool) (d : Held) (role : Role) → came ≡ false → c.role ≡ Some role → Does a b (change number (advanced command.Pull names.NotPulled) (work_of a)) → Does b d (abort_as (Some role) (work_of b)) → Does a d (chosen (pulling (Some came) said c (work_of a)) a.outcome)
+  pull_aborts came d role is on first second = pull_refused came d is (subst (λ r. Does a d (abort_as r (go_on command.Pull names.NotPulled c (work_of a)))) (sym on) (then a b d (abort_as (Some role)) _ (goes_on a b number command.Pull names.NotPulled note.Nothing c found first) second))
+
+pub ruleset ending_pull = (gone_idle, gone_lines, pull_came, pull_alone, pull_aborts)

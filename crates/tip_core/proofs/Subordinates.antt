@@ -110,12 +110,10 @@ pairs_grown old items at other lt = append_assoc old (pairs_of (take at items)) 
 
 pub ruleset adding = (pairs_grown, append-nil)
 
-pub noted_pair : (n : Note) (p : Participant) → pairs_of (record p { answer = (noted n p).answer } ∷ []) ≡ pairs_of (noted n p ∷ [])
-noted_pair note.Nothing p = refl
-noted_pair (note.Answered said) p = refl
-noted_pair note.Acknowledged p = step (is_yes p.answer) where
-  step : (yes : Bool) → flat_map pair_at (cond yes (p ∷ []) []) ≡ flat_map pair_at (cond yes (noted note.Acknowledged p ∷ []) [])
-  step true = refl
-  step false = refl
+pub noted_address : (n : Note) (p : Participant) → (noted n p).address ≡ p.address
+noted_address note.Nothing p = refl
+noted_address (note.Answered said) p = refl
+noted_address (note.Named id) p = refl
+noted_address note.Acknowledged p = refl
 
-pub ruleset adding_one = (noted_pair, append-nil)
+pub ruleset adding_one = (noted_address, append-nil)

@@ -1,7 +1,7 @@
 //! The parts of a transaction, as they will be once something is noted of one of them.
 ghost use Rattle.std.specs.Prelude.{◌≡◌, ◌==◌, ◌++◌, ◌∷◌, ◌-◌, ◌<◌, ◌≤◌, [], drop, take, length, if◌then◌else◌, map, IfOk, OnOk};
 ghost use Rattle.std.specs.List.{list_all, list_any};
-ghost use Rattle.std.specs.Option.{option_to_list};
+ghost use Rattle.std.specs.Option.{option_copied, option_to_list};
 ghost use Rattle.tip_txn.specs.Parts.{changed_at, is_settled};
 ghost use Rattle.tip_machine.specs.Transactions.{decision};
 ghost use Rattle.tip_core.specs.Deciding.{is_sought, says};
@@ -30,7 +30,7 @@ pub enum Sought {
 #[derive(Drop)]
 struct Noted<'a> {
     participant: &'a Participant,
-    note: Note,
+    note: &'a Note,
 }
 
 impl<'a> Model for Noted<'a> {
@@ -39,7 +39,7 @@ impl<'a> Model for Noted<'a> {
 
     ghost Value = { APart };
 
-    ghost view = { λ n. noted n.note n.participant.now };
+    ghost view = { λ n. noted n.note.now n.participant.now };
 }
 
 /// The subordinates: those before one of which something is noted, that one, and those behind it.
@@ -87,6 +87,13 @@ impl<'a> Noted<'a> {
     {
         !is_yes(self.answer()) || self.note.has_acknowledged(self.participant)
     }
+
+    /// The identifier that it is known by.
+    fn id(&self) -> Option<&Id>
+        ensures { option_copied result ≡ self.now.id }
+    {
+        self.note.id(self.participant)
+    }
 }
 
 impl<'a> Others<'a> {
@@ -104,8 +111,8 @@ impl<'a> Others<'a> {
 
     /// Once this is noted of a part.
     #[tactic(auto, using(crate::proofs::Subordinates::noting))]
-    pub fn noting(txn: &'a Txn, part: Part, note: Note) -> Others<'a>
-        ensures { result ≡ drop 1 (changed_at part (noted note) txn.now.parts) }
+    pub fn noting(txn: &'a Txn, part: Part, note: &'a Note) -> Others<'a>
+        ensures { result ≡ drop 1 (changed_at part (noted note.now) txn.now.parts) }
     {
         let place = part.place();
         if place == 0 {
@@ -122,11 +129,11 @@ impl<'a> Others<'a> {
         others: &'a [Participant],
         place: usize,
         participant: &'a Participant,
-        note: Note,
+        note: &'a Note,
     ) -> Others<'a>
         requires some { 0 < place }
         requires within { place ≤ length others.now }
-        ensures { result ≡ take (place - 1) others.now ++ (noted note participant.now ∷ drop place others.now) }
+        ensures { result ≡ take (place - 1) others.now ++ (noted note.now participant.now ∷ drop place others.now) }
     {
         let (front, _) = others.split_at(place - 1);
         let (_, back) = others.split_at(place);
@@ -184,8 +191,8 @@ impl<'a> Others<'a> {
 
 /// What the answers of a transaction decide, once this is noted of one of its parts.
 #[tactic(auto, using(crate::proofs::Subordinates::deciding_noted))]
-pub fn decide_noting(txn: &Txn, part: Part, note: Note) -> Decision
-    ensures { result ≡ decision (map (λ p. p.answer) (changed_at part (noted note) txn.now.parts)) }
+pub fn decide_noting(txn: &Txn, part: Part, note: &Note) -> Decision
+    ensures { result ≡ decision (map (λ p. p.answer) (changed_at part (noted note.now) txn.now.parts)) }
 {
     match txn.part(Part::local()) {
         Some(local) => Others::noting(txn, part, note).decide(local_answer(local, part, note)),
@@ -194,8 +201,8 @@ pub fn decide_noting(txn: &Txn, part: Part, note: Note) -> Decision
 }
 
 /// The answer of the local party then.
-fn local_answer(local: &Participant, part: Part, note: Note) -> Option<Ballot>
-    ensures { result ≡ (if part == 0 then noted note local.now else local.now).answer }
+fn local_answer(local: &Participant, part: Part, note: &Note) -> Option<Ballot>
+    ensures { result ≡ (if part == 0 then noted note.now local.now else local.now).answer }
 {
     if part.place() == 0 {
         note.answer(local)
@@ -251,7 +258,19 @@ fn add_pairs(pairs: &mut Vec<(Address, Id)>, parts: &[Participant]) -> Result<()
     ensures { OnOk result (pairs.new.items ≡ pairs.old.items ++ pairs_of parts.now) }
 {
     for part in parts {
-        add_pair(pairs, part, part.answer)?;
+        add_pair(pairs, part)?;
+    }
+    Ok(())
+}
+
+/// Adds a part, if it said yes and gave an identifier.
+fn add_pair(pairs: &mut Vec<(Address, Id)>, part: &Participant) -> Result<(), AllocError>
+    ensures { OnOk result (pairs.new.items ≡ pairs.old.items ++ pairs_of (part.now ∷ [])) }
+{
+    if let (Some(address), Some(id)) = (&part.address, &part.id)
+        && is_yes(part.answer)
+    {
+        pairs.push((address.copy()?, id.copy()?))?;
     }
     Ok(())
 }
@@ -265,21 +284,18 @@ fn add_pair_if_noted(
     ensures { OnOk result (pairs.new.items ≡ pairs.old.items ++ pairs_of (option_to_list noted.now)) }
 {
     match noted {
-        Some(noted) => add_pair(pairs, noted.participant, noted.answer()),
+        Some(noted) => add_noted(pairs, noted),
         None => Ok(()),
     }
 }
 
-/// Adds a part that gave this answer, if it said yes and gave an identifier.
-fn add_pair(
-    pairs: &mut Vec<(Address, Id)>,
-    part: &Participant,
-    answer: Option<Ballot>,
-) -> Result<(), AllocError>
-    ensures { OnOk result (pairs.new.items ≡ pairs.old.items ++ pairs_of (record part.now { answer = answer } ∷ [])) }
+/// Adds that part, if it said yes and gave an identifier.
+#[tactic(auto, using(crate::proofs::Subordinates::adding_one))]
+fn add_noted(pairs: &mut Vec<(Address, Id)>, noted: &Noted) -> Result<(), AllocError>
+    ensures { OnOk result (pairs.new.items ≡ pairs.old.items ++ pairs_of (noted.now ∷ [])) }
 {
-    if let (Some(address), Some(id)) = (&part.address, &part.id)
-        && is_yes(answer)
+    if let (Some(address), Some(id)) = (&noted.participant.address, noted.id())
+        && is_yes(noted.answer())
     {
         pairs.push((address.copy()?, id.copy()?))?;
     }

@@ -130,8 +130,8 @@ impl<'a> Outlook<'a> {
     }
 
     /// Once this is noted of a part.
-    pub fn noted(transaction: &'a Transaction, part: Part, note: Note) -> Outlook<'a>
-        ensures { result ≡ outlook (noting part (noted note) (seen transaction.now)) }
+    pub fn noted(transaction: &'a Transaction, part: Part, note: &'a Note) -> Outlook<'a>
+        ensures { result ≡ outlook (noting part (noted note.now) (seen transaction.now)) }
     {
         Outlook {
             transaction,

@@ -1,22 +1,24 @@
 //! Responses that we receive as the primary of a connection (RFC 2371, section 13).
-ghost use Rattle.std.specs.Prelude.{◌≡◌, ◌≤◌, ◌+◌, Some};
+ghost use Rattle.std.specs.Prelude.{◌≡◌, ◌≤◌, ◌+◌, Some, if◌then◌else◌};
 ghost use Rattle.tip_conn.specs.declared.state.Side.TheVariants.{Primary};
 ghost use Rattle.tip_table.specs.Kept.{StandsAt};
 ghost use Rattle.tip_machine.specs.Changes.{alter};
 ghost use Rattle.tip_machine.specs.Connections.{has_number};
 ghost use Rattle.tip_machine.specs.Requests.{hear};
-ghost use Rattle.tip_machine.specs.Responses.{go_on};
+ghost use Rattle.tip_line.specs.declared.response.Response.{Response as ASaid};
+ghost use Rattle.tip_machine.specs.Failing.{closed, wrong};
+ghost use Rattle.tip_machine.specs.Responses.{abort_as, go_on};
 ghost use Rattle.tip_machine.specs.Served.{today};
 ghost use Rattle.tip_machine.specs.States.{connection_of};
 ghost use Rattle.tip_machine.specs.Steps.{chosen};
 ghost use Rattle.tip_machine.specs.Transactions.{noting};
 ghost use Rattle.tip_machine.specs.Types.{Connection as AConnection};
 ghost use Rattle.tip_machine.specs.declared.event.Heard.TheVariants.{Response as AResponse};
-ghost use Rattle.tip_core.specs.Noting.{noted, noting_as};
+ghost use Rattle.tip_core.specs.Noting.{note_of, noted, noting_as, pulled_of, pulling, responding};
 ghost use Rattle.tip_core.specs.Works.{Does, IsIdle, lines_as, lines_at, work_of};
 
 use crate::making::Making;
-use crate::noting::{Note, asked_of, ends};
+use crate::noting::{Awaits, Note, ends, pulled_of};
 use crate::work::Work;
 use tip_line::{CommandName, Response, ResponseName};
 use tip_machine::{Connection, Role, Transaction};
@@ -24,23 +26,99 @@ use tip_rows::Key;
 use tip_txn::Part;
 
 impl Work<Connection, Transaction, Making> {
-    /// A response from the secondary: to what was asked of a part; else it is a wrong line.
-    #[tactic(auto, using(crate::proofs::Responses::hearing))]
+    /// A response from the secondary, by what is awaited.
     pub fn respond(&mut self, number: u32, place: usize, response: Response)
         requires stands { StandsAt self.old.connections self.old.realm (has_number number) place }
         requires lines { lines_at number (work_of self.old).state + 2 ≤ self.old.making.free }
         requires none { IsIdle self.old.making.answer }
         ensures { (connection : AConnection) → connection_of number (work_of self.old).state ≡ Some connection → Does self.old self.new (chosen (hear today Primary (AResponse response) connection (work_of self.old)) self.old.outcome) }
     {
-        let connection = self.connection(number, place);
-        let note = Note::of(&connection.awaited, &response);
-        let Some(command) = asked_of(&connection.awaited) else {
-            return self.reject(number, place);
-        };
-        match note {
-            Some(note) => self.note_as(number, place, command, response.name(), note),
-            None if ends(&response) => self.close(number, place),
-            None => self.reject(number, place),
+        match Awaits::of(&self.connection(number, place).awaited) {
+            Awaits::OfPart(command) => self.respond_as_part(number, place, command, response),
+            Awaits::Pulled => self.respond_to_pull(number, place, response),
+            Awaits::Nothing | Awaits::Identified | Awaits::Queried(_) => {
+                self.reject(number, place)
+            }
+        }
+    }
+
+    /// A response to what a part was asked.
+    fn respond_as_part(
+        &mut self,
+        number: u32,
+        place: usize,
+        command: CommandName,
+        response: Response,
+    )
+        requires stands { StandsAt self.old.connections self.old.realm (has_number number) place }
+        requires lines { lines_at number (work_of self.old).state + 2 ≤ self.old.making.free }
+        requires none { IsIdle self.old.making.answer }
+        ensures { (connection : AConnection) → connection_of number (work_of self.old).state ≡ Some connection → Does self.old self.new (chosen (responding (note_of connection.awaited response) command response connection (work_of self.old)) self.old.outcome) }
+    {
+        let name = response.name();
+        let ends = ends(&response);
+        match Note::of(&self.connection(number, place).awaited, response) {
+            Some(note) => self.note_as(number, place, command, name, note),
+            None => self.refuse_line(number, place, ends),
+        }
+    }
+
+    /// A response to PULL.
+    fn respond_to_pull(&mut self, number: u32, place: usize, response: Response)
+        requires stands { StandsAt self.old.connections self.old.realm (has_number number) place }
+        requires lines { lines_at number (work_of self.old).state + 2 ≤ self.old.making.free }
+        requires none { IsIdle self.old.making.answer }
+        ensures { (connection : AConnection) → connection_of number (work_of self.old).state ≡ Some connection → Does self.old self.new (chosen (pulling (pulled_of response) response connection (work_of self.old)) self.old.outcome) }
+    {
+        match pulled_of(&response) {
+            Some(pulled) => self.end_pull(number, place, pulled),
+            None => self.refuse_line(number, place, ends(&response)),
+        }
+    }
+
+    /// PULLED, or NOTPULLED: then the transaction is aborted.
+    #[tactic(auto, using(crate::proofs::Responses::ending_pull))]
+    fn end_pull(&mut self, number: u32, place: usize, pulled: bool)
+        requires stands { StandsAt self.old.connections self.old.realm (has_number number) place }
+        requires lines { lines_at number (work_of self.old).state + 2 ≤ self.old.making.free }
+        requires none { IsIdle self.old.making.answer }
+        ensures { (connection : AConnection) (said : ASaid) → connection_of number (work_of self.old).state ≡ Some connection → Does self.old self.new (chosen (pulling (Some pulled) said connection (work_of self.old)) self.old.outcome) }
+    {
+        if pulled {
+            self.go(number, place, CommandName::Pull, ResponseName::Pulled);
+            return;
+        }
+        let role = self.connection(number, place).role;
+        self.go(number, place, CommandName::Pull, ResponseName::NotPulled);
+        if let Some(role) = role {
+            self.abort_on(role);
+        }
+    }
+
+    /// The transaction is aborted that a connection of this role is on.
+    #[tactic(auto, using(crate::proofs::Works::may_idle))]
+    fn abort_on(&mut self, role: Role)
+        requires lines { lines_as (Some role) (work_of self.old).state ≤ self.old.making.free }
+        requires none { IsIdle self.old.making.answer }
+        ensures { Does self.old self.new (abort_as (Some role) (work_of self.old)) }
+    {
+        match role {
+            Role::Superior(key) => self.abort(key),
+            Role::Subordinate { key, part: _ } => self.abort(key),
+        }
+    }
+
+    /// A response that is none to what was asked: NEEDTLS and ERROR end the connection, any other is a wrong line.
+    fn refuse_line(&mut self, number: u32, place: usize, ends: bool)
+        requires stands { StandsAt self.old.connections self.old.realm (has_number number) place }
+        requires lines { lines_at number (work_of self.old).state + 2 ≤ self.old.making.free }
+        requires none { IsIdle self.old.making.answer }
+        ensures { (connection : AConnection) → connection_of number (work_of self.old).state ≡ Some connection → Does self.old self.new (if ends then closed connection (work_of self.old) else wrong connection (work_of self.old)) }
+    {
+        if ends {
+            self.close(number, place);
+        } else {
+            self.reject(number, place);
         }
     }
 
@@ -94,6 +172,7 @@ impl Work<Connection, Transaction, Making> {
             Note::Nothing => {}
             Note::Answered(answer) => self.note(key, place, part, answer),
             Note::Acknowledged => self.acknowledge(key, place, part),
+            Note::Named(id) => self.name_part(key, place, part, id),
         }
     }
 }

@@ -214,8 +214,8 @@ impl Work<Connection, Transaction, Making> {
         if !hears_responses(connection) {
             return Ok(None);
         }
-        match Note::of(&connection.awaited, response) {
-            Some(note) => self.wanted_once_noted(alloc, connection.role, note),
+        match Note::copied(&connection.awaited, response)? {
+            Some(note) => self.wanted_once_noted(alloc, connection.role, &note),
             None => Ok(None),
         }
     }
@@ -225,9 +225,9 @@ impl Work<Connection, Transaction, Making> {
         &self,
         alloc: Global,
         role: Option<Role>,
-        note: Note,
+        note: &Note,
     ) -> Result<Option<Change>, AllocError>
-        ensures { IfOk result (λ change. change ≡ wanted_of_part note (part_of role) (work_of self.now).state) }
+        ensures { IfOk result (λ change. change ≡ wanted_of_part note.now (part_of role) (work_of self.now).state) }
     {
         match role {
             Some(role) => self.wanted_on_role(alloc, role, note),
@@ -240,9 +240,9 @@ impl Work<Connection, Transaction, Making> {
         &self,
         alloc: Global,
         role: Role,
-        note: Note,
+        note: &Note,
     ) -> Result<Option<Change>, AllocError>
-        ensures { IfOk result (λ change. change ≡ wanted_of_part note (part_of (Some role)) (work_of self.now).state) }
+        ensures { IfOk result (λ change. change ≡ wanted_of_part note.now (part_of (Some role)) (work_of self.now).state) }
     {
         match role {
             Role::Subordinate { key, part } => self.wanted_noting(alloc, key, part, note),
@@ -256,9 +256,9 @@ impl Work<Connection, Transaction, Making> {
         alloc: Global,
         key: Key,
         part: Part,
-        note: Note,
+        note: &Note,
     ) -> Result<Option<Change>, AllocError>
-        ensures { IfOk result (λ change. change ≡ option_and_then (wanted_noting note part (work_of self.now).state) (transaction_of key (work_of self.now).state)) }
+        ensures { IfOk result (λ change. change ≡ option_and_then (wanted_noting note.now part (work_of self.now).state) (transaction_of key (work_of self.now).state)) }
     {
         let Some(place) = self.transaction(key) else {
             return Ok(None);

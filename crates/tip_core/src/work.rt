@@ -1,7 +1,7 @@
 //! What an event has done so far: the tables of all realms, and the answer in the making for the event of one of them.
 ghost use Rattle.std.specs.Prelude.{◌≡◌, ◌≢◌, ◌↔◌, ℕ, ◌+◌, ◌<◌, ◌≤◌, [], ◌∷◌, ◌++◌, length, map, None, Some, IfSome, IsSome, is_some};
 ghost use Rattle.std.specs.List.{find, list_any};
-ghost use Rattle.tip_txn.specs.Parts.{acknowledged, answer_at, answered, changed_at};
+ghost use Rattle.tip_txn.specs.Parts.{acknowledged, answer_at, answered, changed_at, named};
 ghost use Rattle.tip_table.specs.Kept.{StandsAt, item_at};
 ghost use Rattle.tip_machine.specs.Changes.{alter, end, tell};
 ghost use Rattle.tip_machine.specs.Connections.{is_on};
@@ -19,6 +19,7 @@ use crate::query::{Keyed, OnKey};
 use crate::reaction::{Progress, Reaction};
 use std::mem;
 use tip_branch::{Errand, HeldParty, Member};
+use tip_line::Id;
 use tip_machine::{Connection, Head, Item, Outcome, PartyPlace, Transaction};
 use tip_rows::Key;
 use tip_table::Table;
@@ -91,6 +92,15 @@ impl Work<Connection, Transaction, Making> {
     {
         let transaction = self.transactions.item_mut(place);
         acknowledge_part(&mut transaction.txn, part);
+    }
+
+    /// A part has the identifier that its subordinate gave, where there is such a part.
+    pub(crate) fn name_part(&mut self, key: Key, place: usize, part: Part, id: Id)
+        requires { StandsAt self.old.transactions self.old.realm (is_keyed key) place }
+        ensures { Does self.old self.new (alter key (noting part (named id)) (work_of self.old)) }
+    {
+        let transaction = self.transactions.item_mut(place);
+        give_name(&mut transaction.txn, part, id);
     }
 
     /// The transaction of a key is open no more.
@@ -242,6 +252,15 @@ fn acknowledge_part(txn: &mut Txn, part: Part)
 {
     if txn.part(part).is_some() {
         txn.acked(part);
+    }
+}
+
+/// A part gets an identifier, where there is such a part.
+fn give_name(txn: &mut Txn, part: Part, id: Id)
+    ensures { txn.new ≡ record txn.old { parts = changed_at part (named id) txn.old.parts } }
+{
+    if txn.part(part).is_some() {
+        txn.named(part, id);
     }
 }
 

@@ -13,21 +13,22 @@ pub record Serving : Type 0 where
   -- where connections are not dialled, a realm has none free to dial (Full), to push or to pull on (Busy)
   pub dials : Bool
 
--- what we ask of a part that came by PULL: to prepare, and to do as all have decided
-abbrev pub is_asked_of_parts : Option Awaited → Bool
-is_asked_of_parts None = false
-is_asked_of_parts (Some (Identify purpose)) = false
-is_asked_of_parts (Some Push) = false
-is_asked_of_parts (Some Pull) = false
-is_asked_of_parts (Some Prepare) = true
-is_asked_of_parts (Some Commit) = true
-is_asked_of_parts (Some Abort) = true
-is_asked_of_parts (Some (Query key)) = false
-is_asked_of_parts (Some Reconnect) = false
+-- the responses of connections that turned round, or went on: all but those to IDENTIFY and QUERY, with which a connection that
+-- we dialled begins
+abbrev pub is_heard : Option Awaited → Bool
+is_heard None = false
+is_heard (Some (Identify purpose)) = false
+is_heard (Some Push) = true
+is_heard (Some Pull) = true
+is_heard (Some Prepare) = true
+is_heard (Some Commit) = true
+is_heard (Some Abort) = true
+is_heard (Some (Query key)) = false
+is_heard (Some Reconnect) = true
 
 -- what is served today: every command, on connections that others open, and what parts answer there
 abbrev pub today : Serving
-today = record { commands = λ command. true; responses = is_asked_of_parts; dials = false }
+today = record { commands = λ command. true; responses = is_heard; dials = false }
 
 -- the whole machine
 abbrev pub everything : Serving
