@@ -1,1 +1,3 @@
 pub mod Denying
+pub mod Happening
+pub mod Walking
