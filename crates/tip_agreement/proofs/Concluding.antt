@@ -180,7 +180,7 @@ pairs_noted start (suc m) note (p ∷ parts) same = step (is_yes p.answer) (pair
 abbrev pub Unchanged : (Participant → Participant) → Type 0
 Unchanged note = (p : Participant) → ((note p).answer ≡ p.answer) × ((note p).address ≡ p.address) × ((note p).id ≡ p.id)
 
-same_pairs_noted : (m : ℕ) (note : Participant → Participant) (t : Transaction) → Unchanged note → pairs (noting (suc m) note t) ≡ pairs t
+pub same_pairs_noted : (m : ℕ) (note : Participant → Participant) (t : Transaction) → Unchanged note → pairs (noting (suc m) note t) ≡ pairs t
 same_pairs_noted m note t same = step t.parts where
   step : (parts : List Participant) → pairs (record t { parts = changed_at (suc m) note parts }) ≡ pairs (record t { parts = parts })
   step [] = refl

@@ -1,3 +1,5 @@
+pub mod Bases
 pub mod Denying
 pub mod Happening
+pub mod Keeping
 pub mod Walking

@@ -72,7 +72,7 @@ in_changed p f (y ∷ ys) x is = step (p y) is (in_changed p f ys x) where
   step false (inl same) later = inl (inl same)
   step false (inr is) later = elim (later is) [ inl there ↦ inl (inr there) | inr new ↦ inr new ]
 
--- PARTS: what each has said stays so, but that one may be lost; a new one has said nothing
+-- PARTS: what each has said stays so; one that has said nothing may be lost; a new one has said nothing
 
 abbrev pub is_unheard : Option Ballot → Bool
 is_unheard None = true
@@ -85,7 +85,7 @@ abbrev pub is_new : Participant → Bool
 is_new part = is_unheard part.answer && not part.acknowledged
 
 abbrev pub Stays : Participant → Participant → Type 0
-Stays old new = (new ≡ old) ⊎ (new ≡ answered Lost old)
+Stays old new = (new ≡ old) ⊎ ((old.answer ≡ None) × (new ≡ answered Lost old))
 
 abbrev pub Lasts : List Participant → List Participant → Type 0
 Lasts [] qs = list_all is_new qs ≡ true
@@ -98,7 +98,7 @@ lasts_same (p ∷ ps) = (inl refl, lasts_same ps)
 
 new_then : (p q : Participant) → is_new p ≡ true → Stays p q → is_new q ≡ true
 new_then p q new (inl same) = ap is_new same ∙ new
-new_then p q new (inr lost) = ap is_new lost ∙ (and_parts (is_unheard p.answer) (not p.acknowledged) new).1
+new_then p q new (inr lost) = ap is_new lost.1 ∙ (and_parts (is_unheard p.answer) (not p.acknowledged) new).1
 
 pub all_new : (ps qs : List Participant) → list_all is_new ps ≡ true → Lasts ps qs → list_all is_new qs ≡ true
 all_new [] qs new lasts = lasts
@@ -107,9 +107,9 @@ all_new (p ∷ ps) (q ∷ qs) new lasts = let parts = and_parts (is_new p) (list
 
 stays_then : (p q r : Participant) → Stays p q → Stays q r → Stays p r
 stays_then p q r (inl a) (inl b) = inl (b ∙ a)
-stays_then p q r (inl a) (inr b) = inr (b ∙ ap (answered Lost) a)
-stays_then p q r (inr a) (inl b) = inr (b ∙ a)
-stays_then p q r (inr a) (inr b) = inr (b ∙ ap (answered Lost) a)
+stays_then p q r (inl a) (inr b) = inr (sym (ap (λ (x : Participant). x.answer) a) ∙ b.0, b.1 ∙ ap (answered Lost) a)
+stays_then p q r (inr a) (inl b) = inr (a.0, b ∙ a.1)
+stays_then p q r (inr a) (inr b) = inr (a.0, b.1 ∙ ap (answered Lost) a.1)
 
 pub lasts_then : (ps qs rs : List Participant) → Lasts ps qs → Lasts qs rs → Lasts ps rs
 lasts_then [] qs rs first next = all_new qs rs first next
@@ -117,10 +117,10 @@ lasts_then (p ∷ ps) [] rs first next = absurd first
 lasts_then (p ∷ ps) (q ∷ qs) [] first next = absurd next
 lasts_then (p ∷ ps) (q ∷ qs) (r ∷ rs) first next = (stays_then p q r first.0 next.0, lasts_then ps qs rs first.1 next.1)
 
-lasts_lost : (m : ℕ) (ps : List Participant) → Lasts ps (changed_at m (answered Lost) ps)
-lasts_lost m [] = refl
-lasts_lost zero (p ∷ ps) = (inr refl, lasts_same ps)
-lasts_lost (suc m) (p ∷ ps) = (inl refl, lasts_lost m ps)
+lasts_lost : (m : ℕ) (ps : List Participant) → answer_at ps m ≡ None → Lasts ps (changed_at m (answered Lost) ps)
+lasts_lost m [] none = refl
+lasts_lost zero (p ∷ ps) none = (inr (none, refl), lasts_same ps)
+lasts_lost (suc m) (p ∷ ps) none = (inl refl, lasts_lost m ps none)
 
 pub lasts_more : (p : Participant) (ps : List Participant) → is_new p ≡ true → Lasts ps (ps ++ p ∷ [])
 lasts_more p [] new = and_from _ _ new refl
@@ -370,24 +370,28 @@ misses (Some (Superior key)) w = step (transaction_of key w.state) where
   step : (found : Option Transaction) → Walks w (on found (λ (t : Transaction). superior_lost t.phase key) w)
   step None = walks_same w
   step (Some t) = by_phase t.phase
-misses (Some (Subordinate key part)) w = step (transaction_of key w.state) where
-  loses : (t : Transaction) → Walks w (alter t.key (noting part (answered Lost)) w)
-  loses t = alters t.key (noting part (answered Lost)) w (λ u. (refl, lasts_lost part u.parts, refl))
+misses (Some (Subordinate key part)) w = step (transaction_of key w.state) refl where
+  loses : (t : Transaction) → transaction_of t.key w.state ≡ Some t → answer_at t.parts part ≡ None → Walks w (alter t.key (noting part (answered Lost)) w)
+  loses t found none = alters_found t.key (noting part (answered Lost)) w (alter t.key (noting part (answered Lost)) w) refl (inl refl) (λ u is. (refl, lasts_lost part u.parts (ap (λ (x : Transaction). answer_at x.parts part) (same_Some u t (sym is ∙ found)) ∙ none), inl refl))
 
-  unanswered : (t : Transaction) (b : Bool) → Walks w (cond b w (abort t.key (alter t.key (noting part (answered Lost)) w)))
-  unanswered t true = walks_same w
-  unanswered t false = let lost = alter t.key (noting part (answered Lost)) w in walks_then w lost (abort t.key lost) (loses t) (aborts_so t.key lost)
+  none_there : (answer : Option Ballot) → is_some answer ≡ false → answer ≡ None
+  none_there None is = refl
+  none_there (Some answer) is = absurd (cc)
 
-  by_phase : (phase : Phase) (t : Transaction) → Walks w (part_lost phase part t w)
-  by_phase Active t = unanswered t (is_some (answer_at t.parts part))
-  by_phase Asking t = unanswered t (is_some (answer_at t.parts part))
-  by_phase Prepared t = walks_same w
-  by_phase Committed t = walks_same w
-  by_phase Aborted t = aborts_so t.key w
+  unanswered : (t : Transaction) → transaction_of t.key w.state ≡ Some t → (b : Bool) → is_some (answer_at t.parts part) ≡ b → Walks w (cond b w (abort t.key (alter t.key (noting part (answered Lost)) w)))
+  unanswered t found true is = walks_same w
+  unanswered t found false is = let lost = alter t.key (noting part (answered Lost)) w in walks_then w lost (abort t.key lost) (loses t found (none_there (answer_at t.parts part) is)) (aborts_so t.key lost)
 
-  step : (found : Option Transaction) → Walks w (on found (λ (t : Transaction). part_lost t.phase part t) w)
-  step None = walks_same w
-  step (Some t) = by_phase t.phase t
+  by_phase : (phase : Phase) (t : Transaction) → transaction_of t.key w.state ≡ Some t → Walks w (part_lost phase part t w)
+  by_phase Active t found = unanswered t found (is_some (answer_at t.parts part)) refl
+  by_phase Asking t found = unanswered t found (is_some (answer_at t.parts part)) refl
+  by_phase Prepared t found = walks_same w
+  by_phase Committed t found = walks_same w
+  by_phase Aborted t found = aborts_so t.key w
+
+  step : (found : Option Transaction) → transaction_of key w.state ≡ found → Walks w (on found (λ (t : Transaction). part_lost t.phase part t) w)
+  step None is = walks_same w
+  step (Some t) is = by_phase t.phase t (there_by_key key w.state.transactions t is)
 
 pub fails : (c : Connection) (w : Work) → Walks w (fail c w)
 unfolding fail gone
