@@ -1,41 +1,33 @@
 -- What each rule begins with, where all is shown so far: an event, what a part has said, and a party that is here again.
-use Rattle.std.proofs.Common.{◌≡◌, Bool, true, false, ℕ, zero, suc, ◌+◌, List, [], ◌∷◌, ◌++◌, Option, Some, None, cond, refl, ap, subst, sym, ◌∙◌, ◌⊎◌, inl, inr}
-use Rattle.std.specs.Prelude.{◌&&◌, ◌||◌, ◌==◌, filter, find, is_some, map, not, slice_get}
-use Rattle.std.specs.List.{list_all, list_any}
-use Rattle.std.specs.Option.{option_and_then, option_map_or}
+use Rattle.std.proofs.Common.{◌≡◌, true, ℕ, List, [], ◌∷◌, Some, refl, ap, subst, sym, ◌∙◌, inl, inr}
+use Rattle.std.specs.Prelude.{◌&&◌, ◌==◌}
+use Rattle.std.specs.List.{list_all}
 use Rattle.std.specs.Str.{bytes_eq}
-use Rattle.std.proofs.lemmas.Bool.{and_from, and_parts, both_ways, cases_Bool, not-true, or_cases, or_left, or_parts, or_right}
-use Rattle.std.proofs.lemmas.Option.{none-some, same_Some}
+use Rattle.std.proofs.lemmas.Bool.{and_parts}
 use Rattle.tip_branch.specs.Notes.{PartyNotes}
-use Rattle.tip_branch.specs.declared.member.Errand.{Errand}
-use Rattle.tip_branch.specs.declared.member.Errand.TheVariants as errand
 use Rattle.tip_rows.specs.Keys.{Key, is_same}
 use Rattle.tip_rows.specs.Logs.{row_at}
 use Rattle.tip_rows.specs.declared.row.Row.{Row}
 use Rattle.tip_rows.specs.declared.row.Row.TheVariants as row
 use Rattle.tip_rows.proofs.MemoryLemmas.{same_text}
 use Rattle.tip_table.specs.Lists.{changed}
-use Rattle.tip_txn.specs.Parts.{answered, changed_at}
-use Rattle.tip_txn.specs.declared.answer.Ballot.{Ballot}
 use Rattle.tip_txn.specs.declared.answer.Phase.{Phase}
 use Rattle.tip_txn.specs.declared.answer.Phase.TheVariants.{Active, Asking, Prepared, Committed, Aborted}
-use Rattle.tip_txn.specs.declared.part.Participant.{Participant}
 use Rattle.tip_machine.specs.Agreement.Traces.{Moment}
 use Rattle.tip_machine.specs.Answers.{identifier}
 use Rattle.tip_machine.specs.Changes.{alter}
 use Rattle.tip_machine.specs.Invariants.{IsSound}
 use Rattle.tip_machine.specs.Invariants.Bounds.{is_spelled}
 use Rattle.tip_machine.specs.Invariants.Links.{are_distinct}
-use Rattle.tip_machine.specs.Invariants.Parties.{are_out, is_due, is_its_own, is_of_this_start}
+use Rattle.tip_machine.specs.Invariants.Parties.{is_due, is_its_own}
 use Rattle.tip_machine.specs.Invariants.Phases.{is_transaction}
 use Rattle.tip_machine.specs.Invariants.Stored.{are_same_pairs, is_stored_as}
 use Rattle.tip_machine.specs.Moves.{World}
-use Rattle.tip_machine.specs.States.{State, Work, transaction_of}
+use Rattle.tip_machine.specs.States.{Work, transaction_of}
 use Rattle.tip_machine.specs.Steps.{entered}
 use Rattle.tip_machine.specs.Transactions.{has_id, has_key, pairs}
 use Rattle.tip_machine.specs.Types.{PartyPlace, Transaction}
 use Rattle.tip_machine.specs.declared.transaction.PartyPlace.TheVariants.{Here, Out}
-use Rattle.tip_machine.proofs.Walks.{there_by_key}
 use Rattle.tip_agreement.proofs.Apart.{all_changed}
 use Rattle.tip_agreement.proofs.Bounded.{in_bounds}
 use Rattle.tip_agreement.proofs.Keys.{keys_changed, keys_of}
@@ -144,8 +136,8 @@ base_altered realm moments now w errands fewer rows key f same sub base may = re
   shown = λ u there. each (λ u. list_all (is_shown realm moments (identifier realm u.key)) u.parts ≡ true) u (base.shown u) (λ t found. subst (λ k. list_all (is_shown realm moments (identifier realm k)) (f t).parts ≡ true) (sym (same t)) (may t found).shown) there;
   cared = λ u there. each (λ u. (branches : List (ℕ × List ℕ)) (subs : List (List ℕ × List ℕ)) → row_at u.key rows ≡ Some (row.Committed branches subs) → Cares realm moments now fewer (identifier realm u.key) u.place branches) u (λ is branches subs at. cares_fewer realm moments now errands fewer (identifier realm u.key) u.place branches sub (base.cared u is branches subs at)) (λ t found branches subs at. subst (λ k. Cares realm moments now fewer (identifier realm k) (f t).place branches) (sym (same t)) ((may t found).cared branches subs (ap (λ k. row_at k rows) (sym (same t)) ∙ at))) there;
   pairs_so = λ u there. each (λ u. (branches : List (ℕ × List ℕ)) (subs : List (List ℕ × List ℕ)) → row_at u.key rows ≡ Some (row.Committed branches subs) → (subs ≡ pairs u) × (u.phase ≡ Committed)) u (base.pairs_so u) (λ t found branches subs at.
-    let old = base.pairs_so t (in_found (has_key key) w.state.transactions t found) branches subs (ap (λ k. row_at k rows) (sym (same t)) ∙ at) in
-    (old.0 ∙ sym ((may t found).pairs_so old.1), (may t found).phase ∙ old.1)) there;
+      let old = base.pairs_so t (in_found (has_key key) w.state.transactions t found) branches subs (ap (λ k. row_at k rows) (sym (same t)) ∙ at) in
+      (old.0 ∙ sym ((may t found).pairs_so old.1), (may t found).phase ∙ old.1)) there;
 } where
   each : (P : Transaction → Type 0) (u : Transaction) → (In u w.state.transactions → P u) → ((t : Transaction) → transaction_of key w.state ≡ Some t → P (f t)) → In u (changed (has_key key) f w.state.transactions) → P u
   each P u old new there = elim (in_changed (has_key key) f w.state.transactions u there) [

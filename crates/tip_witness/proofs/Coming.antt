@@ -1,14 +1,14 @@
 -- A party is here again: each branch in the row that waited to be told waits still, or has done what it was told.
 use Rattle.std.proofs.Common.{◌≡◌, Bool, true, false, ℕ, List, [], ◌∷◌, ◌++◌, Option, Some, None, cond, refl, ap, subst, sym, ◌∙◌, ◌⊎◌, inl, inr}
-use Rattle.std.specs.Prelude.{◌&&◌, ◌||◌, ◌==◌, filter, filter_map, flat_map, map, not, option_map}
+use Rattle.std.specs.Prelude.{◌&&◌, ◌==◌, filter, filter_map, not, option_map}
 use Rattle.std.specs.List.{cons_option, list_all, list_any}
 use Rattle.std.specs.Option.{option_map_or}
 use Rattle.std.specs.Str.{bytes_eq}
-use Rattle.std.proofs.lemmas.Bool.{and_from, and_parts, both_ways, cases_Bool, not-true, or_cases, or_left, or_parts, or_right}
+use Rattle.std.proofs.lemmas.Bool.{and_from, and_parts, both_ways, not-true, or_cases, or_left, or_right}
 use Rattle.std.proofs.lemmas.List.Folds.{list_any-append}
 use Rattle.std.proofs.lemmas.List.Concat.{flat_map-append}
 use Rattle.std.proofs.lemmas.List.{append-nil}
-use Rattle.std.proofs.lemmas.Option.{none-some, same_Some}
+use Rattle.std.proofs.lemmas.Option.{same_Some}
 use Rattle.tip_branch.specs.Members.{committing, is_active, is_no, is_ready, voting}
 use Rattle.tip_branch.specs.Notes.{PartyNotes}
 use Rattle.tip_branch.specs.declared.branch.Settled.{Settled}
@@ -20,9 +20,7 @@ use Rattle.tip_branch.specs.declared.member.Call.{Call}
 use Rattle.tip_branch.specs.declared.member.Errand.{Errand}
 use Rattle.tip_branch.specs.declared.member.Errand.TheVariants as errand
 use Rattle.tip_branch.specs.declared.member.Member.{Member}
-use Rattle.tip_rows.specs.Keys.{Key, is_same}
 use Rattle.tip_rows.specs.Logs.{row_at}
-use Rattle.tip_rows.specs.declared.row.Row.{Row}
 use Rattle.tip_rows.specs.declared.row.Row.TheVariants as row
 use Rattle.tip_rows.proofs.MemoryLemmas.{bytes_eq-self, same_text}
 use Rattle.tip_txn.specs.Parts.{answered, changed_at}
@@ -40,7 +38,7 @@ use Rattle.tip_machine.specs.Moves.{World}
 use Rattle.tip_machine.specs.Outputs.{Output, calls_of}
 use Rattle.tip_machine.specs.Requests.{owner}
 use Rattle.tip_machine.specs.Returns.{Back, back_of, called, settled_by, voted_by}
-use Rattle.tip_machine.specs.States.{State, Work, transaction_of}
+use Rattle.tip_machine.specs.States.{Work, transaction_of}
 use Rattle.tip_machine.specs.Steps.{entered}
 use Rattle.tip_machine.specs.Transactions.{has_key, noting, pairs, party_answer, standing_at}
 use Rattle.tip_machine.specs.Types.{PartyPlace, Transaction}
@@ -49,11 +47,10 @@ use Rattle.tip_agreement.proofs.Apart.{all_more}
 use Rattle.tip_agreement.proofs.Errands.{first_due}
 use Rattle.tip_agreement.proofs.Events.{entered_whole}
 use Rattle.tip_agreement.proofs.Moving.{due_awaited, sound_whole}
-use Rattle.tip_agreement.proofs.Owned.{key_found}
 use Rattle.tip_agreement.proofs.Returned.{awaited_at, out_to_abort, owner_found, owns, said_at}
 use Rattle.tip_witness.proofs.Bases.{Alters, base_altered, base_entered, fits_row, stored_committed}
 use Rattle.tip_witness.proofs.Happening.{again}
-use Rattle.tip_witness.proofs.Keeping.{AreCared, AreShown, Base, Cares, has_done, is_cared, is_shown, waits_among}
+use Rattle.tip_witness.proofs.Keeping.{AreCared, AreShown, Base, has_done, is_cared, is_shown, waits_among}
 use Rattle.tip_witness.proofs.Walking.{In, in_found}
 
 -- A BRANCH IS TOLD
@@ -241,22 +238,22 @@ module _ (world : World) (sound : IsSound world) (party : PartyNotes) (rest : Li
   base_again = step e where
     answered_one : Base realm all now (alter t.key (noting 0 (answered (party_answer (back_of party back)))) (alter t.key (standing_at (Here (back_of party back))) (entered world.state))) rest world.rows
     answered_one = base_altered realm all now (alter t.key (standing_at (Here (back_of party back))) (entered world.state)) rest rest world.rows t.key (noting 0 (answered (party_answer (back_of party back)))) (λ u. refl) (λ p is. is) here_again (λ u is.
-      let there = in_found (has_key t.key) (alter t.key (standing_at (Here (back_of party back))) (entered world.state)).state.transactions u is in
-      record {
-        own = λ p here. here_again.own u p there here;
-        free = λ p here. here_again.free u p there here;
-        shown = first_shown u u.parts (here_again.shown u there);
-        cared = here_again.cared u there;
-        pairs_so = λ committed. pairs_stay u u.parts;
-        phase = refl;
-      }) where
-        first_shown : (u : Transaction) (parts : List Participant) → list_all (is_shown realm all (identifier realm u.key)) parts ≡ true → list_all (is_shown realm all (identifier realm u.key)) (changed_at 0 (answered (party_answer (back_of party back))) parts) ≡ true
-        first_shown u [] is = is
-        first_shown u (p ∷ parts) is = is
+        let there = in_found (has_key t.key) (alter t.key (standing_at (Here (back_of party back))) (entered world.state)).state.transactions u is in
+        record {
+          own = λ p here. here_again.own u p there here;
+          free = λ p here. here_again.free u p there here;
+          shown = first_shown u u.parts (here_again.shown u there);
+          cared = here_again.cared u there;
+          pairs_so = λ committed. pairs_stay u u.parts;
+          phase = refl;
+        }) where
+          first_shown : (u : Transaction) (parts : List Participant) → list_all (is_shown realm all (identifier realm u.key)) parts ≡ true → list_all (is_shown realm all (identifier realm u.key)) (changed_at 0 (answered (party_answer (back_of party back))) parts) ≡ true
+          first_shown u [] is = is
+          first_shown u (p ∷ parts) is = is
 
-        pairs_stay : (u : Transaction) (parts : List Participant) → pairs (record u { parts = changed_at 0 (answered (party_answer (back_of party back))) parts }) ≡ pairs (record u { parts = parts })
-        pairs_stay u [] = refl
-        pairs_stay u (p ∷ parts) = refl
+          pairs_stay : (u : Transaction) (parts : List Participant) → pairs (record u { parts = changed_at 0 (answered (party_answer (back_of party back))) parts }) ≡ pairs (record u { parts = parts })
+          pairs_stay u [] = refl
+          pairs_stay u (p ∷ parts) = refl
 
     step : (e : Errand) → Base realm all now (again e (back_of party back) t (entered world.state)) rest world.rows
     step errand.Vote = answered_one

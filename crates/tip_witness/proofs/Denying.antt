@@ -354,7 +354,7 @@ module _ (serving : Serving) (world : World) (sound : IsSound world) (id : List 
 abbrev pub is_undenied : List ℕ → List ℕ → List Moment → Moment → Bool
 is_undenied realm id before moment = not (is_denied realm id moment) || is_none (row_in realm id moment.world.rows)
 
-moved_undenied : (serving : Serving) (move : Move) (world : World) (id : List ℕ) (before : List Moment) → IsSound world → is_undenied world.state.head.name id before (record { world = world; move = move; shown = (moved serving move world).shown; after = (moved serving move world).world }) ≡ true
+pub moved_undenied : (serving : Serving) (move : Move) (world : World) (id : List ℕ) (before : List Moment) → IsSound world → is_undenied world.state.head.name id before (record { world = world; move = move; shown = (moved serving move world).shown; after = (moved serving move world).world }) ≡ true
 moved_undenied serving move world id before sound = step (row_in world.state.head.name id world.rows) refl where
   denied : Bool
   denied = is_denied world.state.head.name id (record { world = world; move = move; shown = (moved serving move world).shown; after = (moved serving move world).world })

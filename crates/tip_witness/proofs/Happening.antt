@@ -31,19 +31,19 @@ use Rattle.tip_txn.specs.declared.answer.Ballot.TheVariants as answer
 use Rattle.tip_txn.specs.declared.answer.Phase.{Phase}
 use Rattle.tip_txn.specs.declared.answer.Phase.TheVariants as phase
 use Rattle.tip_txn.specs.declared.part.Participant.{Participant}
-use Rattle.tip_machine.specs.Changes.{alter, attempt_on, change, refuse, reply, send, tell}
+use Rattle.tip_machine.specs.Changes.{alter, attempt_on, change, refuse, reply, send}
 use Rattle.tip_machine.specs.Commands.{begin, commanded, decide_abort, decide_commit, identify, make, obey, prepare, pull, pull_into, push, push_new, query, reconnect, reconnect_to, serve, serve_if, superior_role, take_over}
-use Rattle.tip_machine.specs.Connections.{advanced, identified, is_free, is_superior_of, may_take, owing, taking}
+use Rattle.tip_machine.specs.Connections.{is_free, is_superior_of, may_take, owing, taking}
 use Rattle.tip_machine.specs.Failing.{closed, wrong}
 use Rattle.tip_machine.specs.Honest.{brings_no_party}
-use Rattle.tip_machine.specs.Proceeding.{abort, ask, commit, dispatch, finish, proceed}
-use Rattle.tip_machine.specs.Requests.{added, ask_pull, ask_push, dial, hear, line, lost, opened, owner, pull_if, pull_new, push_part, resume, resume_in, settled, settled_for, strange, voted, voted_for}
+use Rattle.tip_machine.specs.Proceeding.{abort, ask, dispatch, finish, proceed}
+use Rattle.tip_machine.specs.Requests.{added, ask_pull, ask_push, dial, hear, line, lost, opened, owner, pull_if, push_part, resume, resume_in, settled, settled_for, strange, voted, voted_for}
 use Rattle.tip_machine.specs.Responses.{abort_as, answered_by, ask_superior, go_on, greeted, is_in_doubt, is_owed_commit, note_as, presume_abort, proceed_as, pursue, query_for, reach, reach_by, reconnect_for, responded}
 use Rattle.tip_machine.specs.Returns.{Back, back_from, back_of, event_of}
 use Rattle.tip_machine.specs.Served.{Serving}
-use Rattle.tip_machine.specs.States.{Attempt, State, Work, has_place, has_room, identified_by, seated, transaction_of}
-use Rattle.tip_machine.specs.Steps.{attempt, key_changed}
-use Rattle.tip_machine.specs.Transactions.{begun, enlisting, has_id, has_key, has_ready, is_active, is_committed, is_done, is_known, is_prepared, next_key, noting, party_answer, row_committed, standing_at, subordinate_of}
+use Rattle.tip_machine.specs.States.{Attempt, Work, has_place, has_room, identified_by, seated, transaction_of}
+use Rattle.tip_machine.specs.Steps.{attempt}
+use Rattle.tip_machine.specs.Transactions.{begun, enlisting, has_id, has_key, has_ready, is_active, is_committed, is_done, is_known, is_prepared, next_key, noting, party_answer, standing_at, subordinate_of}
 use Rattle.tip_machine.specs.Transactions.{is_decided_at}
 use Rattle.tip_machine.specs.Types.{Connection, Event, PartyPlace, Transaction}
 use Rattle.tip_machine.specs.declared.answer.Asked.TheVariants as asked
@@ -56,7 +56,7 @@ use Rattle.tip_machine.specs.declared.connection.Purpose.TheVariants as purpose
 use Rattle.tip_machine.specs.declared.connection.Role.{Role}
 use Rattle.tip_machine.specs.declared.connection.Role.TheVariants.{Superior, Subordinate}
 use Rattle.tip_machine.specs.declared.event.Change.{Change}
-use Rattle.tip_machine.specs.declared.event.Change.TheVariants.{Put, Remove}
+use Rattle.tip_machine.specs.declared.event.Change.TheVariants.{Remove}
 use Rattle.tip_machine.specs.declared.event.Event.TheVariants.{AskPull, AskPush, Dial, Line, Lost, Open, Resume, Settled, Voted}
 use Rattle.tip_machine.specs.declared.event.Heard.{Heard}
 use Rattle.tip_machine.specs.declared.event.Heard.TheVariants.{Command as ACommand, Response as AResponse}
@@ -64,11 +64,11 @@ use Rattle.tip_machine.specs.declared.event.Seat.{Seat}
 use Rattle.tip_machine.specs.declared.transaction.Origin.{Origin}
 use Rattle.tip_machine.specs.declared.transaction.Origin.TheVariants as origin
 use Rattle.tip_machine.specs.declared.transaction.PartyPlace.TheVariants.{Here, Out, Spent}
-use Rattle.tip_machine.proofs.Walks.{found_passes, there_by_key}
+use Rattle.tip_machine.proofs.Walks.{there_by_key}
 use Rattle.tip_agreement.proofs.Around.{Whole}
 use Rattle.tip_agreement.proofs.Reaching.{only_prepared}
 use Rattle.tip_agreement.proofs.Sound.{found_by}
-use Rattle.tip_witness.proofs.Walking.{Asked, In, ProceedsSo, Walks, aborts_so, alters, asks_so, closes, commits_so, dispatches, fails, finishes, goes_wrong, in_found, lasts_more, lasts_same, misses, proceeds_after, proceeds_so, walks_beside, walks_same, walks_then}
+use Rattle.tip_witness.proofs.Walking.{Asked, In, ProceedsSo, Walks, aborts_so, alters, asks_so, closes, commits_so, dispatches, fails, finishes, goes_wrong, in_found, lasts_more, proceeds_after, proceeds_so, walks_beside, walks_same, walks_then}
 
 -- WHAT AN EVENT COMES TO
 
@@ -116,10 +116,14 @@ ends_aside w u (Attempt.Done v) is (inr made) = inr (record {
   work = made.work ∙ is.work;
   room = subst (λ h. nat_le (length h.branches) (length made.connection.boxes) ≡ true) is.head made.room;
 })
-ends_aside w u (Attempt.Asks change stored refused) is goes = (walks_then w u stored (walks_aside w u is) goes.0, walks_then w u refused (walks_aside w u is) goes.1, elim goes.2 [
-  | inl asked ↦ inl (asked_aside w u change is asked)
-  | inr doubted ↦ inr (record { transaction = doubted.transaction; there = subst (In doubted.transaction) is.transactions doubted.there; doubt = doubted.doubt; is = doubted.is })
-])
+ends_aside w u (Attempt.Asks change stored refused) is goes = (
+  walks_then w u stored (walks_aside w u is) goes.0,
+  walks_then w u refused (walks_aside w u is) goes.1,
+  elim goes.2 [
+    | inl asked ↦ inl (asked_aside w u change is asked)
+    | inr doubted ↦ inr (record { transaction = doubted.transaction; there = subst (In doubted.transaction) is.transactions doubted.there; doubt = doubted.doubt; is = doubted.is })
+  ],
+)
 
 either_so : (w : Work) (b : Bool) (this that : Attempt) → EndsSo w this → EndsSo w that → EndsSo w (cond b this that)
 either_so w true this that e f = e
@@ -565,9 +569,12 @@ module _ (w : Work) (whole : Whole w.state) where
     step : (b : Bool) → HappensSo (Line seat heard) w (cond b (hear serving c.side heard c w) (Attempt.Done (refuse Busy w)))
     step false = inl (record { goes = refused_so w Busy; wrongly = λ other said is d there key part awaited note on waits so. inr refl })
     step true = elim (hears c w serving c.side heard) [
-      | inl plain ↦ inl (record { goes = plain.goes; wrongly = λ other said is d there key part awaited note on waits so.
-          let same = same_connection other said is d there in
-          inl (plain.wrongly said (ap (heard_in_event heard) is) key part awaited note (ap (λ (x : Connection). x.role) same ∙ on) (ap (λ (x : Connection). x.awaited) same ∙ waits) so ∙ ap (λ x. Attempt.Done (wrong x w)) same) })
+      | inl plain ↦ inl (record {
+        goes = plain.goes;
+        wrongly = λ other said is d there key part awaited note on waits so.
+            let same = same_connection other said is d there in
+            inl (plain.wrongly said (ap (heard_in_event heard) is) key part awaited note (ap (λ (x : Connection). x.role) same ∙ on) (ap (λ (x : Connection). x.awaited) same ∙ waits) so ∙ ap (λ x. Attempt.Done (wrong x w)) same);
+      })
       | inr noted ↦ inr (record { seat = seat; line = heard; is = refl; connection = c; there = at; noted = noted })
     ]
 

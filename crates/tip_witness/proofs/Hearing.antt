@@ -1,5 +1,5 @@
 -- A part has said something: what is noted of it is shown.
-use Rattle.std.proofs.Common.{◌≡◌, Bool, true, false, ℕ, zero, suc, ◌+◌, List, [], ◌∷◌, ◌++◌, Option, Some, None, cond, refl, ap, subst, sym, arith, ◌∙◌, inl, inr}
+use Rattle.std.proofs.Common.{◌≡◌, Bool, true, false, ℕ, zero, suc, ◌+◌, List, [], ◌∷◌, ◌++◌, Option, Some, None, cond, refl, ap, subst, sym, arith, ◌∙◌}
 use Rattle.std.specs.Prelude.{◌&&◌, ◌||◌, find, is_none, not, slice_get}
 use Rattle.std.specs.List.{list_all, list_any}
 use Rattle.std.specs.Option.{option_and_then, option_map_or}
@@ -13,7 +13,6 @@ use Rattle.tip_conn.specs.declared.state.State.{State as ConnectionState}
 use Rattle.tip_line.specs.declared.response.Response.{Response}
 use Rattle.tip_line.specs.declared.response.Response.TheVariants as responses
 use Rattle.tip_rows.specs.Keys.{Key}
-use Rattle.tip_rows.specs.declared.row.Row.{Row}
 use Rattle.tip_rows.proofs.MemoryLemmas.{bytes_eq-self}
 use Rattle.tip_txn.specs.Parts.{acknowledged, changed_at, is_pair, is_text}
 use Rattle.tip_txn.specs.declared.answer.Ballot.{Ballot}
@@ -30,14 +29,14 @@ use Rattle.tip_machine.specs.Invariants.Links.{Link, acts_as, link}
 use Rattle.tip_machine.specs.Invariants.Links.Link.{Awaits}
 use Rattle.tip_machine.specs.Invariants.Phases.{is_part, is_part_in, is_party, is_transaction, may_have_acknowledged}
 use Rattle.tip_machine.specs.Moves.{World}
-use Rattle.tip_machine.specs.States.{State, Work, connection_of, identified_by, transaction_of}
+use Rattle.tip_machine.specs.States.{Work, connection_of, identified_by, transaction_of}
 use Rattle.tip_machine.specs.Steps.{entered}
 use Rattle.tip_machine.specs.Transactions.{has_key, noting, pair_of, pairs}
 use Rattle.tip_machine.specs.Types.{Connection, PartyPlace, Transaction}
 use Rattle.tip_machine.specs.declared.connection.Awaited.{Awaited}
 use Rattle.tip_machine.specs.declared.connection.Awaited.TheVariants.{Commit, Prepare, Push, Reconnect}
 use Rattle.tip_machine.specs.declared.connection.Role.{Role}
-use Rattle.tip_machine.specs.declared.connection.Role.TheVariants.{Superior, Subordinate}
+use Rattle.tip_machine.specs.declared.connection.Role.TheVariants.{Subordinate}
 use Rattle.tip_agreement.proofs.Answering.{PartOf, is_partly, link_now, never_asked, never_pushed, part_now}
 use Rattle.tip_agreement.proofs.Around.{Whole}
 use Rattle.tip_agreement.proofs.Bounded.{found_by_id, in_bounds}
@@ -46,7 +45,7 @@ use Rattle.tip_agreement.proofs.Concluding.{same_pairs_noted}
 use Rattle.tip_agreement.proofs.Events.{entered_whole}
 use Rattle.tip_agreement.proofs.Moving.{sound_whole}
 use Rattle.tip_agreement.proofs.Owned.{have_parts, in_phase, key_found, parts_from}
-use Rattle.tip_witness.proofs.Bases.{Alters, base_altered, base_entered, there}
+use Rattle.tip_witness.proofs.Bases.{base_altered, base_entered, there}
 use Rattle.tip_witness.proofs.Happening.{note_of}
 use Rattle.tip_witness.proofs.Keeping.{AreCared, AreShown, Base, in_all, is_shown}
 use Rattle.tip_witness.proofs.Walking.{In, in_found}

@@ -1,11 +1,11 @@
 -- What is shown of each committed transaction: who has acknowledged was heard to, and each branch in its row has done what it was
 -- told, or waits with the party to be told.
 use Rattle.std.proofs.Common.{◌≡◌, Bool, true, false, ℕ, ◌+◌, List, [], ◌∷◌, ◌++◌, Option, Some, None, cond, refl, ap, subst, sym, ◌∙◌, ◌⊎◌, inl, inr}
-use Rattle.std.specs.Prelude.{◌&&◌, ◌||◌, ◌==◌, drop, filter, find, flat_map, is_some, map, not}
+use Rattle.std.specs.Prelude.{◌&&◌, ◌||◌, ◌==◌, drop, filter, find, flat_map, map, not}
 use Rattle.std.specs.List.{list_all, list_any}
 use Rattle.std.specs.Option.{option_to_list}
 use Rattle.std.specs.Str.{bytes_eq}
-use Rattle.std.proofs.lemmas.Bool.{and_from, and_parts, both_ways, cases_Bool, not-true, or_cases, or_left, or_parts, or_right}
+use Rattle.std.proofs.lemmas.Bool.{and_from, and_parts, both_ways, not-true, or_cases, or_left, or_parts, or_right}
 use Rattle.std.proofs.lemmas.List.Concat.{flat_map-append}
 use Rattle.std.proofs.lemmas.List.Folds.{list_all-append, list_any-append}
 use Rattle.std.proofs.lemmas.Option.{none-some, same_Some}
@@ -31,9 +31,9 @@ use Rattle.tip_machine.specs.Invariants.Bounds.{is_spelled}
 use Rattle.tip_machine.specs.Invariants.Links.{are_distinct}
 use Rattle.tip_machine.specs.Invariants.Stored.{is_stored_as}
 use Rattle.tip_machine.specs.Moves.{rows_after}
-use Rattle.tip_machine.specs.States.{Attempt, State, Work, transaction_of}
+use Rattle.tip_machine.specs.States.{Attempt, Work}
 use Rattle.tip_machine.specs.Steps.{chosen, key_changed, wanted}
-use Rattle.tip_machine.specs.Transactions.{begun, has_key, has_ready, is_done, is_spent, members_at, pair_of, pairs, promised, subordinates, willing_from}
+use Rattle.tip_machine.specs.Transactions.{has_key, has_ready, is_spent, members_at, pair_of, pairs, promised, subordinates, willing_from}
 use Rattle.tip_machine.specs.Types.{PartyPlace, Transaction}
 use Rattle.tip_machine.specs.declared.event.Change.{Change}
 use Rattle.tip_machine.specs.declared.event.Change.TheVariants.{Put, Remove}
@@ -48,7 +48,7 @@ use Rattle.tip_agreement.proofs.Owned.{key_found}
 use Rattle.tip_agreement.proofs.Rows.{stored_at}
 use Rattle.tip_agreement.proofs.Spelling.{keys_told}
 use Rattle.tip_witness.proofs.Happening.{Doubted, EndsSo, Made}
-use Rattle.tip_witness.proofs.Walking.{Asked, In, Lasts, Leaves, Sent, Walks, Was, in_found, is_new, is_unheard}
+use Rattle.tip_witness.proofs.Walking.{Asked, In, Lasts, Leaves, Walks, in_found, is_new, is_unheard}
 
 -- Lists
 
@@ -326,6 +326,11 @@ pub record Base (realm : List ℕ) (moments : List Moment) (now : ℕ) (w : Work
   -- a transaction with a committed row is committed, and the row has its subordinates
   pub pairs_so : (t : Transaction) → In t w.state.transactions → (branches : List (ℕ × List ℕ)) (subs : List (List ℕ × List ℕ)) → row_at t.key rows ≡ Some (row.Committed branches subs) → (subs ≡ pairs t) × (t.phase ≡ phase.Committed)
 
+-- each branch of a row has done what it was told, and each subordinate has acknowledged
+pub record Finished (realm : List ℕ) (moments : List Moment) (key : Key) (branches : List (ℕ × List ℕ)) (subs : List (List ℕ × List ℕ)) : Type 0 where
+  pub done : list_all (has_done realm moments (identifier realm key)) branches ≡ true
+  pub heard : list_all (λ pair. list_any (has_acknowledged realm (identifier realm key) pair) moments) subs ≡ true
+
 module _ (realm : List ℕ) (moments : List Moment) (now : ℕ) (w : Work) (errands : List PartyNotes) (rows : List (Key × Row)) (base : Base realm moments now w errands rows) where
   same_one : (t u : Transaction) → In t w.state.transactions → In u w.state.transactions → t.key ≡ u.key → t ≡ u
   same_one = in_apart w.state.transactions base.apart
@@ -431,9 +436,6 @@ module _ (realm : List ℕ) (moments : List Moment) (now : ℕ) (w : Work) (erra
   ends_cared (Attempt.Asks change v refused) NoChange goes stored = walked_cared refused goes.1
 
   -- WHAT IS REMOVED has been done by all
-  pub record Finished (key : Key) (branches : List (ℕ × List ℕ)) (subs : List (List ℕ × List ℕ)) : Type 0 where
-    pub done : list_all (has_done realm moments (identifier realm key)) branches ≡ true
-    pub heard : list_all (λ pair. list_any (has_acknowledged realm (identifier realm key) pair) moments) subs ≡ true
 
   -- who has acknowledged, as is shown
   all_heard : (id : List ℕ) (start : ℕ) (parts : List Participant) → list_all (is_shown realm moments id) parts ≡ true → list_all (λ (s : ℕ × Participant). s.1.acknowledged) (willing_from start parts) ≡ true → list_all (λ pair. list_any (has_acknowledged realm id pair) moments) (flat_map (λ (s : ℕ × Participant). pair_of s.1.address s.1.id) (willing_from start parts)) ≡ true
@@ -453,7 +455,7 @@ module _ (realm : List ℕ) (moments : List Moment) (now : ℕ) (w : Work) (erra
   only_spent (Here party) is = absurd (cc)
   only_spent (Out e) is = absurd (cc)
 
-  asked_done : (key : Key) → Asked w (Remove key) → (branches : List (ℕ × List ℕ)) (subs : List (List ℕ × List ℕ)) → row_at key rows ≡ Some (row.Committed branches subs) → Finished key branches subs
+  asked_done : (key : Key) → Asked w (Remove key) → (branches : List (ℕ × List ℕ)) (subs : List (List ℕ × List ℕ)) → row_at key rows ≡ Some (row.Committed branches subs) → Finished realm moments key branches subs
   asked_done key asked branches subs at =
       let u = asked.transaction in
       let there = in_found (has_key key) asked.middle.state.transactions u asked.found in
@@ -474,6 +476,13 @@ module _ (realm : List ℕ) (moments : List Moment) (now : ℕ) (w : Work) (erra
         behind [] all = refl
         behind (p ∷ parts) all = (and_parts (is_shown realm moments (identifier realm asked.transaction.key) p) _ all).1
 
-  pub removed_done : (key : Key) → Asked w (Remove key) ⊎ Doubted w (Remove key) → (branches : List (ℕ × List ℕ)) (subs : List (List ℕ × List ℕ)) → row_at key rows ≡ Some (row.Committed branches subs) → Finished key branches subs
+  pub removed_done : (key : Key) → Asked w (Remove key) ⊎ Doubted w (Remove key) → (branches : List (ℕ × List ℕ)) (subs : List (List ℕ × List ℕ)) → row_at key rows ≡ Some (row.Committed branches subs) → Finished realm moments key branches subs
   removed_done key (inl asked) branches subs at = asked_done key asked branches subs at
   removed_done key (inr doubted) branches subs at = absurd (let wrong : phase.Prepared ≡ phase.Committed = sym doubted.doubt ∙ (base.pairs_so doubted.transaction doubted.there branches subs (ap (λ k. row_at k rows) (ap key_changed (sym doubted.is)) ∙ at)).1 in cc)
+
+  pub removed_spelled : (key : Key) → Asked w (Remove key) ⊎ Doubted w (Remove key) → is_spelled key ≡ true
+  removed_spelled key (inl asked) =
+      let u = asked.transaction in
+      let was = asked.walks.each u (in_found (has_key key) asked.middle.state.transactions u asked.found) in
+      subst (λ k. is_spelled k ≡ true) (sym (key_found key u asked.middle.state asked.found ∙ was.key)) (in_all (λ (t : Transaction). is_spelled t.key) w.state.transactions was.before base.spelled was.there)
+  removed_spelled key (inr doubted) = subst (λ k. is_spelled k ≡ true) (sym (ap key_changed doubted.is)) (in_all (λ (t : Transaction). is_spelled t.key) w.state.transactions doubted.transaction base.spelled doubted.there)

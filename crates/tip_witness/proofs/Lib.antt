@@ -1,7 +1,11 @@
 pub mod Bases
+pub mod Beginning
 pub mod Coming
 pub mod Denying
 pub mod Happening
 pub mod Hearing
 pub mod Keeping
+pub mod Keptness
+pub mod Outcomes
 pub mod Walking
+pub mod Witnessed

@@ -22,10 +22,10 @@ use Rattle.tip_txn.specs.declared.answer.Phase.TheVariants.{Active, Asking, Prep
 use Rattle.tip_txn.specs.declared.part.Participant.{Participant}
 use Rattle.tip_machine.specs.Changes.{alter, attempt_on, end, on, tell}
 use Rattle.tip_machine.specs.Connections.{is_on}
-use Rattle.tip_machine.specs.Failing.{closed, fail, gone, lost_unanswered, missed, part_lost, superior_lost, wrong}
+use Rattle.tip_machine.specs.Failing.{closed, fail, gone, missed, part_lost, superior_lost, wrong}
 use Rattle.tip_machine.specs.Proceeding.{abort, agree, ask, asked_for_votes, commit, conclude, dispatch, dispatched, enter, errand_in, finish, give_out, leave, let_go, owed_to_superior, proceed, proceed_in, promise, release, wait}
 use Rattle.tip_machine.specs.Reactions.{Reaction, aborts, asks, commits, needs_nothing, promises, react}
-use Rattle.tip_machine.specs.States.{Attempt, State, Work, transaction_of}
+use Rattle.tip_machine.specs.States.{Attempt, Work, transaction_of}
 use Rattle.tip_machine.specs.Steps.{key_changed}
 use Rattle.tip_machine.specs.Transactions.{decision_of, entering, has_key, has_ready, is_done, is_spent, noting, promised, standing_at}
 use Rattle.tip_machine.specs.Types.{Connection, PartyPlace, Transaction}
@@ -176,9 +176,9 @@ walks_same w = walks_beside w w refl refl
 pub walks_then : (a b c : Work) → Walks a b → Walks b c → Walks a c
 walks_then a b c first next = record {
   each = λ u there.
-    let mid = next.each u there in
-    let old = first.each mid.before mid.there in
-    record { before = old.before; there = old.there; key = mid.key ∙ old.key; parts = lasts_then old.before.parts mid.before.parts u.parts old.parts mid.parts; place = leaves_then old.before.place mid.before.place u.place old.place mid.place };
+      let mid = next.each u there in
+      let old = first.each mid.before mid.there in
+      record { before = old.before; there = old.there; key = mid.key ∙ old.key; parts = lasts_then old.before.parts mid.before.parts u.parts old.parts mid.parts; place = leaves_then old.before.place mid.before.place u.place old.place mid.place };
   sends = step first.sends next.sends;
 } where
   step : (b.answer.work ≡ a.answer.work) ⊎ Sent a b → (c.answer.work ≡ b.answer.work) ⊎ Sent b c → (c.answer.work ≡ a.answer.work) ⊎ Sent a c

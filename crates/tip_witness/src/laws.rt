@@ -1,7 +1,7 @@
 //! Laws of a realm's runs, each carried by a function that does nothing. They hold whatever is served.
 ghost use Rattle.std.specs.Prelude.{◌≡◌, ◌||◌, not, ℕ, List, is_none, true};
 ghost use Rattle.tip_machine.specs.Agreement.Traces.{at_each, traced};
-ghost use Rattle.tip_machine.specs.Agreement.{is_denied, row_in};
+ghost use Rattle.tip_machine.specs.Agreement.{is_denied, is_kept, row_in};
 ghost use Rattle.tip_machine.specs.Honest.{is_run};
 ghost use Rattle.tip_machine.specs.Moves.{Move, World};
 ghost use Rattle.tip_machine.specs.Served.{Serving};
@@ -10,6 +10,12 @@ ghost use Rattle.tip_machine.specs.Starting.{IsStart};
 /// What has a row, in doubt or committed, is not denied: in an honest run from a start a QUERY for its identifier is never answered
 /// QUERIEDNOTFOUND.
 pub fn what_has_a_row_is_not_denied()
-    ensures { (serving : Serving) (world : World) (moves : List Move) (id : List ℕ) → IsStart world → is_run serving world moves ≡ true →
-        at_each (λ before moment. not (is_denied world.state.head.name id moment) || is_none (row_in world.state.head.name id moment.world.rows)) (traced serving world moves) ≡ true }
+    ensures { (serving : Serving) (world : World) (moves : List Move) (id : List ℕ) → IsStart world → is_run serving world moves ≡ true → at_each (λ before moment. not (is_denied world.state.head.name id moment) || is_none (row_in world.state.head.name id moment.world.rows)) (traced serving world moves) ≡ true }
+{}
+
+/// So agreement, the third of its sentences: in an honest run from a start a committed row is removed only where, in that start, each
+/// subordinate in it has acknowledged and each branch in it has answered `commit` with Done; and what was committed is answered
+/// QUERIEDNOTFOUND only where its row is gone.
+pub fn a_committed_row_is_kept_until_all_have_done()
+    ensures { (serving : Serving) (world : World) (moves : List Move) (id : List ℕ) → IsStart world → is_run serving world moves ≡ true → at_each (is_kept world.state.head.name id world) (traced serving world moves) ≡ true }
 {}
