@@ -24,6 +24,7 @@ use Rattle.tip_line.specs.declared.command.CommandName.TheVariants as command
 use Rattle.tip_line.specs.Response.{name_of as response_name}
 use Rattle.tip_line.specs.declared.response.Response.{Response as AResponse}
 use Rattle.tip_line.specs.declared.response.ResponseName.{ResponseName}
+use Rattle.tip_line.specs.declared.response.ResponseName.TheVariants as names
 use Rattle.tip_line.specs.declared.refusal.Refusal.TheVariants.{Busy, NotActive}
 use Rattle.tip_rows.proofs.OrderLemmas.{same_key}
 use Rattle.tip_rows.specs.Keys.{Key, is_same}
@@ -41,10 +42,11 @@ use Rattle.tip_machine.specs.Answers.{identifier}
 use Rattle.tip_machine.specs.Changes.{alter, attempt_on, change, end, refuse}
 use Rattle.tip_machine.specs.Commands.{commanded, decide_abort, decide_commit, obey, prepare, serve_if, superior_role}
 use Rattle.tip_machine.specs.Connections.{advanced, advanced_to, asks_for, has_number, is_secondary, is_superior_of, may_take, owing, role_in}
-use Rattle.tip_machine.specs.Proceeding.{agree, ask, asked_for_votes, conclude, dispatch, enter, errand_in, finish, give_out, let_go, owed_to_superior, proceed, proceed_in}
+use Rattle.tip_machine.specs.Proceeding.{abort, agree, ask, asked_for_votes, conclude, dispatch, enter, errand_in, finish, give_out, let_go, owed_to_superior, proceed, proceed_in}
 use Rattle.tip_machine.specs.Reactions.{commits, react}
 use Rattle.tip_machine.specs.Requests.{hear, line, owner, resume, resume_in, settled, settled_for, voted, voted_for}
-use Rattle.tip_machine.specs.Responses.{go_on}
+use Rattle.tip_machine.specs.Failing.{closed}
+use Rattle.tip_machine.specs.Responses.{go_on, is_in_doubt, presume_abort}
 use Rattle.tip_machine.specs.Served.{is_heard, today}
 use Rattle.tip_machine.specs.States.{Attempt, State, Work, connection_of, identified_by, seated, transaction_of}
 use Rattle.tip_machine.specs.Steps.{attempt, entered, is_open, wanted, wants}
@@ -64,10 +66,11 @@ use Rattle.tip_machine.specs.declared.transaction.Origin.TheVariants as origin
 use Rattle.tip_machine.specs.declared.transaction.PartyPlace.TheVariants.{Here, Out, Spent}
 use Rattle.tip_core.proofs.Outcomes.{acknowledged_all}
 use Rattle.tip_core.proofs.Proceeding.{dispatch_some}
-use Rattle.tip_core.proofs.Responses.{hears_nothing, hears_part, hears_pull, noting_nobody, noting_part_of}
-use Rattle.tip_core.specs.Noting.{awaits_of, note_of, noted, noting_as, part_of, pulled_of, pulling, responding}
+use Rattle.tip_core.proofs.Responses.{hears_nothing, hears_part, hears_pull, hears_query, noting_nobody, noting_part_of}
+use Rattle.tip_core.specs.Noting.{awaits_of, exists_of, note_of, noted, noting_as, part_of, pulled_of, pulling, querying, responding}
+use Rattle.tip_core.specs.declared.noting.Awaits.{Awaits}
 use Rattle.tip_core.specs.declared.noting.Awaits.TheVariants as awaits
-use Rattle.tip_core.specs.Wanting.{abort_for, abort_wanted, agreed_change, answer_wanted, asked, away, command_wanted, commit_for, commit_wanted, concluded, finished, foreseen, hears_responses, is_admitted, is_over, line_wanted, of_superior, outlook, owed_then, pair_at, pairs_of, prepare_for, prepare_wanted, promised_of, response_wanted, resume_wanted, resumed_at, settled_wanted, vote_wanted, wanted_noting, wanted_of_part, wished, wished_in}
+use Rattle.tip_core.specs.Wanting.{abort_for, abort_wanted, agreed_change, answer_wanted, asked, away, command_wanted, commit_for, commit_wanted, concluded, finished, foreseen, forgotten, hears_responses, is_admitted, is_over, line_wanted, of_superior, outlook, owed_then, pair_at, pairs_of, prepare_for, prepare_wanted, presume_wanted, promised_of, query_wanted, response_wanted, resume_wanted, resumed_at, said_wanted, settled_wanted, vote_wanted, wanted_noting, wanted_of_part, wished, wished_in}
 use Rattle.tip_core.specs.declared.noting.Note.{Note}
 
 -- The rows
@@ -342,32 +345,43 @@ module _ (w : Work) (c : Connection) (there : connection_of c.number w.state ≡
   pulling_wants (Some true) said = refl
   pulling_wants (Some false) said = refl
 
-  said_wants : (said : AResponse) → wanted (hear today Primary (Response said) c w) ≡ answer_wanted (note_of c.awaited said) c w.state
+  querying_wants : (exists : Option Bool) (key : Key) (said : AResponse) → wanted (querying exists key said c w) ≡ query_wanted exists key c w.state
+  querying_wants None key said = refl
+  querying_wants (Some true) key said = refl
+  querying_wants (Some false) key said = by (transaction_of key w.state) where
+    by : (found : Option Transaction) → wanted (attempt_on found (presume_abort c) (go_on command.Query names.QueriedNotFound c w)) ≡ option_and_then (presume_wanted (forgotten c w.state)) found
+    by None = refl
+    by (Some t) = step (is_in_doubt (forgotten c w.state) t) where
+      step : (b : Bool) → wanted (cond b (Attempt.Asks (Remove t.key) (abort t.key (go_on command.Query names.QueriedNotFound c w)) (closed c (go_on command.Query names.QueriedNotFound c w))) (Attempt.Done (go_on command.Query names.QueriedNotFound c w))) ≡ cond b (Some (Remove t.key)) None
+      step true = refl
+      step false = refl
+
+  said_wants : (said : AResponse) → wanted (hear today Primary (Response said) c w) ≡ said_wanted (awaits_of c.awaited) said c w.state
   said_wants said = step c.awaited refl where
-    of_part : (name : CommandName) → awaits_of c.awaited ≡ awaits.OfPart name → wanted (hear today Primary (Response said) c w) ≡ answer_wanted (note_of c.awaited said) c w.state
-    of_part name is = ap wanted (hears_part said c w name is) ∙ responding_wants (note_of c.awaited said) name said
+    of_part : (a : Option Awaited) → c.awaited ≡ a → (name : CommandName) → awaits_of a ≡ awaits.OfPart name → wanted (hear today Primary (Response said) c w) ≡ said_wanted (awaits_of c.awaited) said c w.state
+    of_part a is name so = ap wanted (hears_part said c w name (ap awaits_of is ∙ so)) ∙ responding_wants (note_of c.awaited said) name said ∙ sym (ap (λ k. said_wanted k said c w.state) (ap awaits_of is ∙ so))
 
-    unheard : (a : Option Awaited) → c.awaited ≡ a → is_heard a ≡ false → None ≡ answer_wanted (note_of a said) c w.state → wanted (hear today Primary (Response said) c w) ≡ answer_wanted (note_of c.awaited said) c w.state
-    unheard a is not none = ap wanted (hears_nothing said c w (ap is_heard is ∙ not)) ∙ none ∙ ap (λ b. answer_wanted (note_of b said) c w.state) (sym is)
+    unheard : (a : Option Awaited) → c.awaited ≡ a → is_heard a ≡ false → None ≡ said_wanted (awaits_of a) said c w.state → wanted (hear today Primary (Response said) c w) ≡ said_wanted (awaits_of c.awaited) said c w.state
+    unheard a is not none = ap wanted (hears_nothing said c w (ap is_heard is ∙ not)) ∙ none ∙ ap (λ b. said_wanted (awaits_of b) said c w.state) (sym is)
 
-    step : (a : Option Awaited) → c.awaited ≡ a → wanted (hear today Primary (Response said) c w) ≡ answer_wanted (note_of c.awaited said) c w.state
+    step : (a : Option Awaited) → c.awaited ≡ a → wanted (hear today Primary (Response said) c w) ≡ said_wanted (awaits_of c.awaited) said c w.state
     step None is = unheard None is refl refl
     step (Some (awaited.Identify purpose)) is = unheard (Some (awaited.Identify purpose)) is refl refl
-    step (Some awaited.Push) is = of_part command.Push (ap awaits_of is)
-    step (Some awaited.Pull) is = ap wanted (hears_pull said c w (ap awaits_of is)) ∙ pulling_wants (pulled_of said) said ∙ ap (λ b. answer_wanted (note_of b said) c w.state) (sym is)
-    step (Some awaited.Prepare) is = of_part command.Prepare (ap awaits_of is)
-    step (Some awaited.Commit) is = of_part command.Commit (ap awaits_of is)
-    step (Some awaited.Abort) is = of_part command.Abort (ap awaits_of is)
-    step (Some (awaited.Query key)) is = unheard (Some (awaited.Query key)) is refl refl
-    step (Some awaited.Reconnect) is = of_part command.Reconnect (ap awaits_of is)
+    step (Some awaited.Push) is = of_part (Some awaited.Push) is command.Push refl
+    step (Some awaited.Pull) is = ap wanted (hears_pull said c w (ap awaits_of is)) ∙ pulling_wants (pulled_of said) said ∙ ap (λ b. said_wanted (awaits_of b) said c w.state) (sym is)
+    step (Some awaited.Prepare) is = of_part (Some awaited.Prepare) is command.Prepare refl
+    step (Some awaited.Commit) is = of_part (Some awaited.Commit) is command.Commit refl
+    step (Some awaited.Abort) is = of_part (Some awaited.Abort) is command.Abort refl
+    step (Some (awaited.Query key)) is = ap wanted (hears_query said c w key (ap awaits_of is)) ∙ querying_wants (exists_of said) key said ∙ ap (λ b. said_wanted (awaits_of b) said c w.state) (sym is)
+    step (Some awaited.Reconnect) is = of_part (Some awaited.Reconnect) is command.Reconnect refl
 
-  heard_wants : (side : Side) → c.side ≡ side → (said : AResponse) → wanted (hear today side (Response said) c w) ≡ cond (not (is_secondary side)) (answer_wanted (note_of c.awaited said) c w.state) None
+  heard_wants : (side : Side) → c.side ≡ side → (said : AResponse) → wanted (hear today side (Response said) c w) ≡ cond (not (is_secondary side)) (said_wanted (awaits_of c.awaited) said c w.state) None
   heard_wants Primary is said = said_wants said
   heard_wants Secondary is said = refl
 
   taken_response : (said : AResponse) → wanted (cond (may_take c) (hear today c.side (Response said) c w) (Attempt.Done (refuse Busy w))) ≡ response_wanted (Some c) said w.state
   taken_response said = step (may_take c) where
-    step : (b : Bool) → wanted (cond b (hear today c.side (Response said) c w) (Attempt.Done (refuse Busy w))) ≡ cond (b && not (is_secondary c.side)) (answer_wanted (note_of c.awaited said) c w.state) None
+    step : (b : Bool) → wanted (cond b (hear today c.side (Response said) c w) (Attempt.Done (refuse Busy w))) ≡ cond (b && not (is_secondary c.side)) (said_wanted (awaits_of c.awaited) said c w.state) None
     step true = heard_wants c.side refl said
     step false = refl
 
@@ -494,9 +508,21 @@ module _ (state : State) where
   answer_before None c = refl
   answer_before (Some n) c = part_before n (part_of c.role)
 
+  query_before : (exists : Option Bool) (key : Key) (c : Connection) → query_wanted exists key c (entered state).state ≡ query_wanted exists key c state
+  query_before None key c = refl
+  query_before (Some true) key c = refl
+  query_before (Some false) key c = refl
+
+  said_before : (kind : Awaits) (said : AResponse) (c : Connection) → said_wanted kind said c (entered state).state ≡ said_wanted kind said c state
+  said_before awaits.Nothing said c = refl
+  said_before (awaits.OfPart name) said c = answer_before (note_of c.awaited said) c
+  said_before awaits.Identified said c = refl
+  said_before awaits.Pulled said c = refl
+  said_before (awaits.Queried key) said c = query_before (exists_of said) key c
+
   response_before : (found : Option Connection) (said : AResponse) → response_wanted found said (entered state).state ≡ response_wanted found said state
   response_before None said = refl
-  response_before (Some c) said = ap (λ change. cond (hears_responses c) change None) (answer_before (note_of c.awaited said) c)
+  response_before (Some c) said = ap (λ change. cond (hears_responses c) change None) (said_before (awaits_of c.awaited) said c)
 
   vote_before : (place : PartyPlace) (party : PartyNotes) (t : Transaction) → vote_wanted place party t (entered state).state ≡ vote_wanted place party t state
   vote_before (Here other) party t = refl

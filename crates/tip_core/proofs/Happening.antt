@@ -1,5 +1,5 @@
 -- What an event comes to, by its kind.
-use Rattle.std.proofs.Common.{◌≡◌, ◌≢◌, ◌<◌, ◌+◌, ℕ, List, Bool, true, false, cond, Option, Some, None, length, refl, ap, arith, sym, subst, ◌∙◌}
+use Rattle.std.proofs.Common.{◌≡◌, ◌≢◌, ◌<◌, ◌≤◌, ◌+◌, ℕ, List, Bool, true, false, cond, Option, Some, None, length, refl, ap, arith, sym, subst, ◌∙◌}
 use Rattle.std.specs.Prelude.{find, is_some}
 use Rattle.std.specs.Option.{option_and_then, option_map_or}
 use Rattle.std.proofs.lemmas.Bool.Decides.{nat_tests}
@@ -38,7 +38,7 @@ use Rattle.tip_core.proofs.Works.{then}
 use Rattle.tip_core.specs.Growing.{CanGrow}
 use Rattle.tip_core.specs.Needs.{HasNeeds, IsReady, begins, begins_on, happened, joined, lines_needed, peer_needed, room_on, transactions_for}
 use Rattle.tip_core.specs.Rooms.{room_for}
-use Rattle.tip_core.specs.Works.{CanMake, Does, Held, is_named, MayMake, lines_as, lines_at, work_of}
+use Rattle.tip_core.specs.Works.{CanMake, Does, Held, is_named, MayMake, lines_as, lines_at, lines_queried, work_of}
 
 -- where no connection is dialled, there is none to ask on
 module _ (a b : Held) (seat : Seat) where
@@ -132,7 +132,13 @@ part_line held seat heard ready id is = ready.part id is
 pub able_line : (held : Held) (seat : Seat) (heard : Heard) → IsReady (Line seat heard) held → begins heard ≡ true → MayMake seat.number held
 able_line held seat heard ready is = ready.able seat.number (ap (λ b. cond b (Some seat.number) None) is)
 
-pub ruleset happening = (dialled_never, able_line)
+pub lines_line : (held : Held) (seat : Seat) (heard : Heard) → IsReady (Line seat heard) held → lines_at seat.number (work_of held).state + 2 ≤ held.making.free
+lines_line held seat heard ready = let enough = ready.lines in omega (arith, enough)
+
+pub queried_line : (held : Held) (seat : Seat) (heard : Heard) → IsReady (Line seat heard) held → lines_queried seat.number (work_of held).state ≤ held.making.free
+queried_line held seat heard ready = let enough = ready.lines in omega (arith, enough)
+
+pub ruleset happening = (dialled_never, able_line, lines_line, queried_line)
 
 -- The entry of an event changes nothing that it needs
 
@@ -150,7 +156,7 @@ lines_at_before number state = step (connection_of number state) where
 needed_before : (event : Event) (state : State) → lines_needed event (entered state).state ≡ lines_needed event state
 needed_before (Open boxes) state = refl
 needed_before (Dial address purpose boxes) state = refl
-needed_before (Line seat heard) state = ap (λ n. n + 2) (lines_at_before seat.number state)
+needed_before (Line seat heard) state = ap (λ n. n + (lines_queried seat.number state + 2)) (lines_at_before seat.number state)
 needed_before (Voted party) state = refl
 needed_before (Settled party) state = refl
 needed_before (Lost seat) state = lines_at_before seat.number state

@@ -12,6 +12,7 @@ pub mod Foreseeing
 pub mod Outlooks
 pub mod Subordinates
 pub mod Responses
+pub mod Asking
 pub mod Needing
 pub mod Happening
 pub mod Turning

@@ -100,6 +100,15 @@ module _ (a b : Held) (number : ℕ) (role : Option Role) (there : option_map (�
       let lines : lines_as role (work_of b).state ≡ lines_as connection.role (record (work_of a).state { connections = without (has_number connection.number) (work_of a).state.connections }) = ap (λ v. lines_as role v.state) first.own ∙ ap (λ r. lines_as r (gone connection (work_of a)).state) same in
       omega (arith, free, less, lines, before, enough))
 
+  pub room_gone_as : (other : Option Role) → lines_as other (work_of a).state ≤ a.making.free → lines_as other (work_of b).state ≤ b.making.free
+  unfolding gone
+  room_gone_as other enough = on_it (lines_as other (work_of b).state ≤ b.making.free) (λ connection found.
+      let first = gone_so connection found in
+      let free : b.making.free ≡ a.making.free = same_room a b (gone connection (work_of a)) first refl in
+      let less = fewer_as other connection.number (work_of a) in
+      let lines : lines_as other (work_of b).state ≡ lines_as other (record (work_of a).state { connections = without (has_number connection.number) (work_of a).state.connections }) = ap (λ v. lines_as other v.state) first.own in
+      omega (arith, free, less, lines, enough))
+
   pub idle_gone : IsIdle a.making.answer → IsIdle b.making.answer
   unfolding gone
   idle_gone idle = on_it (IsIdle b.making.answer) (λ connection found.

@@ -27,7 +27,7 @@ use Rattle.tip_machine.proofs.Walks.{found-number}
 use Rattle.tip_core.specs.Growing.{CanGrow}
 use Rattle.tip_core.specs.Needs.{MayJoin, begins_on, joined_by, room_needed, room_on}
 use Rattle.tip_core.specs.Rooms.{TransactionRoom, room_for}
-use Rattle.tip_core.specs.Works.{Held, HeldTransaction, is_keyed, is_named, lines_as, lines_at, lines_for, lines_of, peer_of, work_of}
+use Rattle.tip_core.specs.Works.{Held, HeldTransaction, is_keyed, is_named, key_queried, lines_as, lines_at, lines_for, lines_of, peer_of, work_of}
 
 pub lines_there : (held : Held) (number place : ℕ) (item : Connection) → StandsAt held.connections held.realm (has_number number) place → item_at held.connections place ≡ Some item → (lines : ℕ) → lines ≡ lines_as item.role (work_of held).state → lines ≡ lines_at number (work_of held).state
 lines_there held number place item here is lines same = same ∙ sym (ap (λ o. option_map_or (λ c. lines_as c.role (work_of held).state) o 0) (standing_number held number place item here is))
@@ -90,6 +90,14 @@ peer_there held number place item here is peer same = same ∙ sym (ap (λ o. op
 
 pub peer_nowhere : (held : Held) (number : ℕ) → connection_of number (work_of held).state ≡ None → None ≡ peer_of number (work_of held).state
 peer_nowhere held number none = sym (ap (λ o. option_and_then (λ (c : Connection). c.peer) o) none)
+
+pub queried_there : (held : Held) (number place : ℕ) (item : Connection) → StandsAt held.connections held.realm (has_number number) place → item_at held.connections place ≡ Some item → (key : Option Key) → key ≡ key_queried item.awaited → key ≡ option_and_then (λ c. key_queried c.awaited) (connection_of number (work_of held).state)
+queried_there held number place item here is key same = same ∙ sym (ap (option_and_then (λ (c : Connection). key_queried c.awaited)) (standing_number held number place item here is))
+
+pub queried_nowhere : (held : Held) (number : ℕ) → connection_of number (work_of held).state ≡ None → None ≡ option_and_then (λ c. key_queried c.awaited) (connection_of number (work_of held).state)
+queried_nowhere held number none = sym (ap (option_and_then (λ (c : Connection). key_queried c.awaited)) none)
+
+pub ruleset asking = (queried_there, queried_nowhere)
 
 pub ruleset peering = (peer_there, peer_nowhere)
 

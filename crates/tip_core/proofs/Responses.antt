@@ -1,7 +1,7 @@
 -- What responses come to, case by case.
-use Rattle.std.proofs.Common.{◌≡◌, ◌≢◌, ◌≤◌, ◌+◌, Bool, true, false, cond, ℕ, suc, zero, List, [], ◌∷◌, Option, Some, None, length, refl, ap, arith, sym, subst, ◌∙◌, ◌⊎◌, inl, inr}
+use Rattle.std.proofs.Common.{◌≡◌, ◌≤◌, ◌+◌, Bool, true, false, cond, ℕ, suc, zero, List, [], ◌∷◌, Option, Some, None, length, refl, ap, arith, sym, subst, ◌∙◌}
 use Rattle.std.specs.Prelude.{filter}
-use Rattle.std.specs.Option.{IfSome, option_map_or}
+use Rattle.std.specs.Option.{IfSome, option_and_then, option_map_or}
 use Rattle.std.proofs.lemmas.Option.{none-some, same_Some}
 use Rattle.tip_conn.specs.Table.{next_of}
 use Rattle.tip_conn.specs.declared.state.Side.TheVariants.{Primary}
@@ -39,10 +39,10 @@ use Rattle.tip_machine.specs.declared.event.Heard.TheVariants.{Response}
 use Rattle.tip_machine.specs.declared.event.Outcome.{Outcome}
 use Rattle.tip_core.proofs.Losing.{same_room, still_idle}
 use Rattle.tip_core.proofs.Works.{may_idle, nothing, then, unaltered}
-use Rattle.tip_core.specs.Noting.{awaits_of, note_of, noted, noting_as, part_of, pulled_of, pulling, responding}
+use Rattle.tip_core.specs.Noting.{awaits_of, exists_of, note_of, noted, noting_as, part_of, pulled_of, pulling, querying, responding}
 use Rattle.tip_core.specs.declared.noting.Awaits.{Awaits}
 use Rattle.tip_core.specs.declared.noting.Awaits.TheVariants as awaits
-use Rattle.tip_core.specs.Works.{Does, Held, IsIdle, lines_as, lines_at, lines_for, work_of}
+use Rattle.tip_core.specs.Works.{Does, Held, IsIdle, key_queried, lines_as, lines_at, lines_for, lines_queried, work_of}
 use Rattle.tip_core.specs.declared.noting.Note.{Note}
 use Rattle.tip_core.specs.declared.noting.Note.TheVariants as note
 
@@ -94,6 +94,20 @@ pulls response.NeedTls c w = refl
 pulls response.Error c w = refl
 pulls said c w = refl
 
+queries : (key : Key) (said : AResponse) (c : Connection) (w : Work) → responded (awaited.Query key) said c w ≡ querying (exists_of said) key said c w
+queries key response.QueriedExists c w = refl
+queries key response.QueriedNotFound c w = refl
+queries key response.NeedTls c w = refl
+queries key response.Error c w = refl
+queries key said c w = refl
+
+abbrev key_in : Awaits → Option Key
+key_in awaits.Nothing = None
+key_in (awaits.OfPart name) = None
+key_in awaits.Identified = None
+key_in awaits.Pulled = None
+key_in (awaits.Queried key) = Some key
+
 module _ (said : AResponse) (c : Connection) (w : Work) where
   hears_at : (a : Option Awaited) → c.awaited ≡ a → hear today Primary (Response said) c w ≡ cond (is_heard a) (answered_by a said c w) (Attempt.Done (wrong c w))
   hears_at a is = ap (λ b. cond (is_heard b) (answered_by b said c w) (Attempt.Done (wrong c w))) is
@@ -130,22 +144,27 @@ module _ (said : AResponse) (c : Connection) (w : Work) where
     step (Some (awaited.Query key)) is = absurd (let no = sym (ap awaits_of is) ∙ so in cc)
     step (Some awaited.Reconnect) is = absurd (let no = sym (ap awaits_of is) ∙ so in cc)
 
+  pub hears_query : (key : Key) → awaits_of c.awaited ≡ awaits.Queried key → hear today Primary (Response said) c w ≡ querying (exists_of said) key said c w
+  hears_query key so = step c.awaited refl where
+    no : (a : Option Awaited) → c.awaited ≡ a → key_in (awaits_of a) ≡ None → {T : Type 0} → T
+    no a is none = absurd (none-some key (sym none ∙ ap key_in (sym (ap awaits_of is) ∙ so)))
+
+    step : (a : Option Awaited) → c.awaited ≡ a → hear today Primary (Response said) c w ≡ querying (exists_of said) key said c w
+    step None is = no None is refl
+    step (Some (awaited.Identify purpose)) is = no (Some (awaited.Identify purpose)) is refl
+    step (Some awaited.Push) is = no (Some awaited.Push) is refl
+    step (Some awaited.Pull) is = no (Some awaited.Pull) is refl
+    step (Some awaited.Prepare) is = no (Some awaited.Prepare) is refl
+    step (Some awaited.Commit) is = no (Some awaited.Commit) is refl
+    step (Some awaited.Abort) is = no (Some awaited.Abort) is refl
+    step (Some (awaited.Query other)) is = hears_at (Some (awaited.Query other)) is ∙ queries other said c w ∙ ap (λ k. querying (exists_of said) k said c w) (same_Some other key (ap key_in (sym (ap awaits_of is) ∙ so)))
+    step (Some awaited.Reconnect) is = no (Some awaited.Reconnect) is refl
+
   hears_unheard : (a : Option Awaited) → c.awaited ≡ a → is_heard a ≡ false → hear today Primary (Response said) c w ≡ Attempt.Done (wrong c w)
   hears_unheard a is not = hears_at a is ∙ ap (λ b. cond b (answered_by a said c w) (Attempt.Done (wrong c w))) not
 
   pub hears_nothing : is_heard c.awaited ≡ false → hear today Primary (Response said) c w ≡ Attempt.Done (wrong c w)
   hears_nothing not = hears_unheard c.awaited refl not
-
-unheard_by : (a : Option Awaited) (kind : Awaits) → awaits_of a ≡ kind → command_in kind ≡ None → kind ≢ awaits.Pulled → is_heard a ≡ false
-unheard_by None kind is none differ = refl
-unheard_by (Some (awaited.Identify purpose)) kind is none differ = refl
-unheard_by (Some awaited.Push) kind is none differ = absurd (none-some command.Push (sym none ∙ sym (ap command_in is)))
-unheard_by (Some awaited.Pull) kind is none differ = absurd (differ (sym is))
-unheard_by (Some awaited.Prepare) kind is none differ = absurd (none-some command.Prepare (sym none ∙ sym (ap command_in is)))
-unheard_by (Some awaited.Commit) kind is none differ = absurd (none-some command.Commit (sym none ∙ sym (ap command_in is)))
-unheard_by (Some awaited.Abort) kind is none differ = absurd (none-some command.Abort (sym none ∙ sym (ap command_in is)))
-unheard_by (Some (awaited.Query key)) kind is none differ = refl
-unheard_by (Some awaited.Reconnect) kind is none differ = absurd (none-some command.Reconnect (sym none ∙ sym (ap command_in is)))
 
 module _ (a b : Held) (said : AResponse) (c : Connection) (outcome : Outcome) where
   pub answered_part : (name : CommandName) → awaits_of c.awaited ≡ awaits.OfPart name → Does a b (chosen (responding (note_of c.awaited said) name said c (work_of a)) outcome) → Does a b (chosen (hear today Primary (Response said) c (work_of a)) outcome)
@@ -154,12 +173,22 @@ module _ (a b : Held) (said : AResponse) (c : Connection) (outcome : Outcome) wh
   pub answered_pull : awaits_of c.awaited ≡ awaits.Pulled → Does a b (chosen (pulling (pulled_of said) said c (work_of a)) outcome) → Does a b (chosen (hear today Primary (Response said) c (work_of a)) outcome)
   answered_pull is does = subst (λ t. Does a b (chosen t outcome)) (sym (hears_pull said c (work_of a) is)) does
 
-  pub answered_wrong : (kind : Awaits) → kind ≡ awaits_of c.awaited → (kind ≡ awaits.Nothing) ⊎ ((kind ≡ awaits.Identified) ⊎ ((key : Key) × (kind ≡ awaits.Queried key))) → Does a b (wrong c (work_of a)) → Does a b (chosen (hear today Primary (Response said) c (work_of a)) outcome)
-  answered_wrong kind same which does = subst (λ t. Does a b (chosen t outcome)) (sym (hears_nothing said c (work_of a) (not which))) does where
-    not : (kind ≡ awaits.Nothing) ⊎ ((kind ≡ awaits.Identified) ⊎ ((key : Key) × (kind ≡ awaits.Queried key))) → is_heard c.awaited ≡ false
-    not (inl is) = unheard_by c.awaited awaits.Nothing (sym same ∙ is) refl (λ so. absurd (cc))
-    not (inr (inl is)) = unheard_by c.awaited awaits.Identified (sym same ∙ is) refl (λ so. absurd (cc))
-    not (inr (inr is)) = unheard_by c.awaited (awaits.Queried is.0) (sym same ∙ is.1) refl (λ so. absurd (cc))
+  pub answered_query : (key : Key) → awaits_of c.awaited ≡ awaits.Queried key → Does a b (chosen (querying (exists_of said) key said c (work_of a)) outcome) → Does a b (chosen (hear today Primary (Response said) c (work_of a)) outcome)
+  answered_query key is does = subst (λ t. Does a b (chosen t outcome)) (sym (hears_query said c (work_of a) key is)) does
+
+-- the lines of the transaction that is asked for
+pub queried_lines : (held : Held) (number : ℕ) (c : Connection) (key : Key) → connection_of number (work_of held).state ≡ Some c → awaits_of c.awaited ≡ awaits.Queried key → lines_queried number (work_of held).state ≤ held.making.free → lines_for key (work_of held).state ≤ held.making.free
+queried_lines held number c key found is enough = subst (λ n. n ≤ held.making.free) (ap (λ o. option_map_or (λ k. lines_for k (work_of held).state) (option_and_then (λ (d : Connection). key_queried d.awaited) o) 0) found ∙ ap (λ o. option_map_or (λ k. lines_for k (work_of held).state) o 0) (step c.awaited is)) enough where
+  step : (a : Option Awaited) → awaits_of a ≡ awaits.Queried key → key_queried a ≡ Some key
+  step None so = ap key_in so
+  step (Some (awaited.Identify purpose)) so = ap key_in so
+  step (Some awaited.Push) so = ap key_in so
+  step (Some awaited.Pull) so = ap key_in so
+  step (Some awaited.Prepare) so = ap key_in so
+  step (Some awaited.Commit) so = ap key_in so
+  step (Some awaited.Abort) so = ap key_in so
+  step (Some (awaited.Query other)) so = ap key_in so
+  step (Some awaited.Reconnect) so = ap key_in so
 
 -- The connection goes on
 
@@ -204,6 +233,23 @@ module _ (a b : Held) (number : ℕ) (command : CommandName) (name : ResponseNam
         fewer : (r : Role) → lines_as (Some r) (work_of b).state ≤ lines_as (Some r) (work_of a).state
         fewer (Superior key) = subst (λ n. n ≤ lines_for key (work_of a).state) (sym (ap (λ w. lines_for key w.state) first.own)) (fewer_on key number command name (work_of a).state.connections)
         fewer (Subordinate key part) = subst (λ n. n ≤ lines_for key (work_of a).state) (sym (ap (λ w. lines_for key w.state) first.own)) (fewer_on key number command name (work_of a).state.connections)
+
+  pub gone_key : (key : Key) → lines_for key (work_of a).state ≤ a.making.free → lines_for key (work_of b).state ≤ b.making.free
+  gone_key key enough =
+      let free = same_room a b (change number (advanced command name) (work_of a)) first refl in
+      let less : lines_for key (work_of b).state ≤ lines_for key (work_of a).state = subst (λ n. n ≤ lines_for key (work_of a).state) (sym (ap (λ w. lines_for key w.state) first.own)) (fewer_on key number command name (work_of a).state.connections) in
+      omega (arith, free, less, enough)
+
+  pub gone_lines_as : (c : Connection) (role : Option Role) → connection_of number (work_of a).state ≡ Some c → role ≡ c.role → lines_at number (work_of a).state + 2 ≤ a.making.free → lines_as role (work_of b).state + 1 ≤ b.making.free
+  gone_lines_as c role found is enough =
+      let before : lines_at number (work_of a).state ≡ lines_as role (work_of a).state = ap (λ o. option_map_or (λ (d : Connection). lines_as d.role (work_of a).state) o 0) found ∙ sym (ap (λ r. lines_as r (work_of a).state) is) in
+      let less = fewer role in
+      let free = same_room a b (change number (advanced command name) (work_of a)) first refl in
+      omega (arith, before, less, free, enough) where
+        fewer : (r : Option Role) → lines_as r (work_of b).state ≤ lines_as r (work_of a).state
+        fewer None = omega arith
+        fewer (Some (Superior key)) = subst (λ n. n ≤ lines_for key (work_of a).state) (sym (ap (λ w. lines_for key w.state) first.own)) (fewer_on key number command name (work_of a).state.connections)
+        fewer (Some (Subordinate key part)) = subst (λ n. n ≤ lines_for key (work_of a).state) (sym (ap (λ w. lines_for key w.state) first.own)) (fewer_on key number command name (work_of a).state.connections)
 
 -- The part is noted
 
@@ -258,7 +304,7 @@ noting_part_of n (Some (Superior other)) key part w is = absurd (cc)
 noting_part_of n (Some (Subordinate other place)) key part w is = noting_someone n other place w ∙ ap (λ (s : Key × ℕ). proceed s.0 (alter s.0 (noting s.1 (noted n)) w)) (same_Some (other, place) (key, part) is)
 
 module _ (a b : Held) (number : ℕ) (command : CommandName) (name : ResponseName) (n : Note) (c : Connection) (found : connection_of number (work_of a).state ≡ Some c) (first : Does a b (change number (advanced command name) (work_of a))) where
-  goes_on : Does a b (go_on command name c (work_of a))
+  pub goes_on : Does a b (go_on command name c (work_of a))
   goes_on = subst (λ m. Does a b (change m (advanced command name) (work_of a))) (sym (found-number number (work_of a).state.connections c found)) first
 
   pub notes_nobody : c.role ≡ None → Does a b (chosen (noting_as n c.role (go_on command name c (work_of a))) a.outcome)

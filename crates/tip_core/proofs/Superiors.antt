@@ -81,7 +81,7 @@ module _ (key : Key) (w : Work) (doubt : (t : Transaction) → transaction_of ke
   missed_in_doubt (Some (Subordinate other part)) is = absurd (cc)
 
 -- a connection of the same number and boxes
-gone_alike : (e f : Connection) (w : Work) → f.number ≡ e.number → f.boxes ≡ e.boxes → gone f w ≡ gone e w
+pub gone_alike : (e f : Connection) (w : Work) → f.number ≡ e.number → f.boxes ≡ e.boxes → gone f w ≡ gone e w
 unfolding gone
 gone_alike e f w number boxes =
     ap (λ n. record { state = record w.state { connections = without (has_number n) w.state.connections }; answer = record w.answer { unused = Some f.boxes } }) number
@@ -89,12 +89,12 @@ gone_alike e f w number boxes =
 
 -- The connection that was there, once another or itself was changed
 
-record IsAlike (e f : Connection) : Type 0 where
-  number : f.number ≡ e.number
-  boxes : f.boxes ≡ e.boxes
+pub record IsAlike (e f : Connection) : Type 0 where
+  pub number : f.number ≡ e.number
+  pub boxes : f.boxes ≡ e.boxes
 
 module _ (number n : ℕ) (g : Connection → Connection) (same : (c : Connection) → IsAlike c (g c)) where
-  alike_after : (cs : List Connection) (e : Connection) → find (has_number n) cs ≡ Some e → (f : Connection) × ((find (has_number n) (changed (has_number number) g cs) ≡ Some f) × IsAlike e f)
+  pub alike_after : (cs : List Connection) (e : Connection) → find (has_number n) cs ≡ Some e → (f : Connection) × ((find (has_number n) (changed (has_number number) g cs) ≡ Some f) × IsAlike e f)
   alike_after [] e is = absurd (none-some e is)
   alike_after (x ∷ xs) e is = step (has_number number x) refl (has_number n x) refl is (λ later. alike_after xs e later) where
     step : (this : Bool) → has_number number x ≡ this → (that : Bool) → has_number n x ≡ that → cond that (Some x) (find (has_number n) xs) ≡ Some e →
@@ -109,7 +109,7 @@ advanced_to-boxes : (place : Option (ConnectionState × Turn)) (c : Connection) 
 advanced_to-boxes None c = refl
 advanced_to-boxes (Some place) c = refl
 
-advanced-alike : (command : CommandName) (response : ResponseName) (c : Connection) → IsAlike c (advanced command response c)
+pub advanced-alike : (command : CommandName) (response : ResponseName) (c : Connection) → IsAlike c (advanced command response c)
 advanced-alike command response c = record { number = advanced-number command response c; boxes = advanced_to-boxes (next_of command c.state response) c }
 
 -- Taking over

@@ -17,11 +17,12 @@ use Rattle.tip_machine.specs.declared.event.Heard.TheVariants.{Command}
 use Rattle.tip_machine.specs.declared.event.Outcome.{Outcome}
 use Rattle.tip_core.specs.Growing.{CanGrow}
 use Rattle.tip_core.specs.Rooms.{TransactionRoom, room_for}
-use Rattle.tip_core.specs.Works.{Held, HeldTransaction, IsIdle, MayMake, lines_at, lines_of, peer_of, work_of}
+use Rattle.tip_core.specs.Works.{Held, HeldTransaction, IsIdle, MayMake, lines_at, lines_of, lines_queried, peer_of, work_of}
 
--- how many lines and closings an answer may have: one for each connection on the transaction, and two on the event's own
+-- how many lines and closings an answer may have: one for each connection on the transaction, and two on the event's own; the
+-- transaction that the connection asks for may be another
 abbrev pub lines_needed : Event → State → ℕ
-lines_needed (Line seat heard) state = lines_at seat.number state + 2
+lines_needed (Line seat heard) state = lines_at seat.number state + (lines_queried seat.number state + 2)
 lines_needed (Voted party) state = lines_of (owner party state) state
 lines_needed (Settled party) state = lines_of (owner party state) state
 lines_needed (Lost seat) state = lines_at seat.number state

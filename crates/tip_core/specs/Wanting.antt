@@ -16,9 +16,11 @@ use Rattle.tip_line.specs.declared.command.Command.TheVariants as commands
 use Rattle.tip_line.specs.declared.command.CommandName.{CommandName}
 use Rattle.tip_line.specs.declared.command.CommandName.TheVariants as command
 use Rattle.tip_line.specs.declared.response.Response.{Response}
+use Rattle.tip_line.specs.declared.response.ResponseName.TheVariants as names
 use Rattle.tip_rows.specs.Keys.{Key}
 use Rattle.tip_rows.specs.declared.row.Row.{Row}
 use Rattle.tip_rows.specs.declared.row.Row.TheVariants as row
+use Rattle.tip_table.specs.Lists.{changed}
 use Rattle.tip_txn.specs.Parts.{answered, is_settled, is_yes}
 use Rattle.tip_txn.specs.declared.answer.Decision.{Decision}
 use Rattle.tip_txn.specs.declared.answer.Decision.TheVariants as decision
@@ -26,9 +28,10 @@ use Rattle.tip_txn.specs.declared.answer.Phase.{Phase}
 use Rattle.tip_txn.specs.declared.answer.Phase.TheVariants.{Active, Asking, Prepared, Committed, Aborted}
 use Rattle.tip_txn.specs.declared.part.Participant.{Participant}
 use Rattle.tip_machine.specs.Commands.{superior_role}
-use Rattle.tip_machine.specs.Connections.{has_number, is_secondary, is_superior_of, may_take}
+use Rattle.tip_machine.specs.Connections.{advanced, has_number, is_secondary, is_superior_of, may_take}
 use Rattle.tip_machine.specs.Proceeding.{owed_to_superior}
 use Rattle.tip_machine.specs.Requests.{owner}
+use Rattle.tip_machine.specs.Responses.{is_in_doubt}
 use Rattle.tip_machine.specs.States.{State, identified_by, seated, transaction_of}
 use Rattle.tip_machine.specs.Transactions.{decision_of, has_ready, is_committed, is_spent, members_at, noting, pair_of, party_answer, standing_at}
 use Rattle.tip_machine.specs.Types.{Connection, Event, PartyPlace, Transaction}
@@ -39,7 +42,9 @@ use Rattle.tip_machine.specs.declared.event.Heard.TheVariants.{Command, Response
 use Rattle.tip_machine.specs.declared.transaction.Origin.{Origin}
 use Rattle.tip_machine.specs.declared.transaction.Origin.TheVariants as origin
 use Rattle.tip_machine.specs.declared.transaction.PartyPlace.TheVariants.{Here, Out, Spent}
-use Rattle.tip_core.specs.Noting.{note_of, noted, part_of}
+use Rattle.tip_core.specs.Noting.{awaits_of, exists_of, note_of, noted, part_of}
+use Rattle.tip_core.specs.declared.noting.Awaits.{Awaits}
+use Rattle.tip_core.specs.declared.noting.Awaits.TheVariants as awaits
 use Rattle.tip_core.specs.declared.noting.Note.{Note}
 
 -- what of a transaction says which change it wants
@@ -199,6 +204,28 @@ abbrev pub answer_wanted : Option Note → Connection → State → Option Chang
 answer_wanted None connection state = None
 answer_wanted (Some note) connection state = wanted_of_part note (part_of connection.role) state
 
+-- the realm, once a connection has gone on after QUERIEDNOTFOUND
+abbrev pub forgotten : Connection → State → State
+forgotten connection state = record state { connections = changed (has_number connection.number) (advanced command.Query names.QueriedNotFound) state.connections }
+
+-- what is in doubt then is presumed to be aborted
+abbrev pub presume_wanted : State → Transaction → Option Change
+presume_wanted after t = if is_in_doubt after t then Some (Remove t.key) else None
+
+-- what a response to QUERY wants for the transaction of a key
+abbrev pub query_wanted : Option Bool → Key → Connection → State → Option Change
+query_wanted None key connection state = None
+query_wanted (Some true) key connection state = None
+query_wanted (Some false) key connection state = option_and_then (presume_wanted (forgotten connection state)) (transaction_of key state)
+
+-- what a response wants, by what is awaited
+abbrev pub said_wanted : Awaits → Response → Connection → State → Option Change
+said_wanted awaits.Nothing response connection state = None
+said_wanted (awaits.OfPart name) response connection state = answer_wanted (note_of connection.awaited response) connection state
+said_wanted awaits.Identified response connection state = None
+said_wanted awaits.Pulled response connection state = None
+said_wanted (awaits.Queried key) response connection state = query_wanted (exists_of response) key connection state
+
 -- a response is taken from the secondary, where one is awaited
 abbrev pub hears_responses : Connection → Bool
 hears_responses connection = may_take connection && not (is_secondary connection.side)
@@ -206,7 +233,7 @@ hears_responses connection = may_take connection && not (is_secondary connection
 -- what a response wants that comes on a connection
 abbrev pub response_wanted : Option Connection → Response → State → Option Change
 response_wanted None response state = None
-response_wanted (Some connection) response state = if hears_responses connection then answer_wanted (note_of connection.awaited response) connection state else None
+response_wanted (Some connection) response state = if hears_responses connection then said_wanted (awaits_of connection.awaited) response connection state else None
 
 -- Parties that come back
 

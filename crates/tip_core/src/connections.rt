@@ -33,7 +33,8 @@ impl Work<Connection, Transaction, Making> {
         response: ResponseName,
     )
         requires { StandsAt self.old.connections self.old.realm (has_number number) place }
-        ensures { Does self.old self.new (change number (advanced command response) (work_of self.old)) }
+        ensures does { Does self.old self.new (change number (advanced command response) (work_of self.old)) }
+        ensures stands { StandsAt self.new.connections self.new.realm (has_number number) place }
     {
         let connection = self.connections.item_mut(place);
         connection.go(command, response);

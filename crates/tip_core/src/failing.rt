@@ -65,7 +65,7 @@ impl Work<Connection, Transaction, Making> {
 
     /// What the failure of a connection means for the transaction that it was on.
     #[tactic(auto, using(crate::proofs::Losing::missing))]
-    fn miss(&mut self, role: Option<Role>)
+    pub(crate) fn miss(&mut self, role: Option<Role>)
         requires lines { lines_as role (work_of self.old).state ≤ self.old.making.free }
         requires none { IsIdle self.old.making.answer }
         ensures { Does self.old self.new (missed role (work_of self.old)) }

@@ -15,6 +15,7 @@ mod opening;
 mod others;
 mod outcome;
 mod outlook;
+mod presuming;
 mod pulling;
 mod query;
 mod reaction;

@@ -1,13 +1,14 @@
 //! What an event needs, made before it happens: lines, places in the tables, a transaction that begins, and the change of its row.
-ghost use Rattle.std.specs.Prelude.{◌≡◌, ◌<◌, ◌≤◌, ℕ, length, map, true, IfOk, OnOk};
-ghost use Rattle.std.specs.Option.{option_copied};
+ghost use Rattle.std.specs.Prelude.{◌≡◌, ◌+◌, ◌<◌, ◌≤◌, ℕ, length, map, true, IfOk, OnOk};
+ghost use Rattle.std.specs.Option.{option_and_then, option_copied};
 ghost use Rattle.tip_table.specs.Kept.{of};
 ghost use Rattle.tip_machine.specs.Counts.{HasCounts};
 ghost use Rattle.tip_machine.specs.Steps.{is_open, wants};
 ghost use Rattle.tip_machine.specs.Requests.{owner};
+ghost use Rattle.tip_machine.specs.States.{connection_of};
 ghost use Rattle.tip_machine.specs.Types.{seen};
 ghost use Rattle.tip_core.specs.Needs.{MayJoin, Suits, begins_on, connections_for, joined_by, lines_needed, peer_needed, room_needed, transactions_for};
-ghost use Rattle.tip_core.specs.Works.{lines_as, lines_at, lines_for, lines_of, peer_of, work_of};
+ghost use Rattle.tip_core.specs.Works.{key_queried, lines_as, lines_at, lines_for, lines_of, lines_queried, peer_of, work_of};
 
 use crate::making::Making;
 use crate::query::{Numbered, OnKey};
@@ -17,7 +18,7 @@ use crate::work::Work;
 use std::alloc::{AllocError, Global};
 use tip_branch::HeldParty;
 use tip_line::{Address, Command, Id};
-use tip_machine::{Change, Connection, Event, Heard, Role, Transaction};
+use tip_machine::{Awaited, Change, Connection, Event, Heard, Role, Transaction};
 use tip_rows::Key;
 
 impl Work<Connection, Transaction, Making> {
@@ -151,9 +152,7 @@ impl Work<Connection, Transaction, Making> {
         ensures { IfOk result (λ lines. lines ≡ lines_needed event.now (work_of self.now).state) }
     {
         match event {
-            Event::Line { seat, heard: _ } => {
-                self.lines_at(seat.number).checked_add(2).ok_or(AllocError)
-            }
+            Event::Line { seat, heard: _ } => self.lines_of_line(seat.number),
             Event::Voted(party) => Ok(self.lines_of(party)),
             Event::Settled(party) => Ok(self.lines_of(party)),
             Event::Lost { seat } => Ok(self.lines_at(seat.number)),
@@ -163,6 +162,33 @@ impl Work<Connection, Transaction, Making> {
             | Event::AskPull { .. }
             | Event::Resume { .. } => Ok(0),
         }
+    }
+
+    /// The same of a line on the connection of a number: the transaction that it asks for may be another.
+    fn lines_of_line(&self, number: u32) -> Result<usize, AllocError>
+        ensures { IfOk result (λ lines. lines ≡ lines_at number (work_of self.now).state + (lines_queried number (work_of self.now).state + 2)) }
+    {
+        let queried = self.lines_queried(number).checked_add(2).ok_or(AllocError)?;
+        self.lines_at(number).checked_add(queried).ok_or(AllocError)
+    }
+
+    /// How many connections are on the transaction that the connection of a number asks for.
+    fn lines_queried(&self, number: u32) -> usize
+        ensures { result ≡ lines_queried number (work_of self.now).state }
+    {
+        match self.queried(number) {
+            Some(key) => self.lines_for(key),
+            None => 0,
+        }
+    }
+
+    /// The transaction that the connection of a number asks for.
+    #[tactic(auto, using(crate::proofs::Needing::asking))]
+    fn queried(&self, number: u32) -> Option<Key>
+        ensures { result ≡ option_and_then (λ connection. key_queried connection.awaited) (connection_of number (work_of self.now).state) }
+    {
+        let place = self.connections.find(self.realm, &Numbered { number })?;
+        key_queried(&self.connections.item(place).awaited)
     }
 
     /// How many connections are on the transaction that gave a party out.
@@ -212,6 +238,16 @@ impl Work<Connection, Transaction, Making> {
         ensures { result ≡ lines_for key (work_of self.now).state }
     {
         self.connections.count_passing(self.realm, &OnKey { key })
+    }
+}
+
+/// The transaction that a connection asks for on which this is awaited.
+fn key_queried(awaited: &Option<Awaited>) -> Option<Key>
+    ensures { result ≡ key_queried awaited.now }
+{
+    match awaited {
+        Some(Awaited::Query(key)) => Some(*key),
+        _ => None,
     }
 }
 

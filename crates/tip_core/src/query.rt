@@ -70,7 +70,7 @@ impl Test<Connection> for SuperiorOf {
 }
 
 /// Whether a connection of this role is the one of the superior of that transaction.
-fn asks_for(role: Option<Role>, key: Key) -> bool
+pub(crate) fn asks_for(role: Option<Role>, key: Key) -> bool
     ensures { result ≡ asks_for key role }
 {
     role == Some(Role::Superior(key))

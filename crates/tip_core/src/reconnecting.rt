@@ -88,7 +88,7 @@ impl Work<Connection, Transaction, Making> {
 }
 
 /// Whether a transaction is in doubt.
-fn is_prepared(phase: Phase) -> bool
+pub(crate) fn is_prepared(phase: Phase) -> bool
     ensures { result ≡ is_prepared phase }
 {
     matches!(phase, Phase::Prepared)

@@ -15,7 +15,7 @@ ghost use Rattle.tip_machine.specs.Transactions.{noting};
 ghost use Rattle.tip_machine.specs.Types.{Connection as AConnection};
 ghost use Rattle.tip_machine.specs.declared.event.Heard.TheVariants.{Response as AResponse};
 ghost use Rattle.tip_core.specs.Noting.{note_of, noted, noting_as, pulled_of, pulling, responding};
-ghost use Rattle.tip_core.specs.Works.{Does, IsIdle, lines_as, lines_at, work_of};
+ghost use Rattle.tip_core.specs.Works.{Does, IsIdle, lines_as, lines_at, lines_queried, work_of};
 
 use crate::making::Making;
 use crate::noting::{Awaits, Note, ends, pulled_of};
@@ -27,18 +27,19 @@ use tip_txn::Part;
 
 impl Work<Connection, Transaction, Making> {
     /// A response from the secondary, by what is awaited.
+    #[tactic(auto, using(crate::proofs::Responses::queried_lines))]
     pub fn respond(&mut self, number: u32, place: usize, response: Response)
         requires stands { StandsAt self.old.connections self.old.realm (has_number number) place }
         requires lines { lines_at number (work_of self.old).state + 2 ≤ self.old.making.free }
+        requires queried { lines_queried number (work_of self.old).state ≤ self.old.making.free }
         requires none { IsIdle self.old.making.answer }
         ensures { (connection : AConnection) → connection_of number (work_of self.old).state ≡ Some connection → Does self.old self.new (chosen (hear today Primary (AResponse response) connection (work_of self.old)) self.old.outcome) }
     {
         match Awaits::of(&self.connection(number, place).awaited) {
             Awaits::OfPart(command) => self.respond_as_part(number, place, command, response),
             Awaits::Pulled => self.respond_to_pull(number, place, response),
-            Awaits::Nothing | Awaits::Identified | Awaits::Queried(_) => {
-                self.reject(number, place)
-            }
+            Awaits::Queried(key) => self.respond_to_query(number, place, key, response),
+            Awaits::Nothing | Awaits::Identified => self.reject(number, place),
         }
     }
 
@@ -109,7 +110,7 @@ impl Work<Connection, Transaction, Making> {
     }
 
     /// A response that is none to what was asked: NEEDTLS and ERROR end the connection, any other is a wrong line.
-    fn refuse_line(&mut self, number: u32, place: usize, ends: bool)
+    pub(crate) fn refuse_line(&mut self, number: u32, place: usize, ends: bool)
         requires stands { StandsAt self.old.connections self.old.realm (has_number number) place }
         requires lines { lines_at number (work_of self.old).state + 2 ≤ self.old.making.free }
         requires none { IsIdle self.old.making.answer }

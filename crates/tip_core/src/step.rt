@@ -16,7 +16,7 @@ ghost use Rattle.tip_machine.specs.Types.{Connection as AConnection};
 ghost use Rattle.tip_machine.specs.declared.event.Heard.TheVariants.{Command as ACommand};
 ghost use Rattle.tip_core.specs.Growing.{CanGrow};
 ghost use Rattle.tip_core.specs.Needs.{HasNeeds, IsReady, begins, happened, joined};
-ghost use Rattle.tip_core.specs.Works.{Does, IsIdle, lines_at, MayMake, peer_of, work_of};
+ghost use Rattle.tip_core.specs.Works.{Does, IsIdle, lines_at, lines_queried, MayMake, peer_of, work_of};
 
 use crate::making::Making;
 use crate::work::Work;
@@ -81,6 +81,7 @@ impl Work<Connection, Transaction, Making> {
         requires part { (id : List ℕ) → joined heard ≡ Some id → CanGrow (work_of self.old).state.head.name id (of self.old.transactions self.old.realm) }
         requires numbered { are_numbered (work_of self.old).state ≡ true }
         requires lines { lines_at seat.number (work_of self.old).state + 2 ≤ self.old.making.free }
+        requires queried { lines_queried seat.number (work_of self.old).state ≤ self.old.making.free }
         requires none { IsIdle self.old.making.answer }
         ensures { Does self.old self.new (chosen (line today (seated seat (work_of self.old).state) heard (work_of self.old)) self.old.outcome) }
     {
@@ -120,6 +121,7 @@ impl Work<Connection, Transaction, Making> {
     fn hear_as_primary(&mut self, number: u32, place: usize, heard: Heard)
         requires stands { StandsAt self.old.connections self.old.realm (has_number number) place }
         requires lines { lines_at number (work_of self.old).state + 2 ≤ self.old.making.free }
+        requires queried { lines_queried number (work_of self.old).state ≤ self.old.making.free }
         requires none { IsIdle self.old.making.answer }
         ensures { (connection : AConnection) → connection_of number (work_of self.old).state ≡ Some connection → Does self.old self.new (chosen (hear today Primary heard connection (work_of self.old)) self.old.outcome) }
     {

@@ -1,33 +1,38 @@
 //! The change of its row that an event wants, by reading alone, so that its outcome can be had before the event happens.
-ghost use Rattle.std.specs.Prelude.{◌≡◌, ◌<◌, Some, length, IfOk};
-ghost use Rattle.std.specs.Option.{option_and_then};
+ghost use Rattle.std.specs.Prelude.{◌≡◌, ◌<◌, ◌&&◌, false, not, Some, length, IfOk};
+ghost use Rattle.std.specs.List.{list_any};
+ghost use Rattle.std.specs.Option.{option_and_then, option_map_or};
 ghost use Rattle.tip_branch.specs.Notes.{PartyNotes};
 ghost use Rattle.tip_conn.specs.Table.{admit_of};
 ghost use Rattle.tip_line.specs.Command.{name_of};
 ghost use Rattle.tip_line.specs.declared.command.Command.TheVariants.{Commit, Prepare};
+ghost use Rattle.tip_line.specs.declared.command.CommandName.TheVariants.{Query};
+ghost use Rattle.tip_line.specs.declared.response.ResponseName.TheVariants.{QueriedNotFound};
+ghost use Rattle.tip_machine.specs.Connections.{advanced, is_idle, is_superior_of};
 ghost use Rattle.tip_table.specs.Kept.{StandsAt};
 ghost use Rattle.tip_txn.specs.Parts.{answered};
 ghost use Rattle.tip_machine.specs.Proceeding.{owed_to_superior};
-ghost use Rattle.tip_machine.specs.States.{seated, transaction_of};
+ghost use Rattle.tip_machine.specs.States.{connection_of, seated, transaction_of};
 ghost use Rattle.tip_machine.specs.Transactions.{noting, standing_at};
 ghost use Rattle.tip_machine.specs.Types.{seen, Transaction as ATransaction};
 ghost use Rattle.tip_machine.specs.declared.transaction.PartyPlace.TheVariants.{Here, Spent};
 ghost use Rattle.tip_machine.specs.declared.event.Event.TheVariants.{Line, Resume, Settled, Voted};
-ghost use Rattle.tip_core.specs.Noting.{part_of};
-ghost use Rattle.tip_core.specs.Wanting.{abort_for, asked, command_wanted, foreseen, hears_responses, is_admitted, line_wanted, of_superior, outlook, owed_then, response_wanted, resume_wanted, wanted_noting, wanted_of_part, wished};
+ghost use Rattle.tip_core.specs.Noting.{exists_of, note_of, part_of};
+ghost use Rattle.tip_core.specs.Wanting.{abort_for, answer_wanted, asked, command_wanted, foreseen, forgotten, hears_responses, is_admitted, line_wanted, of_superior, outlook, owed_then, query_wanted, response_wanted, resume_wanted, wanted_noting, wanted_of_part, wished};
 ghost use Rattle.tip_core.specs.Works.{is_keyed, work_of};
 
 use crate::commands::superior_role;
 use crate::making::Making;
-use crate::noting::Note;
+use crate::noting::{Awaits, Note, exists_of};
 use crate::outlook::Outlook;
-use crate::query::SuperiorOf;
+use crate::query::{SuperiorOf, asks_for};
+use crate::reconnecting::is_prepared;
 use crate::returning::{answer_of, is_aborting, is_committed, is_committing, is_voting};
 use crate::work::{Work, has_ready};
 use std::alloc::{AllocError, Global};
 use tip_branch::{HeldParty, Member};
-use tip_conn::{Admit, Side, admit};
-use tip_line::{Command, CommandName, Id, Response};
+use tip_conn::{Admit, Side, State, Turn, admit, after_named};
+use tip_line::{Command, CommandName, Id, Response, ResponseName};
 use tip_machine::{Change, Connection, Event, Heard, PartyPlace, Role, Seat, Transaction};
 use tip_rows::Key;
 use tip_txn::{Ballot, Part, Phase};
@@ -198,6 +203,7 @@ impl Work<Connection, Transaction, Making> {
 
     /// What a response wants that comes for a connection: the row that all agree on, or that it is removed once all have
     /// acknowledged.
+    #[tactic(auto, using(crate::proofs::Asking::itself))]
     fn wanted_by_response(
         &self,
         alloc: Global,
@@ -214,9 +220,67 @@ impl Work<Connection, Transaction, Making> {
         if !hears_responses(connection) {
             return Ok(None);
         }
+        match Awaits::of(&connection.awaited) {
+            Awaits::OfPart(_) => self.wanted_by_part(alloc, connection, response),
+            Awaits::Queried(key) => Ok(self.wanted_by_query(connection, key, response)),
+            Awaits::Nothing | Awaits::Identified | Awaits::Pulled => Ok(None),
+        }
+    }
+
+    /// The same of a response to what a part was asked.
+    fn wanted_by_part(
+        &self,
+        alloc: Global,
+        connection: &Connection,
+        response: &Response,
+    ) -> Result<Option<Change>, AllocError>
+        ensures { IfOk result (λ change. change ≡ answer_wanted (note_of connection.now.awaited response.now) connection.now (work_of self.now).state) }
+    {
         match Note::copied(&connection.awaited, response)? {
             Some(note) => self.wanted_once_noted(alloc, connection.role, &note),
             None => Ok(None),
+        }
+    }
+
+    /// What a response to QUERY wants: that the row of a transaction in doubt is removed, which its superior has forgotten.
+    fn wanted_by_query(
+        &self,
+        connection: &Connection,
+        key: Key,
+        response: &Response,
+    ) -> Option<Change>
+        requires { connection_of connection.now.number (work_of self.now).state ≡ Some connection.now }
+        ensures { result ≡ query_wanted (exists_of response.now) key connection.now (work_of self.now).state }
+    {
+        if exists_of(response)? {
+            return None;
+        }
+        let place = self.transaction(key)?;
+        let transaction = self.at(key, place);
+        if is_prepared(transaction.txn.phase())
+            && !self.has_superior_then(connection, transaction.key)
+        {
+            Some(Change::Remove {
+                key: transaction.key,
+            })
+        } else {
+            None
+        }
+    }
+
+    /// Whether the superior of the transaction of a key is on a connection, once this one has gone on after QUERIEDNOTFOUND.
+    #[tactic(auto, using(crate::proofs::Asking::superior_then))]
+    fn has_superior_then(&self, connection: &Connection, key: Key) -> bool
+        requires { connection_of connection.now.number (work_of self.now).state ≡ Some connection.now }
+        ensures { result ≡ list_any (is_superior_of key) (forgotten connection.now (work_of self.now).state).connections }
+    {
+        let there = self
+            .connections
+            .count_passing(self.realm, &SuperiorOf { key });
+        if leaves(connection, key) {
+            there > 1
+        } else {
+            there > 0
         }
     }
 
@@ -387,6 +451,29 @@ fn hears_responses(connection: &Connection) -> bool
     ensures { result ≡ hears_responses connection.now }
 {
     connection.may_take() && connection.side == Side::Primary
+}
+
+/// Whether a connection is the one of a transaction's superior, and no more once it has gone on after QUERIEDNOTFOUND.
+#[tactic(auto, using(crate::proofs::Asking::leaving))]
+fn leaves(connection: &Connection, key: Key) -> bool
+    ensures { result ≡ (is_superior_of key connection.now && not (is_superior_of key (advanced Query QueriedNotFound connection.now))) }
+{
+    asks_for(connection.role, key)
+        && becomes_idle(after_named(
+            connection.state,
+            CommandName::Query,
+            ResponseName::QueriedNotFound,
+        ))
+}
+
+/// Whether a connection is idle once it has gone there.
+fn becomes_idle(to: Option<(State, Turn)>) -> bool
+    ensures { result ≡ option_map_or (λ place. is_idle place.0) to false }
+{
+    match to {
+        Some((state, _)) => state == State::Idle,
+        None => false,
+    }
 }
 
 /// Whether a command is valid on a connection.

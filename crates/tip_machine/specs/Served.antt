@@ -13,8 +13,8 @@ pub record Serving : Type 0 where
   -- where connections are not dialled, a realm has none free to dial (Full), to push or to pull on (Busy)
   pub dials : Bool
 
--- the responses of connections that turned round, or went on: all but those to IDENTIFY and QUERY, with which a connection that
--- we dialled begins
+-- the responses on connections that turned round, or went on: all but that to IDENTIFY, with which a connection that we dialled
+-- begins
 abbrev pub is_heard : Option Awaited → Bool
 is_heard None = false
 is_heard (Some (Identify purpose)) = false
@@ -23,7 +23,7 @@ is_heard (Some Pull) = true
 is_heard (Some Prepare) = true
 is_heard (Some Commit) = true
 is_heard (Some Abort) = true
-is_heard (Some (Query key)) = false
+is_heard (Some (Query key)) = true
 is_heard (Some Reconnect) = true
 
 -- what is served today: every command, on connections that others open, and what parts answer there
