@@ -4,6 +4,7 @@ ghost use Rattle.tip_branch.specs.Always.{Always};
 ghost use Rattle.tip_machine.specs.Heads.{starting};
 ghost use Rattle.tip_machine.specs.Steps.{fits};
 ghost use Rattle.tip_machine.specs.States.{State, started};
+ghost use Rattle.tip_machine.specs.Types.{seen};
 ghost use Rattle.tip_recovery.specs.Adopting.{are_adopted};
 ghost use Rattle.tip_core.specs.Hosted.{realm as realm_at, room_in, may_take_in, must_wait_in, HaveNames, IsRoomFor, Steps};
 ghost use Rattle.tip_core.specs.Isolation.{IsIsolated};
@@ -18,8 +19,9 @@ use crate::turns::Turns;
 use std::alloc::{AllocError, Global};
 use std::marker::Model;
 use tip_line::{Realm, Refusal};
-use tip_machine::{Answer, Event, Head, InRealm, Outcome, Seat, Start};
+use tip_machine::{Answer, Event, Head, InRealm, Outcome, Seat, Start, Transaction};
 use tip_recovery::Recovery;
+use tip_table::Items;
 
 /// What a list of events came to.
 #[derive(Drop)]
@@ -77,6 +79,7 @@ impl Core {
         requires { Always }
         ensures realms { (place : ℕ) → realm_at self.new place ≡ realm_at self.old place }
         ensures ok { OnOk result (transactions ≤ self.new.transactions.free) }
+        ensures named { HaveNames self.new }
     {
         self.realms.transactions.reserve_for(transactions)
     }
@@ -88,6 +91,7 @@ impl Core {
         ensures own { (state : State) → realm_at self.old realm ≡ Some state → IsOf recovery state.head → realm_at self.new realm ≡ Some (taking_up recovery.rows state) }
         ensures others { (other : ℕ) → other ≢ realm → realm_at self.new other ≡ realm_at self.old other }
         ensures room { self.new.transactions.free + length recovery.rows ≡ self.old.transactions.free }
+        ensures named { HaveNames self.new }
     {
         let epoch = recovery.epoch();
         reopen_all(
@@ -146,6 +150,22 @@ impl Core {
         ensures { option_map (λ name. name.now) result ≡ option_map (λ state. state.head.name) (realm_at self.now realm) }
     {
         Some(&self.realms.heads.get(realm)?.name)
+    }
+
+    /// What is known of each realm, in the order of declaration.
+    pub fn heads(&self) -> &[Head]
+        requires { Always }
+        ensures { (place : ℕ) → slice_get result.now place ≡ option_map (λ state. state.head) (realm_at self.now place) }
+    {
+        &self.realms.heads
+    }
+
+    /// The transactions of a realm, in the order made.
+    pub fn transactions(&self, realm: usize) -> Items<'_, Transaction>
+        requires { Always }
+        ensures { (state : State) → realm_at self.now realm ≡ Some state → map seen result ≡ state.transactions }
+    {
+        self.realms.transactions.items(realm)
     }
 
     /// Whether a line of this seat may be taken now; else it is held until it may.

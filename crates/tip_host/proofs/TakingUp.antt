@@ -1,13 +1,14 @@
 -- Realms that take up their rows, one after another.
 use Rattle.std.proofs.Common.{◌≡◌, ℕ, zero, suc, ◌+◌, ◌<◌, ◌≤◌, Bool, true, List, [], ◌∷◌, ◌++◌, Option, None, Some, length, get_or, refl, ap, arith, sym, subst, ◌∙◌, inl, inr}
 use Rattle.std.specs.Prelude.{IfErr, OnErr, OnOk, Ok, Err, Result, slice_get, slice_set}
+use Rattle.std.specs.Global.{Vec}
 use Rattle.std.specs.Option.{option_map_or}
 use Rattle.std.proofs.lemmas.Bool.{and_parts, cases_lt}
 use Rattle.std.proofs.lemmas.Option.{same_Some, slice_get-get_or, slice_get_past}
 use Rattle.std.proofs.lemmas.Result.{IfErr-weaker, on_ok_weaker}
 use Rattle.tip_branch.specs.declared.branch.Badge.{Badge}
 use Rattle.tip_machine.specs.States.{State, started}
-use Rattle.tip_recovery.specs.Adopting.{Recovery, adopted_for, adopting, are_adopted, is_named, refusal_of}
+use Rattle.tip_recovery.specs.Adopting.{Recovery, adopted_all, adopted_for, adopting, are_adopted, are_for_all, is_named, refusal_of}
 use Rattle.tip_recovery.specs.declared.unfinished.AdoptFault.{AdoptFault}
 use Rattle.tip_recovery.specs.declared.unfinished.AdoptFault.TheVariants.{NotInDoubt}
 use Rattle.tip_table.specs.Lists.{changed}
@@ -89,5 +90,42 @@ pub still_begun : {T E : Type 0} (result : Result T E) (core : Hosted) (place : 
 still_begun (Ok x) core place id boxes old new begun ok err = rw ok.1 (record {
   each = λ at. begun-adopted_at (realm core at) place at id boxes old (begun.each at);
   room = subst (λ n. n ≤ core.transactions.free) (sym (count-adopted_at place id boxes old)) begun.room;
+  names = begun.names;
 })
 still_begun (Err e) core place id boxes old new begun ok err = rw err begun
+
+-- the boxes of all rows of a realm, in a vector
+abbrev pub with_its : Vec (List Badge) → Recovery → Recovery
+with_its lots recovery = record recovery { rows = adopted_all lots.items recovery.rows }
+
+abbrev pub fits_it : Vec (List Badge) → Recovery → Bool
+fits_it lots recovery = are_for_all lots.items recovery.rows
+
+-- One realm is in the place of another that is like it
+
+pub record IsLike (new old : Recovery) : Type 0 where
+  pub realm : new.realm ≡ old.realm
+  pub epoch : new.epoch ≡ old.epoch
+  pub count : length new.rows ≡ length old.rows
+
+module _ (new old : Recovery) (like : IsLike new old) where
+  count-set : (place : ℕ) (realms : List Recovery) → slice_get realms place ≡ Some old → count_rows (slice_set realms place new) ≡ count_rows realms
+  count-set place [] here = refl
+  count-set zero (r ∷ realms) here = ap (λ n. n + count_rows realms) (like.count ∙ ap (λ (x : Recovery). length x.rows) (sym (same_Some r old here)))
+  count-set (suc place) (r ∷ realms) here = ap (λ n. length r.rows + n) (count-set place realms here)
+
+  begun-set : (state : Option State) (place at : ℕ) (realms : List Recovery) → slice_get realms place ≡ Some old → HasBegun state (slice_get realms at) → HasBegun state (slice_get (slice_set realms place new) at)
+  begun-set state place at [] here begun = begun
+  begun-set state zero zero (r ∷ realms) here begun = let was = subst (λ x. HasBegun state (Some x)) (same_Some r old here) begun in (was.0, was.1, record { name = was.2.name ∙ sym like.realm; epoch = was.2.epoch ∙ sym like.epoch })
+  begun-set state zero (suc at) (r ∷ realms) here begun = begun
+  begun-set state (suc place) zero (r ∷ realms) here begun = begun
+  begun-set state (suc place) (suc at) (r ∷ realms) here begun = begun-set state place at realms here begun
+
+  pub still_begun_with : (core : Hosted) (place : ℕ) (realms : List Recovery) → place < length realms → old ≡ get_or realms place old → HaveBegun core realms → HaveBegun core (slice_set realms place new)
+  still_begun_with core place realms within is begun =
+      let here : slice_get realms place ≡ Some old = slice_get-get_or realms place old within ∙ ap Some (sym is) in
+      record {
+        each = λ at. begun-set (realm core at) place at realms here (begun.each at);
+        room = subst (λ n. n ≤ core.transactions.free) (sym (count-set place realms here)) begun.room;
+        names = begun.names;
+      }

@@ -5,6 +5,7 @@ use Rattle.std.specs.Str.{bytes_eq}
 use Rattle.tip_machine.specs.Heads.{are_allowed, is_within}
 use Rattle.tip_machine.specs.Starting.{are_counted_from}
 use Rattle.tip_machine.specs.declared.head.Limits.{Limits}
+use Rattle.tip_machine.specs.declared.head.Head.{Head}
 use Rattle.tip_machine.specs.declared.head.Start.{Start}
 use Rattle.tip_machine.specs.Heads.{starting}
 use Rattle.tip_machine.specs.States.{started}
@@ -42,6 +43,10 @@ names_of specs = map (λ spec. spec.name) specs
 -- a realm at its start in an epoch
 abbrev pub start_of : RealmSpec → ℕ → Start
 start_of spec epoch = record { name = spec.name; address = spec.address; limits = spec.limits; branches = spec.branches; epoch = epoch }
+
+-- a realm as it was declared
+abbrev pub spec_of : Head → RealmSpec
+spec_of head = record { name = head.name; address = head.address; limits = head.limits; branches = head.branches }
 
 -- each realm at its start, in the epoch that was loaded
 abbrev pub starts_of : List RealmSpec → List Recovery → List Start

@@ -6,10 +6,10 @@ use Rattle.tip_branch.specs.declared.branch.Badge.{Badge}
 use Rattle.tip_machine.specs.Recovery.{restarted}
 use Rattle.tip_machine.specs.States.{State, started}
 use Rattle.tip_machine.specs.declared.head.Head.{Head}
-use Rattle.tip_recovery.specs.Adopting.{Recovery, adopted_for, are_adopted, loaded, refusal_of}
+use Rattle.tip_recovery.specs.Adopting.{Recovery, adopted_all, adopted_for, are_adopted, are_for_all, fit, given, loaded, refusal_of}
 use Rattle.tip_recovery.specs.declared.unfinished.AdoptFault.{AdoptFault}
 use Rattle.tip_recovery.specs.declared.unfinished.AdoptFault.TheVariants.{NotInDoubt}
-use Rattle.tip_core.specs.Hosted.{Hosted, realm}
+use Rattle.tip_core.specs.Hosted.{HaveNames, Hosted, realm}
 use Rattle.tip_core.specs.Recovering.{IsOf}
 
 -- the realms in the order of declaration: as they have started, and as they are to be taken up
@@ -34,6 +34,14 @@ adopted_at place id boxes [] = []
 adopted_at zero id boxes (recovery ∷ realms) = adopted_for id boxes recovery ∷ realms
 adopted_at (suc place) id boxes (recovery ∷ realms) = recovery ∷ adopted_at place id boxes realms
 
+-- boxes for each row of each realm at its place, one for each branch
+abbrev pub are_for_each : List (List (List Badge)) → List Recovery → Bool
+are_for_each boxes realms = fit (λ lots recovery. are_for_all lots recovery.rows) boxes realms
+
+-- they are adopted
+abbrev pub adopted_each : List (List (List Badge)) → List Recovery → List Recovery
+adopted_each boxes realms = given (λ lots recovery. record recovery { rows = adopted_all lots recovery.rows }) boxes realms
+
 -- The realms
 
 -- WHAT RECOVERY MAKES of a realm that has just started, by its rows and the boxes that were adopted for them
@@ -54,3 +62,4 @@ count_rows (recovery ∷ realms) = length recovery.rows + count_rows realms
 pub record HaveBegun (core : Hosted) (realms : List Recovery) : Type 0 where
   pub each : (place : ℕ) → HasBegun (realm core place) (slice_get realms place)
   pub room : count_rows realms ≤ core.transactions.free
+  pub names : HaveNames core

@@ -7,10 +7,10 @@ ghost use Rattle.tip_machine.specs.States.{started};
 ghost use Rattle.tip_core.specs.Hosted.{realm as realm_at};
 ghost use Rattle.tip_host.specs.Recovering.{HaveBegun, count_rows};
 ghost use Rattle.tip_rows.specs.Logs.{IsSettled, Log};
-ghost use Rattle.tip_host.specs.Loading.{AreKnown, AreOpened, AreRead, AreTheirs, Goes, Loads, IsIts, IsKnown, IsOnTheWay, IsRead, IsReason, IsReasonToRead, Never, Stays, is_refusal_to_load, are_hostable, is_bad_realm, names_differ, names_of, opened, refused_by, starts_of};
+ghost use Rattle.tip_host.specs.Loading.{AreKnown, AreOpened, AreRead, AreTheirs, Goes, Loads, IsIts, IsKnown, IsOnTheWay, IsRead, IsReason, IsReasonToRead, Never, Stays, is_refusal_to_load, are_hostable, is_bad_realm, names_differ, names_of, opened, refused_by, spec_of, starts_of};
 
 use crate::host::Host;
-use crate::realm_spec::{RealmSpec, names_differ};
+use crate::realm_spec::{RealmSpec, declared, names_differ};
 use crate::recovering::Recovering;
 use std::alloc::{AllocError, Global};
 use thiserror::Error;
@@ -60,6 +60,14 @@ impl<S: RowLog> Host<S, Core> {
         ensures { Loads S.stands S.may_leave S.is_true S.faults S.is_due specs.items store result }
     {
         load(alloc, store, core, specs)
+    }
+
+    /// Each realm as it was declared, to be loaded again.
+    pub fn declarations(&self, alloc: Global) -> Result<Vec<RealmSpec>, AllocError>
+        requires { Always }
+        ensures { IfOk result (λ specs. (place : ℕ) → slice_get specs.items place ≡ option_map (λ state. spec_of state.head) (realm_at self.now.core place)) }
+    {
+        declared(alloc, self.core.heads())
     }
 
     /// The process starts again: all but the store is dropped, and these realms are loaded again.

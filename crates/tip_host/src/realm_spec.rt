@@ -1,13 +1,14 @@
 //! A realm as it is to be hosted.
-ghost use Rattle.std.specs.Prelude.{◌≡◌, ◌+◌, ◌≤◌, true, false, not, length, IfOk, OnErr, OnOk};
+ghost use Rattle.std.specs.Prelude.{◌≡◌, ◌+◌, ◌≤◌, true, false, not, length, map, IfOk, OnErr, OnOk};
 ghost use Rattle.std.specs.List.{list_all};
 ghost use Rattle.std.specs.Str.{bytes_eq};
 ghost use Rattle.tip_machine.specs.Starting.{are_counted_from};
-ghost use Rattle.tip_host.specs.Loading.{are_declared, is_allowed, names_differ, start_of};
+ghost use Rattle.tip_host.specs.Loading.{are_declared, is_allowed, names_differ, spec_of, start_of};
 
+use std::alloc::{AllocError, Global};
 use thiserror::Error;
 use tip_line::{Address, Realm};
-use tip_machine::{Limits, Start};
+use tip_machine::{Head, Limits, Start};
 use tip_rows::{Branches, Label};
 
 /// A limit of the realm is out of its range, or its branches are not one to eight, numbered from 1.
@@ -48,6 +49,18 @@ impl RealmSpec {
         })
     }
 
+    /// The realm of this head, as it was declared.
+    fn of(alloc: Global, head: &Head) -> Result<RealmSpec, AllocError>
+        ensures { IfOk result (λ spec. spec ≡ spec_of head.now) }
+    {
+        Ok(RealmSpec {
+            name: head.name.copy()?,
+            address: head.address.copy()?,
+            limits: head.limits,
+            branches: head.branches.copy(alloc)?,
+        })
+    }
+
     /// The realm at its start in this epoch. It takes no memory.
     pub(crate) fn into_start(self, epoch: u32) -> Start
         ensures { result ≡ start_of self epoch }
@@ -66,6 +79,17 @@ impl RealmSpec {
             epoch,
         }
     }
+}
+
+/// The realms of these heads, as they were declared.
+pub(crate) fn declared(alloc: Global, heads: &[Head]) -> Result<Vec<RealmSpec>, AllocError>
+    ensures { IfOk result (λ specs. specs.items ≡ map spec_of heads.now) }
+{
+    let mut specs = Vec::with_capacity(alloc, heads.len())?;
+    for head in heads {
+        specs.push_reserved(RealmSpec::of(alloc, head)?);
+    }
+    Ok(specs)
 }
 
 /// Whether no two of these realms have one name.

@@ -1,9 +1,9 @@
 //! A host before it begins: its realms have just started, and boxes are adopted for their rows.
-ghost use Rattle.std.specs.Prelude.{◌≡◌, ℕ, [], None, Some, true, false, option_map, slice_get, IfErr, IfOk, OnErr, OnOk};
+ghost use Rattle.std.specs.Prelude.{◌≡◌, ℕ, [], None, Some, true, false, length, map, option_map, slice_get, IfErr, IfOk, OnErr, OnOk};
 ghost use Rattle.std.specs.Option.{option_map_or};
 ghost use Rattle.tip_branch.specs.Always.{Always};
-ghost use Rattle.tip_core.specs.Hosted.{realm as realm_at};
-ghost use Rattle.tip_host.specs.Recovering.{HaveBegun, adopted_at, all_adopted, recovered, refusal_at};
+ghost use Rattle.tip_core.specs.Hosted.{HaveNames, Hosted, realm as realm_at};
+ghost use Rattle.tip_host.specs.Recovering.{HaveBegun, adopted_at, adopted_each, all_adopted, are_for_each, recovered, refusal_at};
 
 use crate::host::Host;
 use std::marker::Model;
@@ -50,6 +50,14 @@ impl<S: RowLog> Recovering<S> {
         }
     }
 
+    /// All realms, in the order of declaration.
+    pub fn realms(&self) -> &[Recovery]
+        requires { Always }
+        ensures { result.now ≡ self.now.realms }
+    {
+        &self.realms
+    }
+
     /// The rows of a realm by rising key, also those for which nothing is to be adopted; none of a realm that is not there.
     pub fn in_doubt(&self, realm: usize) -> &[Unfinished]
         requires { Always }
@@ -84,12 +92,24 @@ impl<S: RowLog> Recovering<S> {
         adopt_at(&mut self.realms, realm, id, boxes)
     }
 
+    /// These boxes are adopted, for each row of each realm at its place one for each of its branches. It says whether they fit;
+    /// where they do not, some may have been adopted.
+    pub fn adopt_all(&mut self, boxes: Vec<Vec<HeldPrepared>>) -> bool
+        requires { Always }
+        ensures fits { result ≡ are_for_each (map (λ lots. lots.items) boxes.items) self.old.realms }
+        ensures adopted { result ≡ true → self.new ≡ record self.old { realms = adopted_each (map (λ lots. lots.items) boxes.items) self.old.realms } }
+        ensures store { self.new.store ≡ self.old.store }
+    {
+        boxes.len() == self.realms.len() && adopt_each(&mut self.realms, boxes)
+    }
+
     /// The host begins: each realm is as recovery makes it of its rows and boxes. It takes no memory. Where a row still waits,
     /// all is handed back.
     pub fn begin(self) -> Result<Host<S, Core>, (Unadopted, Recovering<S>)>
         requires { Always }
         ensures store { IfOk result (λ host. host.store ≡ self.store) }
         ensures realms { IfOk result (λ host. (place : ℕ) → realm_at host.core place ≡ recovered (slice_get self.realms place) (realm_at self.core place)) }
+        ensures names { IfOk result (λ host. HaveNames host.core) }
         ensures running { IfOk result (λ host. host.is_stopped ≡ false) }
         ensures adopted { OnOk result (all_adopted self.realms ≡ true) }
         ensures back { IfErr result (λ fault. fault.1 ≡ self) }
@@ -138,11 +158,29 @@ fn adopt_at(
     realms[realm].adopt(id, boxes)
 }
 
+/// These boxes are adopted, for each realm at its place.
+fn adopt_each(realms: &mut Vec<Recovery>, boxes: Vec<Vec<HeldPrepared>>) -> bool
+    requires { length boxes.items ≡ length realms.old.items }
+    ensures fits { result ≡ are_for_each (map (λ lots. lots.items) boxes.items) realms.old.items }
+    ensures adopted { result ≡ true → realms.new.items ≡ adopted_each (map (λ lots. lots.items) boxes.items) realms.old.items }
+    ensures begun { (core : Hosted) → HaveBegun core realms.old.items → HaveBegun core realms.new.items }
+{
+    let mut place = 0;
+    for lots in boxes {
+        if !realms[place].adopt_all(lots) {
+            return false;
+        }
+        place += 1;
+    }
+    true
+}
+
 /// Each realm takes up its rows, in room that is there.
 fn take_up_all(core: &mut Core, realms: Vec<Recovery>)
     requires begun { HaveBegun core.old realms.items }
     requires adopted { all_adopted realms.items ≡ true }
-    ensures { (place : ℕ) → realm_at core.new place ≡ recovered (slice_get realms.items place) (realm_at core.old place) }
+    ensures realms { (place : ℕ) → realm_at core.new place ≡ recovered (slice_get realms.items place) (realm_at core.old place) }
+    ensures names { HaveNames core.new }
 {
     let mut place = 0;
     for recovery in realms {

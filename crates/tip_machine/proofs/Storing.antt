@@ -1,6 +1,6 @@
 -- A row is put among the rows of a realm, or taken out: what stands at each key then, and that the keys rise still.
 use Rattle.std.proofs.Common.{◌≡◌, Bool, true, false, List, [], ◌∷◌, Option, Some, None, cond, refl, ap, subst, sym, arith, ◌∙◌}
-use Rattle.std.specs.Prelude.{◌&&◌, find, option_map}
+use Rattle.std.specs.Prelude.{◌&&◌, find, map, option_map}
 use Rattle.std.specs.List.{list_all}
 use Rattle.std.proofs.lemmas.Bool.{and_from, and_parts, both_ways}
 use Rattle.std.proofs.lemmas.Bool.Decides.{nat_tests}
@@ -162,3 +162,24 @@ same_rows (e ∷ rows) (f ∷ others) rising rising' same =
           ap (λ x. x ∷ rows) one ∙ ap (λ l. f ∷ l) (rest (same_rest f rows others (subst (λ k. leads k rows ≡ true) key all) all' (subst (λ x. (k : Key) → row_at k (x ∷ rows) ≡ row_at k (f ∷ others)) one same)))
       step false true apart before all all' rest = absurd (none-some e.1 (sym (sym (first_at e rows) ∙ same e.0 ∙ absent_before e.0 f others before all')))
       step false false apart not all all' rest = absurd (none-some f.1 (sym (sym (first_at f others) ∙ sym (same f.0) ∙ absent_before f.0 e rows (before_or e.0 f.0 apart not) all)))
+
+-- Each row stands at its key
+
+abbrev AreAt : List (Key × Row) → List (Key × Row) → Type 0
+AreAt all [] = Unit {0}
+AreAt all (e ∷ rows) = (row_at e.0 all ≡ Some e.1) × AreAt all rows
+
+at_behind : (e : Key × Row) (all rows : List (Key × Row)) → leads e.0 rows ≡ true → AreAt all rows → AreAt (e ∷ all) rows
+at_behind e all [] before at = tt
+at_behind e all (f ∷ rows) before at = let parts = and_parts (comes_before e.0 f.0) (leads e.0 rows) before in (passed_over e all f.0 (before_apart e.0 f.0 parts.0) ∙ at.0, at_behind e all rows parts.1 at.1)
+
+all_at : (rows : List (Key × Row)) → is_rising rows ≡ true → AreAt rows rows
+all_at [] rising = tt
+all_at (e ∷ rows) rising = let parts = and_parts (leads e.0 rows) (is_rising rows) rising in (first_at e rows, at_behind e rows rows parts.0 (all_at rows parts.1))
+
+found_each : {T : Type 0} (f : Key × Row → Option Row → T) (all rows : List (Key × Row)) → AreAt all rows → map (λ e. f e (row_at e.0 all)) rows ≡ map (λ e. f e (Some e.1)) rows
+found_each f all [] at = refl
+found_each f all (e ∷ rows) at = ap (λ found. f e found ∷ map (λ (x : Key × Row). f x (row_at x.0 all)) rows) at.0 ∙ ap (λ l. f e (Some e.1) ∷ l) (found_each f all rows at.1)
+
+pub each_found : {T : Type 0} (f : Key × Row → Option Row → T) (rows : List (Key × Row)) → is_rising rows ≡ true → map (λ e. f e (row_at e.0 rows)) rows ≡ map (λ e. f e (Some e.1)) rows
+each_found f rows rising = found_each f rows rows (all_at rows rising)

@@ -1,5 +1,5 @@
 -- A realm's stored rows before they are taken up again, and the boxes that were adopted for them so far.
-use Rattle.std.specs.Prelude.{◌≡◌, ℕ, ◌<◌, ◌==◌, ◌&&◌, Bool, true, not, List, [], ◌∷◌, length, map, Option, None, Some, find, is_none, unwrap_or, if◌then◌else◌, MatchOption}
+use Rattle.std.specs.Prelude.{◌≡◌, ℕ, ◌<◌, ◌==◌, ◌&&◌, Bool, true, false, not, List, [], ◌∷◌, length, map, Option, None, Some, find, is_none, unwrap_or, if◌then◌else◌, MatchOption}
 use Rattle.std.specs.List.{list_all}
 use Rattle.std.specs.Option.{option_map_or}
 use Rattle.std.specs.Str.{bytes_eq}
@@ -49,6 +49,15 @@ fault_of boxes unfinished =
 abbrev pub adopting : List Badge → Unfinished → Unfinished
 adopting boxes unfinished = record unfinished { boxes = Some boxes }
 
+-- are they one for each branch, of a row for which nothing was adopted?
+abbrev pub are_for : List Badge → Unfinished → Bool
+are_for boxes unfinished = length boxes == length (branches_of unfinished.row) && is_none unfinished.boxes
+
+-- a row without branches has no boxes, and nothing is adopted for it
+abbrev pub with_boxes : List Badge → Unfinished → Unfinished
+with_boxes [] unfinished = unfinished
+with_boxes (box ∷ boxes) unfinished = adopting (box ∷ boxes) unfinished
+
 -- ONE REALM that starts again: the epoch of its start, and its rows by rising key
 pub record Recovery : Type 0 where
   pub realm : List ℕ
@@ -75,6 +84,27 @@ refusal_of id boxes rows = option_map_or (fault_of boxes) (find (is_named id) ro
 -- they are adopted for it
 abbrev pub adopted_for : List ℕ → List Badge → Recovery → Recovery
 adopted_for id boxes recovery = record recovery { rows = changed (is_named id) (adopting boxes) recovery.rows }
+
+-- each of a list with what stands at its place in another
+abbrev pub given : {T B : Type 0} → (B → T → T) → List B → List T → List T
+given give [] xs = xs
+given give (b ∷ bs) [] = []
+given give (b ∷ bs) (x ∷ xs) = give b x ∷ given give bs xs
+
+-- does each fit what stands at its place, with nothing left over?
+abbrev pub fit : {T B : Type 0} → (B → T → Bool) → List B → List T → Bool
+fit test [] [] = true
+fit test [] (x ∷ xs) = false
+fit test (b ∷ bs) [] = false
+fit test (b ∷ bs) (x ∷ xs) = test b x && fit test bs xs
+
+-- boxes for each row at its place, one for each branch
+abbrev pub are_for_all : List (List Badge) → List Unfinished → Bool
+are_for_all boxes rows = fit are_for boxes rows
+
+-- they are adopted
+abbrev pub adopted_all : List (List Badge) → List Unfinished → List Unfinished
+adopted_all boxes rows = given with_boxes boxes rows
 
 -- What is made of a row beforehand
 

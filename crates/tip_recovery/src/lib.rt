@@ -6,4 +6,4 @@ mod recovery;
 mod unfinished;
 
 pub use recovery::Recovery;
-pub use unfinished::{AdoptFault, Unfinished};
+pub use unfinished::{AdoptFault, Unfinished, branches_of};

@@ -1,8 +1,8 @@
 //! The rows of one realm that starts again.
-ghost use Rattle.std.specs.Prelude.{◌≡◌, [], find, map, IfErr, IfOk, MatchOption, None, OnErr, OnOk, Some};
+ghost use Rattle.std.specs.Prelude.{◌≡◌, ℕ, List, [], true, find, length, map, IfErr, IfOk, MatchOption, None, OnErr, OnOk, Some};
 ghost use Rattle.tip_branch.specs.Always.{Always};
 ghost use Rattle.tip_table.specs.Lists.{IsFirst, changed};
-ghost use Rattle.tip_recovery.specs.Adopting.{AreOf, adopted_for, adopting, are_adopted, is_named, refusal_of, unadopted};
+ghost use Rattle.tip_recovery.specs.Adopting.{AreOf, adopted_all, adopted_for, adopting, are_adopted, are_for_all, is_named, refusal_of, unadopted};
 
 use crate::unfinished::{AdoptFault, Unfinished};
 use std::alloc::{AllocError, Global};
@@ -81,6 +81,19 @@ impl Recovery {
         adopt_in(&mut self.rows, id, boxes)
     }
 
+    /// These boxes are adopted, for each row at its place one for each of its branches. It says whether they fit; where they do
+    /// not, some may have been adopted.
+    pub fn adopt_all(&mut self, boxes: Vec<HeldPrepared>) -> bool
+        requires { Always }
+        ensures fits { result ≡ are_for_all boxes.items self.old.rows }
+        ensures adopted { result ≡ true → self.new.rows ≡ adopted_all boxes.items self.old.rows }
+        ensures realm { self.new.realm ≡ self.old.realm }
+        ensures epoch { self.new.epoch ≡ self.old.epoch }
+        ensures count { length self.new.rows ≡ length self.old.rows }
+    {
+        boxes.len() == self.rows.len() && adopt_each(&mut self.rows, boxes)
+    }
+
     /// Its rows, without taking memory.
     pub fn into_rows(self) -> Vec<Unfinished>
         requires { Always }
@@ -135,6 +148,24 @@ fn adopt_in(
         Some(place) => rows[place].adopt(boxes),
         None => Err((AdoptFault::NotInDoubt, boxes)),
     }
+}
+
+/// These boxes are adopted, for each row at its place.
+fn adopt_each(rows: &mut Vec<Unfinished>, boxes: Vec<HeldPrepared>) -> bool
+    requires { length boxes.items ≡ length rows.old.items }
+    ensures fits { result ≡ are_for_all boxes.items rows.old.items }
+    ensures adopted { result ≡ true → rows.new.items ≡ adopted_all boxes.items rows.old.items }
+    ensures own { (realm : List ℕ) → AreOf realm rows.old.items → AreOf realm rows.new.items }
+    ensures count { length rows.new.items ≡ length rows.old.items }
+{
+    let mut place = 0;
+    for lot in boxes {
+        if !rows[place].adopt_each(lot) {
+            return false;
+        }
+        place += 1;
+    }
+    true
 }
 
 /// The place of the row of an identifier.

@@ -1,12 +1,13 @@
 //! One stored row that is taken up again.
-ghost use Rattle.std.specs.Prelude.{◌≡◌, false, None, Some, length, map, IfErr, IfOk, OnErr, OnOk};
+ghost use Rattle.std.specs.Prelude.{◌≡◌, true, false, None, Some, length, map, IfErr, IfOk, OnErr, OnOk, if◌then◌else◌};
 ghost use Rattle.tip_branch.specs.Always.{Always};
+ghost use Rattle.tip_rows.specs.Branches.{are_branches};
 ghost use Rattle.tip_rows.specs.Rows.{branches_of};
 ghost use Rattle.tip_machine.specs.Answers.{identifier};
 ghost use Rattle.tip_machine.specs.Recovery.{reopened};
 ghost use Rattle.tip_machine.specs.Types.{seen};
 ghost use Rattle.tip_machine.specs.declared.head.Head.{Head};
-ghost use Rattle.tip_recovery.specs.Adopting.{adopting, fault_of, is_named, loaded, origin_of, phase_of, subordinates_of, unadopted, waits};
+ghost use Rattle.tip_recovery.specs.Adopting.{adopting, are_for, fault_of, is_named, loaded, origin_of, phase_of, subordinates_of, unadopted, waits, with_boxes};
 
 use std::alloc::{AllocError, Global};
 use std::marker::Model;
@@ -56,7 +57,7 @@ impl Unfinished {
         ensures { IfOk result (λ unfinished. unfinished ≡ unadopted realm.now (key, row)) }
     {
         let id = Id::of(alloc, realm, key.epoch(), key.connection(), key.number())?;
-        let numbers = numbers_of(alloc, branches(&row).as_slice())?;
+        let numbers = numbers_of(alloc, branches_of(&row))?;
         let txn = Txn::of(alloc, phase(&row), subordinates(&row).as_slice())?;
         Ok(Unfinished {
             realm: realm.copy()?,
@@ -81,6 +82,13 @@ impl Unfinished {
         ensures { result.now ≡ self.now.row }
     {
         &self.row
+    }
+
+    /// The branches of its row.
+    pub fn branches(&self) -> &[(u8, Label)]
+        ensures { result.now ≡ branches_of self.now.row }
+    {
+        branches_of(&self.row)
     }
 
     /// Whether it waits for boxes.
@@ -114,6 +122,22 @@ impl Unfinished {
         Ok(())
     }
 
+    /// These boxes, one for each branch, are adopted for them in their order; a row without branches takes none. It says whether
+    /// they fit; where they do not, it stays.
+    pub fn adopt_each(&mut self, boxes: HeldPrepared) -> bool
+        requires { Always }
+        ensures fits { result ≡ are_for boxes self.old }
+        ensures adopted { self.new ≡ (if result then with_boxes boxes self.old else self.old) }
+    {
+        if boxes.len() != self.numbers.len() || self.boxes.is_some() {
+            return false;
+        }
+        if !boxes.is_empty() {
+            self.boxes = Some(boxes);
+        }
+        true
+    }
+
     /// Its transaction, in a realm that starts in this epoch.
     pub fn reopen(self, epoch: u32) -> Transaction
         requires { waits self ≡ false }
@@ -144,11 +168,12 @@ impl Unfinished {
 }
 
 /// The branches of a row.
-fn branches(row: &Row) -> &Branches
-    ensures { result.now ≡ branches_of row.now }
+pub fn branches_of(row: &Row) -> &[(u8, Label)]
+    ensures same { result.now ≡ branches_of row.now }
+    ensures branches { are_branches result.now ≡ true }
 {
     match row {
-        Row::Prepared { branches, .. } | Row::Committed { branches, .. } => branches,
+        Row::Prepared { branches, .. } | Row::Committed { branches, .. } => branches.as_slice(),
     }
 }
 

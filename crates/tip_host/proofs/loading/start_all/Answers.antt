@@ -10,5 +10,6 @@ use Rattle.tip_host.proofs.loading.start_all.Goals as goal
 pub returns-clause-begun : goal.returns-clause-begun
 returns-clause-begun g c = record {
   each = λ place. subst (λ (state : Option State). HasBegun state (slice_get c.args.realms.now place)) (sym (c.in_ok-reserve.ensures.realms place ∙ c.in_ok-core.ensures.realms place ∙ ap (λ (starts : List Start). option_map (λ start. started (starting start)) (slice_get starts place)) c.in_ok-starts.ensures)) (has_begun c.args.specs.items c.args.realms.now c.requires.own place);
+  names = c.in_ok-reserve.ensures.named;
   room = omega (arith, c.in_ok-reserve.ensures.ok, c.in_ok-count_rows.ensures);
 }

@@ -19,10 +19,11 @@ loop-recovery-preserved g c =
         | inr differ ↦ c.take_up.ensures.others at differ ∙ c.loop-recovery.invariant.done at (omega (arith, differ))
       ];
       to_come = λ at more. c.take_up.ensures.others at (λ same. omega (arith, same)) ∙ c.loop-recovery.invariant.to_come at (omega arith);
+      names = c.take_up.ensures.named;
       room = grind (arith, common_steps);
     }
 
-pub returns : goal.returns
-returns g c =
+pub returns-clause-realms : goal.returns-clause-realms
+returns-clause-realms g c =
     let all : length c.args.realms.items ≡ c.loop-recovery.place = grind (arith, common_steps) in
     all_taken c.args.core.now c.loop-recovery.core c.args.realms.items c.requires.begun (λ at less. c.loop-recovery.invariant.done at (omega arith)) (λ at more. c.loop-recovery.invariant.to_come at (omega arith))

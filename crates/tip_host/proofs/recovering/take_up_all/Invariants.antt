@@ -1,6 +1,6 @@
 use Rattle.std.proofs.Common.{◌≡◌, ℕ, ◌<◌, ◌≤◌, ◌++◌, length}
 use Rattle.std.specs.Prelude.{slice_get}
-use Rattle.tip_core.specs.Hosted.{realm}
+use Rattle.tip_core.specs.Hosted.{HaveNames, realm}
 use Rattle.tip_host.specs.Recovering.{count_rows, recovered}
 use Rattle.tip_host.proofs.recovering.take_up_all.Given as goal
 
@@ -11,5 +11,6 @@ invariant-loop-recovery g l = record {
   counted : l.place ≡ length l.yielded;
   done : (at : ℕ) → at < l.place → realm l.core at ≡ recovered (slice_get l.fn.realms.items at) (realm l.fn.core at);
   to_come : (at : ℕ) → l.place ≤ at → realm l.core at ≡ realm l.fn.core at;
+  names : HaveNames l.core;
   room : count_rows l.recovery-iterator.rest.items ≤ l.core.transactions.free;
 }

@@ -6,3 +6,6 @@ invariant_of-self g c = (
   counts_stay c.self.inside.realms c.reserve_for.new.self c.self.inside.turns.capacity c.self.invariant.0,
   names_stay c.self.inside.realms c.reserve_for.new.self c.self.inside.turns.capacity c.self.invariant.1,
 )
+
+pub returns-clause-named : goal.returns-clause-named
+returns-clause-named g c = names_stay c.self.inside.realms c.reserve_for.new.self c.self.inside.turns.capacity c.self.invariant.1

@@ -6,3 +6,6 @@ invariant_of-self g c = (
   counts_stay c.self.inside.realms c.reopen_all.new.transactions c.self.inside.turns.capacity c.self.invariant.0,
   names_stay c.self.inside.realms c.reopen_all.new.transactions c.self.inside.turns.capacity c.self.invariant.1,
 )
+
+pub returns-clause-named : goal.returns-clause-named
+returns-clause-named g c = names_stay c.self.inside.realms c.reopen_all.new.transactions c.self.inside.turns.capacity c.self.invariant.1
