@@ -63,6 +63,7 @@ has_fed host place actor actor' printed acting connection index reader reader' o
     subst (Tells host host place actor actor' printed printed true) (sym (done_on (feeds octets) acting connection index given.reading number given.there)) (record {
       own = record {
         served = is.served;
+        rows = is.rows;
         named = is.named;
         name = name ∙ is.name;
         errands = ap (λ e. e.items) errands ∙ is.errands;

@@ -5,14 +5,16 @@ use Rattle.std.specs.Option.{option_to_list}
 use Rattle.std.proofs.lemmas.Bool.{false≢true}
 use Rattle.std.proofs.lemmas.List.{append-nil}
 use Rattle.tip_core.specs.Hosted.{HaveNames, realm}
+use Rattle.tip_rows.specs.Logs.{IsPart, Log}
 use Rattle.tip_rows.specs.Memory.{IsDemanded, is_due_in, log_of}
 use Rattle.tip_actor.proofs.Serving.{itself}
 use Rattle.tip_branch.specs.Notes.{PartyNotes}
-use Rattle.tip_machine.proofs.Stepping.{step-named}
-use Rattle.tip_machine.specs.Moves.{stepped}
+use Rattle.tip_machine.proofs.Stepping.{step-epoch, step-named}
+use Rattle.tip_machine.specs.Moves.{rows_after, stepped}
 use Rattle.tip_machine.specs.Outputs.{drops_of, outputs}
 use Rattle.tip_machine.specs.Returns.{event_of}
 use Rattle.tip_machine.specs.Served.{today}
+use Rattle.tip_machine.specs.States.{State}
 use Rattle.tip_machine.specs.Steps.{step, wants}
 use Rattle.tip_machine.specs.Types.{Answer, Event}
 use Rattle.tip_transcript.specs.Printing.{idle_text, shown_text}
@@ -22,13 +24,14 @@ use Rattle.tip_actor.specs.Standing.{Actor, AreReadings, Happened, Host, IsActin
 
 -- nothing has happened to the other realms
 pub stays : (host : Host) (place : ℕ) (name : List ℕ) → Leaves host host place name
-stays host place name = record { realms = λ other differ. refl; due = λ other differ. refl; known = λ other. refl }
+stays host place name = record { realms = λ other differ. refl; due = λ other differ. refl; known = λ other. refl; parts = λ other epoch rows differ part. part }
 
 pub leaves_on : (first second third : Host) (place : ℕ) (name : List ℕ) → Leaves first second place name → Leaves second third place name → Leaves first third place name
 leaves_on first second third place name before then_ = record {
   realms = λ other differ. then_.realms other differ ∙ before.realms other differ;
   due = λ other differ. then_.due other differ ∙ before.due other differ;
   known = λ other. then_.known other ∙ before.known other;
+  parts = λ other epoch rows differ part. then_.parts other epoch rows differ (before.parts other epoch rows differ part);
 }
 
 -- One event
@@ -45,6 +48,19 @@ errands_are : (event : Event) (acting : Acting) → (stepped today event (outcom
 unfolding stepped
 errands_are event acting = refl
 
+rows_are : (event : Event) (acting : Acting) → (stepped today event (outcome_in acting event) acting.world).world.rows ≡ rows_after (wants acting.world.state event) (outcome_in acting event) acting.world.rows
+unfolding stepped
+rows_are event acting = refl
+
+-- what is stored of the realm after an event is what its world says
+rows_then : (log : Log) (event : Event) (acting : Acting) → IsPart log acting.world.state.head.name acting.world.state.head.epoch (rows_after (wants acting.world.state event) (outcome_in acting event) acting.world.rows) → IsPart log (happens event acting).acting.world.state.head.name (happens event acting).acting.world.state.head.epoch (happens event acting).acting.world.rows
+rows_then log event acting part =
+    let name = ap (λ (s : State). s.head.name) (state_is event acting) ∙ step-named today acting.world.state event (outcome_in acting event) in
+    let epoch = ap (λ (s : State). s.head.epoch) (state_is event acting) ∙ step-epoch today acting.world.state event (outcome_in acting event) in
+    subst (λ n. IsPart log n (happens event acting).acting.world.state.head.epoch (happens event acting).acting.world.rows) (sym name)
+    (subst (λ e. IsPart log acting.world.state.head.name e (happens event acting).acting.world.rows) (sym epoch)
+    (subst (λ r. IsPart log acting.world.state.head.name acting.world.state.head.epoch r) (sym (rows_are event acting)) part))
+
 pub has_happened : (host host' : Host) (place : ℕ) (actor actor' : Actor) (event : Event) (happened : Happened) (printed printed' : List ℕ) (acting : Acting) → IsActing host place actor acting →
     (IsServed host place acting.world.state actor.is_due → Serves host host' place acting.world.state actor.is_due event happened) →
     printed' ≡ printed ++ shown_text actor.name (outputs event happened.change happened.outcome happened.answer) →
@@ -57,6 +73,7 @@ has_happened host host' place actor actor' event happened printed printed' actin
     record {
       own = record {
         served = subst (λ s. IsServed host' place s (still_due acting.due (wants acting.world.state event))) (sym (state_is event acting)) went.served;
+        rows = rows_then (log_of host'.store) event acting (went.rows acting.world.state.head.epoch acting.world.rows is.rows);
         named = ap (λ (s : _). s.head.name) (state_is event acting) ∙ step-named today acting.world.state event (outcome_in acting event) ∙ is.named;
         name = name ∙ is.name;
         errands = errands ∙ ap (λ l. l ++ option_to_list happened.answer.work) is.errands ∙ ap (λ (a : Answer). acting.world.errands ++ option_to_list a.work) went.answer ∙ sym (errands_are event acting);
@@ -80,6 +97,7 @@ popped acting errands = record acting { world = record acting.world { errands = 
 pub pops : (host : Host) (place : ℕ) (actor actor' : Actor) (acting : Acting) (errands : List PartyNotes) → IsActing host place actor acting → actor'.name ≡ actor.name → actor'.is_due ≡ actor.is_due → actor'.readers ≡ actor.readers → actor'.errands.items ≡ errands → IsActing host place actor' (popped acting errands)
 pops host place actor actor' acting errands is name due readers left = record {
   served = is.served;
+  rows = is.rows;
   named = is.named;
   name = name ∙ is.name;
   errands = left;
@@ -146,8 +164,8 @@ has_none_to_go host place actor actor' printed printed' acting is out name due r
 -- Refusals
 
 pub has_refused : (host host' : Host) (place : ℕ) (actor actor' : Actor) (printed : List ℕ) (acting : Acting) → IsActing host place actor acting → host'.core ≡ host.core → actor'.name ≡ actor.name → actor'.readers ≡ actor.readers → actor'.errands ≡ actor.errands → actor'.is_due ≡ true →
-    (log_of host'.store).epochs ≡ (log_of host.store).epochs → IsDemanded host.store host'.store actor.name → IsDone host host' place actor actor' printed printed (refuses acting)
-has_refused host host' place actor actor' printed acting is core name readers errands due epochs demanded =
+    log_of host'.store ≡ log_of host.store → IsDemanded host.store host'.store actor.name → IsDone host host' place actor actor' printed printed (refuses acting)
+has_refused host host' place actor actor' printed acting is core name readers errands due log demanded =
     let own_name : actor.name ≡ acting.world.state.head.name = is.name ∙ sym is.named in
     record {
       own = record {
@@ -155,8 +173,9 @@ has_refused host host' place actor actor' printed acting is core name readers er
           state_is = ap (λ c. realm c place) core ∙ is.served.state_is;
           names = subst HaveNames (sym core) is.served.names;
           due_is = ap (is_due_in host'.store) (sym own_name) ∙ demanded actor.name ∙ ap (λ b. if b then is_some ((log_of host.store).epochs actor.name) else is_due_in host.store actor.name) (itself actor.name) ∙ ap (λ n. is_some ((log_of host.store).epochs n)) own_name ∙ is.served.known;
-          known = ap (λ f. is_some (f acting.world.state.head.name)) epochs ∙ is.served.known;
+          known = ap (λ (l : Log). is_some (l.epochs acting.world.state.head.name)) log ∙ is.served.known;
         };
+        rows = subst (λ l. IsPart l acting.world.state.head.name acting.world.state.head.epoch acting.world.rows) (sym log) is.rows;
         named = is.named;
         name = name ∙ is.name;
         errands = ap (λ e. e.items) errands ∙ is.errands;
@@ -166,7 +185,8 @@ has_refused host host' place actor actor' printed acting is core name readers er
       leaves = record {
         realms = λ other differ. ap (λ c. realm c other) core;
         due = λ other differ. demanded other ∙ ap (λ b. if b then is_some ((log_of host.store).epochs other) else is_due_in host.store other) differ;
-        known = λ other. ap (λ f. f other) epochs;
+        known = λ other. ap (λ (l : Log). l.epochs other) log;
+        parts = λ other epoch rows differ part. subst (λ l. IsPart l other epoch rows) (sym log) part;
       };
       name = name;
       text = sym (append-nil printed);

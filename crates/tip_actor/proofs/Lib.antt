@@ -3,6 +3,7 @@ pub mod Lists
 pub mod Promised
 pub mod Serving
 pub mod Doing
+pub mod Leaving
 pub mod Taking
 pub mod Counting
 pub mod Settling

@@ -6,7 +6,9 @@ use Rattle.std.proofs.lemmas.Bool.{false≢true}
 use Rattle.std.proofs.lemmas.Slice.Eq.{bytes_eq-Decides}
 use Rattle.tip_core.specs.Hosted.{HaveNames, Steps, realm}
 use Rattle.tip_host.specs.Keeping.{Keeps, is_change, log_after}
+use Rattle.tip_host.proofs.Parts.{part_after, part_stays}
 use Rattle.tip_machine.proofs.Stepping.{step-named}
+use Rattle.tip_machine.specs.Moves.{rows_after}
 use Rattle.tip_machine.specs.Served.{today}
 use Rattle.tip_machine.specs.States.{State}
 use Rattle.tip_machine.specs.Steps.{fits, step, wants}
@@ -15,7 +17,7 @@ use Rattle.tip_machine.specs.declared.event.Change.{Change}
 use Rattle.tip_machine.specs.declared.event.Change.TheVariants.{Put, Remove}
 use Rattle.tip_machine.specs.declared.event.Outcome.{Outcome}
 use Rattle.tip_machine.specs.declared.event.Outcome.TheVariants.{NoChange, Stored, Refused}
-use Rattle.tip_rows.specs.Logs.{Log}
+use Rattle.tip_rows.specs.Logs.{IsPart, Log}
 use Rattle.tip_rows.specs.Memory.{Memory, is_due_in, log_of}
 use Rattle.tip_actor.specs.Acting.{outcome_of, still_due}
 use Rattle.tip_actor.specs.Standing.{Happened, Host, IsServed, Leaves, Serves}
@@ -60,7 +62,8 @@ serves old new place state due event happened served steps change fit names keep
     let outcome_now : happened.outcome ≡ outcome_of due (wants state event) = outcome ∙ ap (outcome_of due) change in
     let went = steps.own state served.state_is in
     let same_name = step-named today state event (outcome_of due (wants state event)) in
-    let epochs : (log_of new.store).epochs ≡ (log_of old.store).epochs = ap (λ (l : Log). l.epochs) (keeps.rows (log_of old.store) refl) ∙ epochs_stay state.head.name happened.change happened.outcome (log_of old.store) in
+    let log : log_of new.store ≡ log_after state.head.name happened.change happened.outcome (log_of old.store) = keeps.rows (log_of old.store) refl in
+    let epochs : (log_of new.store).epochs ≡ (log_of old.store).epochs = ap (λ (l : Log). l.epochs) log ∙ epochs_stay state.head.name happened.change happened.outcome (log_of old.store) in
     record {
       change = change;
       outcome = outcome_now;
@@ -71,9 +74,15 @@ serves old new place state due event happened served steps change fit names keep
         due_is = ap (is_due_in new.store) same_name ∙ keeps.spent state.head.name ∙ ap (λ b. if is_change happened.change && b then false else is_due_in old.store state.head.name) (itself state.head.name) ∙ ap (λ d. if is_change happened.change && true then false else d) served.due_is ∙ due_then due happened.change ∙ ap (still_due due) change;
         known = ap (λ n. is_some ((log_of new.store).epochs n)) same_name ∙ ap (λ f. is_some (f state.head.name)) epochs ∙ served.known;
       };
+      rows = λ epoch rows part.
+          subst (λ l. IsPart l state.head.name epoch (rows_after (wants state event) (outcome_of due (wants state event)) rows)) (sym log)
+          (subst (λ c. IsPart (log_after state.head.name c happened.outcome (log_of old.store)) state.head.name epoch (rows_after (wants state event) (outcome_of due (wants state event)) rows)) (sym change)
+          (subst (λ o. IsPart (log_after state.head.name (wants state event) o (log_of old.store)) state.head.name epoch (rows_after (wants state event) (outcome_of due (wants state event)) rows)) (sym outcome_now)
+          (part_after state.head.name (wants state event) (outcome_of due (wants state event)) (log_of old.store) epoch rows part)));
       leaves = record {
         realms = steps.others;
         due = λ other differ. keeps.spent other ∙ ap (λ b. if is_change happened.change && b then false else is_due_in old.store other) differ ∙ ap (λ b. if b then false else is_due_in old.store other) (and_false (is_change happened.change));
         known = λ other. ap (λ f. f other) epochs;
+        parts = λ other epoch rows differ part. subst (λ l. IsPart l other epoch rows) (sym log) (part_stays state.head.name happened.change happened.outcome (log_of old.store) other epoch rows differ part);
       };
     }

@@ -101,6 +101,7 @@ passes_on host place actor actor' acting index reader reader' is before here giv
     let none = gives_none mate.0 (reading_at actor.readers.items acting.readings index reader mate.0 is.readings here mate.1) in (
       record {
         served = is.served;
+        rows = is.rows;
         named = is.named;
         name = name ∙ is.name;
         errands = ap (λ q. q.items) errands ∙ is.errands;
@@ -126,6 +127,7 @@ finds_one host place actor actor' acting index reader reader' event_ is before h
       without = without;
       stands = record {
         served = is.served;
+        rows = is.rows;
         named = is.named;
         name = name ∙ is.name;
         errands = ap (λ q. q.items) errands ∙ is.errands;

@@ -1,13 +1,16 @@
 -- A realm of a script at work, and what one line of the script makes of it.
-use Rattle.std.specs.Prelude.{ℕ, zero, suc, ◌+◌, List, [], ◌∷◌, ◌++◌, length, drop, map, Bool, true, false, ◌&&◌, not, Option, Some, None, is_none, slice_get, slice_set, if◌then◌else◌}
-use Rattle.std.specs.List.{position}
+use Rattle.std.specs.Prelude.{ℕ, zero, suc, ◌+◌, ◌==◌, List, [], ◌∷◌, ◌++◌, length, drop, map, Bool, true, false, ◌&&◌, not, Option, Some, None, is_none, slice_get, slice_set, if◌then◌else◌}
+use Rattle.std.specs.List.{flat_map, position}
+use Rattle.std.specs.Option.{option_map_or}
 use Rattle.tip_branch.specs.declared.branch.Badge.{Badge}
 use Rattle.tip_branch.specs.declared.branch.Plan.{Plan}
+use Rattle.tip_branch.specs.declared.branch.Plan.TheVariants.{Yes}
 use Rattle.tip_branch.specs.Notes.{PartyNotes}
 use Rattle.tip_core.specs.Hosted.{must_wait_on}
 use Rattle.tip_line.specs.Reading.{Item, Text, Bad, items_of}
+use Rattle.tip_machine.specs.Answers.{identifier}
 use Rattle.tip_machine.specs.Events.{heard_of}
-use Rattle.tip_machine.specs.Moves.{World, stepped}
+use Rattle.tip_machine.specs.Moves.{World, Restart, moved, stepped}
 use Rattle.tip_machine.specs.Outputs.{drops_of}
 use Rattle.tip_machine.specs.Returns.{event_of}
 use Rattle.tip_machine.specs.Served.{today}
@@ -24,8 +27,12 @@ use Rattle.tip_machine.specs.declared.event.Heard.TheVariants.{Malformed}
 use Rattle.tip_machine.specs.declared.event.Outcome.{Outcome}
 use Rattle.tip_machine.specs.declared.event.Outcome.TheVariants.{NoChange, Stored, Refused}
 use Rattle.tip_machine.specs.declared.event.Seat.{Seat}
+use Rattle.tip_rows.specs.Keys.{Key}
+use Rattle.tip_rows.specs.Logs.{last_epoch, row_at}
+use Rattle.tip_rows.specs.Rows.{branches_of}
+use Rattle.tip_rows.specs.declared.row.Row.{Row}
 use Rattle.tip_actor.specs.Promises.{answers_of, are_foretold}
-use Rattle.tip_transcript.specs.Printing.{idle_text, shown_text}
+use Rattle.tip_transcript.specs.Printing.{adopted_text, idle_text, shown_text, start_text}
 
 -- what has come on a connection since it was given, or since it failed, and the lines of it that were not yet taken
 pub record Reading : Type 0 where
@@ -220,3 +227,34 @@ drops_from (party ∷ errands) acting = record {
 -- the next change of its rows is to be refused
 abbrev pub refuses : Acting → Done
 refuses acting = quiet (record acting { due = true })
+
+-- A restart
+
+-- so many boxes that promise to commit
+abbrev pub willing : ℕ → List Badge
+willing zero = []
+willing (suc count) = record { plan = Yes; mark = 0 } ∷ willing count
+
+-- each branch of a row has one again
+abbrev pub willing_boxes : Row → List Badge
+willing_boxes row = willing (length (branches_of row))
+
+abbrev pub boxes_in : List (Key × Row) → Key → List Badge
+boxes_in rows key = option_map_or willing_boxes (row_at key rows) []
+
+-- the process starts again: of what it was only the rows stay, and a refusal that is due
+abbrev pub restarts : Acting → Done
+restarts acting =
+    let again = moved today (Restart (boxes_in acting.world.rows)) acting.world in
+    record { printed = shown_text acting.name again.shown; acting = record acting { world = again.world; readings = [] } }
+
+-- after the last epoch there is none
+abbrev pub is_at_end : Acting → Bool
+is_at_end acting = acting.world.state.head.epoch == last_epoch
+
+-- what a realm says when it has started: its epoch, and the branches of its rows that have their boxes again
+abbrev pub adoption_text : List ℕ → Key × Row → List ℕ
+adoption_text name stored = adopted_text name (identifier name stored.0) (branches_of stored.1)
+
+abbrev pub opening_text : Acting → List ℕ
+opening_text acting = start_text acting.name acting.world.state.head.epoch ++ flat_map (adoption_text acting.name) acting.world.rows

@@ -2,6 +2,7 @@
 use Rattle.std.specs.Prelude.{◌≡◌, ◌≢◌, ℕ, List, [], ◌∷◌, ◌++◌, Bool, true, false, Option, Some, None, is_some}
 use Rattle.std.specs.Str.{bytes_eq}
 use Rattle.tip_core.specs.declared.happened.Happened as happenings
+use Rattle.tip_machine.specs.Moves.{rows_after}
 use Rattle.tip_machine.specs.States.{State}
 use Rattle.tip_machine.specs.Steps.{step, wants}
 use Rattle.tip_machine.specs.Types.{Answer, Event}
@@ -11,7 +12,10 @@ use Rattle.tip_host.specs.declared.host.Host as hosts
 use Rattle.tip_line.specs.Reading.{Item, items_of}
 use Rattle.tip_machine.specs.declared.event.Event.TheVariants as events
 use Rattle.tip_machine.specs.declared.event.Heard.{Heard}
+use Rattle.tip_rows.specs.Keys.{Key}
+use Rattle.tip_rows.specs.Logs.{IsPart}
 use Rattle.tip_rows.specs.Memory.{Memory, is_due_in, log_of}
+use Rattle.tip_rows.specs.declared.row.Row.{Row}
 use Rattle.tip_actor.specs.Acting.{Acting, Done, Reading, happens, lines_of, is_next, outcome_of, said_by, still_due, takes_next}
 use Rattle.tip_actor.specs.declared.actor.Actor as actors
 use Rattle.tip_actor.specs.declared.reader.Reader.{Reader}
@@ -69,6 +73,7 @@ pub record Leaves (old new : Host) (place : ℕ) (name : List ℕ) : Type 0 wher
   pub realms : (other : ℕ) → other ≢ place → realm new.core other ≡ realm old.core other
   pub due : (other : List ℕ) → bytes_eq name other ≡ false → is_due_in new.store other ≡ is_due_in old.store other
   pub known : (other : List ℕ) → (log_of new.store).epochs other ≡ (log_of old.store).epochs other
+  pub parts : (other : List ℕ) (epoch : ℕ) (rows : List (Key × Row)) → bytes_eq name other ≡ false → IsPart (log_of old.store) other epoch rows → IsPart (log_of new.store) other epoch rows
 
 -- one event of a realm has happened, and its change was refused exactly where that was due
 pub record Serves (old new : Host) (place : ℕ) (state : State) (due : Bool) (event : Event) (happened : Happened) : Type 0 where
@@ -76,11 +81,13 @@ pub record Serves (old new : Host) (place : ℕ) (state : State) (due : Bool) (e
   pub outcome : happened.outcome ≡ outcome_of due (wants state event)
   pub answer : happened.answer ≡ (step state event (outcome_of due (wants state event))).answer
   pub served : IsServed new place (step state event (outcome_of due (wants state event))).state (still_due due (wants state event))
+  pub rows : (epoch : ℕ) (rows : List (Key × Row)) → IsPart (log_of old.store) state.head.name epoch rows → IsPart (log_of new.store) state.head.name epoch (rows_after (wants state event) (outcome_of due (wants state event)) rows)
   pub leaves : Leaves old new place state.head.name
 
 -- THE CODE STANDS FOR A REALM AT WORK
 pub record IsActing (host : Host) (place : ℕ) (actor : Actor) (acting : Acting) : Type 0 where
   pub served : IsServed host place acting.world.state acting.due
+  pub rows : IsPart (log_of host.store) acting.world.state.head.name acting.world.state.head.epoch acting.world.rows
   pub named : acting.world.state.head.name ≡ acting.name
   pub name : actor.name ≡ acting.name
   pub errands : actor.errands.items ≡ acting.world.errands

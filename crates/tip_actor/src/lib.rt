@@ -3,6 +3,7 @@
 
 mod actor;
 mod connections;
+mod ending;
 mod errands;
 mod lines;
 mod reader;

@@ -14,14 +14,14 @@ pub struct Scripted {
 }
 
 impl Scripted {
-    /// An active branch, which was told nothing. No line of a transcript prints its mark.
-    pub fn new(plan: Plan) -> Scripted
-        ensures { result.standing ≡ untold Active (record { plan = plan; mark = 0 }) }
+    /// A branch in this phase, which was told nothing. No line of a transcript prints its mark.
+    pub fn new(plan: Plan, phase: Phase) -> Scripted
+        ensures { result.standing ≡ untold phase (record { plan = plan; mark = 0 }) }
     {
         Scripted {
             standing: Standing {
                 badge: Badge { plan, mark: 0 },
-                phase: Phase::Active,
+                phase,
                 told: Told {
                     asked: false,
                     aborted: false,

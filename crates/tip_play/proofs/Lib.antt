@@ -1,5 +1,5 @@
+pub mod Bringing
 pub mod Cutting
 pub mod Transcribing
 pub mod Lines
 pub mod Reading
-pub mod Looking

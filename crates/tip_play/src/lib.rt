@@ -1,7 +1,6 @@
 //! Playing a script: the lines that are read, and the transcript of what they do.
 #![tactic(auto)]
 
-mod boxes;
 mod fault;
 mod player;
 

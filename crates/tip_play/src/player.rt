@@ -1,22 +1,20 @@
 //! Playing a script.
-ghost use Rattle.std.specs.Prelude.{◌≡◌, ◌≢◌, true, false, IfSome};
+ghost use Rattle.std.specs.Prelude.{◌≡◌, ◌≢◌, true, false, map, IfSome};
 ghost use Rattle.script_lines.specs.declared.line.LineEnd.TheVariants.{EndOfInput, TooLong};
-ghost use Rattle.tip_actor.specs.Acting.{boxes_of};
-ghost use Rattle.tip_script.specs.Scripts.{move_of, plans_in};
+ghost use Rattle.tip_script.specs.Scripts.{move_of};
 ghost use Rattle.tip_scene.specs.Acts.{Stage as AStage, acted, closing_of};
-ghost use Rattle.tip_scene.specs.Stages.{IsStage};
+ghost use Rattle.tip_scene.specs.Stages.{ComeWith, IsStage};
 ghost use Rattle.tip_play.specs.Transcripts.{Transcribes};
 ghost use Rattle.tip_play.specs.Writing.{Acts, Closes};
 
-use crate::boxes::are_of;
 use crate::fault::PlayFault;
 use script_lines::{LineEnd, ScriptLine};
 use std::alloc::Global;
 use std::io::{BufRead, Write};
 use tip_actor::Scripted;
-use tip_branch::{Branch, Fresh, HeldFresh};
+use tip_branch::Branch;
 use tip_core::Core;
-use tip_scene::{LineFault, Stage, kinds_in};
+use tip_scene::{LineFault, Stage, are_of};
 use tip_script::plan_of;
 use tip_writing::write_front;
 
@@ -52,19 +50,15 @@ fn play_lines<R: BufRead, W: Write>(
             return Err(PlayFault::Script { line: number });
         }
         let text = line.as_slice();
-        let kinds = kinds_in(text);
+        let wanted = stage.wanted(alloc, text)?;
         let mut boxes: Vec<Box<dyn Branch + Send>> = Vec::new(alloc);
-        for kind in kinds {
-            boxes.push(Box::new(alloc, Scripted::new(plan_of(*kind)))?)?;
+        for kind in &wanted.kinds {
+            boxes.push(Box::new(alloc, Scripted::new(plan_of(*kind), wanted.phase))?)?;
         }
         // it never is so: no clause follows what a box holds into a vector, so they are looked at
-        if !are_of(&boxes, kinds) {
+        if !are_of(&boxes, &wanted.kinds) {
             return Err(PlayFault::Memory);
         }
-        let Ok(fresh) = Fresh::of(boxes) else {
-            unreachable!()
-        };
-        let boxes = HeldFresh::of(fresh.into_lot(alloc)?);
         stage = act(stage, alloc, number, text, boxes, &mut printed, output)?;
         if is_last(end) {
             return finish(stage, alloc, &mut printed, output);
@@ -102,11 +96,11 @@ fn act<W: Write>(
     alloc: Global,
     number: u64,
     line: &[u8],
-    boxes: HeldFresh,
+    boxes: Vec<Box<dyn Branch + Send>>,
     printed: &mut String,
     output: &mut W,
 ) -> Result<Stage, PlayFault>
-    ensures { (now : AStage) → IsStage stage now → boxes ≡ boxes_of (plans_in (move_of line.now)) → Acts number (acted now line.now) (W.contents output.old) (W.contents output.new) result }
+    ensures { (now : AStage) → IsStage stage now → ComeWith (move_of line.now) (map standing boxes.items) → Acts number (acted now line.now) (W.contents output.old) (W.contents output.new) result }
 {
     printed.clear();
     match stage.act(alloc, line, boxes, printed) {

@@ -1,6 +1,10 @@
 pub mod FirstBranches
 pub mod Places
+pub mod Looking
 pub mod Scening
-pub mod Knowing
+pub mod Loaded
+pub mod Begun
+pub mod Starting
+pub mod Again
 pub mod Staging
 pub mod Dialling

@@ -12,10 +12,12 @@ use Rattle.tip_actor.proofs.Doing.{leaves_on}
 use Rattle.tip_actor.proofs.Lists.{get_set_same, get_set_other, length_set, partner}
 use Rattle.tip_actor.specs.Acting.{Acting, Done, count_of, settles, takes}
 use Rattle.tip_actor.specs.Standing.{Actor, Acts, Host, IsActing, IsDone, Leaves, Tells}
-use Rattle.tip_core.specs.Hosted.{HaveNames}
-use Rattle.tip_script.specs.Scripts.{Move, realm_of}
-use Rattle.tip_scene.specs.Scenes.{Scene, Moved, does, elsewhere, is_named, moved, moved_at, place_of, with_done, with_text}
-use Rattle.tip_scene.specs.Stages.{Moves, Prints}
+use Rattle.tip_core.specs.Hosted.{HaveNames, realm}
+use Rattle.tip_rows.specs.Logs.{IsPart, Log}
+use Rattle.tip_rows.specs.Memory as Rows
+use Rattle.tip_script.specs.Scripts.{Move}
+use Rattle.tip_scene.specs.Scenes.{Scene, Moved, does, elsewhere, is_named, moved_at, moved_in, place_of, with_done, with_text}
+use Rattle.tip_scene.specs.Stages.{APlaying, Moves, Prints}
 use Rattle.tip_scene.specs.Standing.{IsScene, IsMoved, has_name}
 use Rattle.tip_scene.specs.declared.fault.LineFault.{LineFault}
 use Rattle.tip_scene.specs.declared.fault.LineFault.TheVariants.{NotUnderstood, Memory}
@@ -53,6 +55,7 @@ stays host host' place other actor x y leaves that differ apart names = record {
     due_is = leaves.due y.world.state.head.name apart ∙ that.served.due_is;
     known = ap is_some (leaves.known y.world.state.head.name) ∙ that.served.known;
   };
+  rows = leaves.parts y.world.state.head.name y.world.state.head.epoch y.world.rows apart that.rows;
   named = that.named;
   name = that.name;
   errands = that.errands;
@@ -72,10 +75,41 @@ each_at host host' actors scene place actor actor' acting acting' is a s leaves 
     let that = is.each other x y (sym (get_set_other actors place other actor' differ) ∙ ax) (sym (get_set_other scene place other acting' differ) ∙ sy) in
     stays host host' place other actor x y leaves that differ (other_name host place other actor x acting y (is.each place actor acting a s) that differ) own.served.names
 
+beyond_at : (host host' : Host) (actors : List Actor) (scene : Scene) (place : ℕ) (name : List ℕ) (acting acting' : Acting) → IsScene host actors scene → slice_get scene place ≡ Some acting → Leaves host host' place name → (other : ℕ) → slice_get (slice_set scene place acting') other ≡ None → (same : Bool) → (other == place) ≡ same → realm host'.core other ≡ None
+beyond_at host host' actors scene place name acting acting' is s leaves other none true e =
+    let here : other ≡ place = (unsigned_Decides other place).0 e in
+    absurd (none-some acting' (sym none ∙ ap (slice_get (slice_set scene place acting')) here ∙ get_set_same scene place acting' acting s))
+beyond_at host host' actors scene place name acting acting' is s leaves other none false e =
+    let differ : other ≢ place = λ same. false≢true (sym e ∙ (unsigned_Decides other place).1 same) in
+    leaves.realms other differ ∙ is.beyond other (sym (get_set_other scene place other acting' differ) ∙ none)
+
 becomes : (host host' : Host) (actors : List Actor) (scene : Scene) (place : ℕ) (actor actor' : Actor) (acting acting' : Acting) → IsScene host actors scene → slice_get actors place ≡ Some actor → slice_get scene place ≡ Some acting → Leaves host host' place actor.name → IsActing host' place actor' acting' → IsScene host' (slice_set actors place actor') (slice_set scene place acting')
 becomes host host' actors scene place actor actor' acting acting' is a s leaves own = record {
   count = length_set actors place actor' ∙ is.count ∙ sym (length_set scene place acting');
   each = λ other x y ax sy. each_at host host' actors scene place actor actor' acting acting' is a s leaves own other x y ax sy (other == place) refl;
+  beyond = λ other none. beyond_at host host' actors scene place actor.name acting acting' is s leaves other none (other == place) refl;
+}
+
+-- Rows that are read
+
+pub reads : (host : Host) (store : Rows.Memory) (actors : List Actor) (scene : Scene) → Rows.log_of store ≡ Rows.log_of host.store → ((name : List ℕ) → Rows.is_due_in store name ≡ Rows.is_due_in host.store name) → IsScene host actors scene → IsScene (record host { store = store }) actors scene
+reads host store actors scene log due is = record {
+  count = is.count;
+  each = λ place actor acting a s. let acts = is.each place actor acting a s in record {
+    served = record {
+      state_is = acts.served.state_is;
+      names = acts.served.names;
+      due_is = due acting.world.state.head.name ∙ acts.served.due_is;
+      known = ap (λ (l : Log). is_some (l.epochs acting.world.state.head.name)) log ∙ acts.served.known;
+    };
+    rows = subst (λ l. IsPart l acting.world.state.head.name acting.world.state.head.epoch acting.world.rows) (sym log) acts.rows;
+    named = acts.named;
+    name = acts.name;
+    errands = acts.errands;
+    due = acts.due;
+    readings = acts.readings;
+  };
+  beyond = is.beyond;
 }
 
 -- A line of a realm
@@ -101,30 +135,30 @@ done_so host mid host' actors scene place actor between actor' acting printed sa
       stands = becomes host host' actors scene place actor actor' acting (settles done).acting is a s all.leaves all.own;
     }
 
-moved_here : (host : Host) (actors : List Actor) (scene : Scene) (move : Move) (place : ℕ) (acting : Acting) → IsScene host actors scene → place ≡ position_or_len (has_name (realm_of move)) actors → slice_get scene place ≡ Some acting → moved move scene ≡ with_done place (does move acting) scene
-moved_here host actors scene move place acting is here s =
-    let there = here ∙ named host actors scene (realm_of move) is in
+moved_here : (host : Host) (actors : List Actor) (scene : Scene) (move : Move) (name : List ℕ) (place : ℕ) (acting : Acting) → IsScene host actors scene → place ≡ position_or_len (has_name name) actors → slice_get scene place ≡ Some acting → moved_in move (Some name) scene ≡ with_done place (does move acting) scene
+moved_here host actors scene move name place acting is here s =
+    let there = here ∙ named host actors scene name is in
     ap (λ p. moved_at move p (slice_get scene p) scene) (sym there) ∙ ap (λ o. moved_at move place o scene) s
 
-pub has_moved : (host mid host' : Host) (actors : List Actor) (scene : Scene) (move : Move) (place : ℕ) (actor between actor' : Actor) (printed said printed' : List ℕ) → IsScene host actors scene → place ≡ position_or_len (has_name (realm_of move)) actors → slice_get actors place ≡ Some actor →
+pub has_moved : (host mid host' : Host) (actors : List Actor) (scene : Scene) (move : Move) (name : List ℕ) (place : ℕ) (actor between actor' : Actor) (printed said printed' : List ℕ) → IsScene host actors scene → place ≡ position_or_len (has_name name) actors → slice_get actors place ≡ Some actor →
     ((acting : Acting) → IsActing host place actor acting → Tells host mid place actor between printed said true (does move acting)) →
-    Acts mid host' place between actor' said printed' (λ acting. takes (count_of acting.readings) acting) → IsMoved host' (slice_set actors place actor') printed printed' (moved move scene)
-has_moved host mid host' actors scene move place actor between actor' printed said printed' is here a told settles_so =
+    Acts mid host' place between actor' said printed' (λ acting. takes (count_of acting.readings) acting) → IsMoved host' (slice_set actors place actor') printed printed' (moved_in move (Some name) scene)
+has_moved host mid host' actors scene move name place actor between actor' printed said printed' is here a told settles_so =
     let s = partner actors scene place actor is.count a in
-    subst (IsMoved host' (slice_set actors place actor') printed printed') (sym (moved_here host actors scene move place s.0 is here s.1))
+    subst (IsMoved host' (slice_set actors place actor') printed printed') (sym (moved_here host actors scene move name place s.0 is here s.1))
     (done_so host mid host' actors scene place actor between actor' s.0 printed said printed' (does move s.0) is a s.1 (told s.0 (is.each place actor s.0 a s.1)) settles_so)
 
-not_done : (host mid : Host) (actors : List Actor) (scene : Scene) (place : ℕ) (actor between : Actor) (printed said : List ℕ) (did : Option Done) → Tells host mid place actor between printed said false did → Moves mid actors printed said (with_done place did scene) (Err NotUnderstood)
-not_done host mid actors scene place actor between printed said None told = (refl, told ∙ sym (append-nil printed))
-not_done host mid actors scene place actor between printed said (Some done) told = absurd told
+not_done : (host mid : Host) (scene : Scene) (place : ℕ) (actor between : Actor) (printed said : List ℕ) (did : Option Done) → Tells host mid place actor between printed said false did → Moves printed said (with_done place did scene) (Err NotUnderstood)
+not_done host mid scene place actor between printed said None told = (refl, told ∙ sym (append-nil printed))
+not_done host mid scene place actor between printed said (Some done) told = absurd told
 
 -- it may not stand here
-pub has_not_moved : (host mid : Host) (actors after : List Actor) (scene : Scene) (move : Move) (place : ℕ) (actor between : Actor) (printed said : List ℕ) → IsScene host actors scene → place ≡ position_or_len (has_name (realm_of move)) actors → slice_get actors place ≡ Some actor →
-    ((acting : Acting) → IsActing host place actor acting → Tells host mid place actor between printed said false (does move acting)) → Moves mid after printed said (moved move scene) (Err NotUnderstood)
-has_not_moved host mid actors after scene move place actor between printed said is here a told =
+pub has_not_moved : (host mid : Host) (actors : List Actor) (scene : Scene) (move : Move) (name : List ℕ) (place : ℕ) (actor between : Actor) (printed said : List ℕ) → IsScene host actors scene → place ≡ position_or_len (has_name name) actors → slice_get actors place ≡ Some actor →
+    ((acting : Acting) → IsActing host place actor acting → Tells host mid place actor between printed said false (does move acting)) → Moves printed said (moved_in move (Some name) scene) (Err NotUnderstood)
+has_not_moved host mid actors scene move name place actor between printed said is here a told =
     let s = partner actors scene place actor is.count a in
-    subst (λ m. Moves mid after printed said m (Err NotUnderstood)) (sym (moved_here host actors scene move place s.0 is here s.1))
-    (not_done host mid after scene place actor between printed said (does move s.0) (told s.0 (is.each place actor s.0 a s.1)))
+    subst (λ m. Moves printed said m (Err NotUnderstood)) (sym (moved_here host actors scene move name place s.0 is here s.1))
+    (not_done host mid scene place actor between printed said (does move s.0) (told s.0 (is.each place actor s.0 a s.1)))
 
 -- A line of no realm
 
@@ -135,13 +169,22 @@ no_partner (x ∷ xs) [] i count none = refl
 no_partner (x ∷ xs) (y ∷ ys) zero count none = absurd (none-some x (sym none))
 no_partner (x ∷ xs) (y ∷ ys) (suc i) count none = no_partner xs ys i (omega arith) none
 
-says_so : (host : Host) (actors : List Actor) (scene : Scene) (printed printed' : List ℕ) (text : Option (List ℕ)) (result : Result (Unit {0}) LineFault) → IsScene host actors scene → Prints printed printed' text result → Moves host actors printed printed' (with_text text scene) result
-says_so host actors scene printed printed' text (Ok done) is says = subst (λ t. IsMoved host actors printed printed' (with_text t scene)) (sym says.1) (record { text = says.2; scene = scene; is = refl; stands = is })
-says_so host actors scene printed printed' text (Err NotUnderstood) is says = subst (λ t. Moves host actors printed printed' (with_text t scene) (Err NotUnderstood)) (sym says.0) (refl, says.1 ∙ sym (append-nil printed))
-says_so host actors scene printed printed' text (Err Memory) is says = tt
+-- a text was printed, and nothing else
+says_so : (playing : APlaying) (scene : Scene) (printed printed' : List ℕ) (text : Option (List ℕ)) → IsScene playing.host playing.actors.items scene → Prints printed printed' text (Ok tt) → IsMoved playing.host playing.actors.items printed printed' (with_text text scene)
+says_so playing scene printed printed' text is says = subst (λ t. IsMoved playing.host playing.actors.items printed printed' (with_text t scene)) (sym says.1) (record { text = says.2; scene = scene; is = refl; stands = is })
 
-pub moved_elsewhere : (host : Host) (actors : List Actor) (scene : Scene) (move : Move) (place : ℕ) (printed printed' : List ℕ) (result : Result (Unit {0}) LineFault) → IsScene host actors scene → place ≡ position_or_len (has_name (realm_of move)) actors → slice_get actors place ≡ None → Prints printed printed' (elsewhere move) result → Moves host actors printed printed' (moved move scene) result
-moved_elsewhere host actors scene move place printed printed' result is here none says =
-    let there = here ∙ named host actors scene (realm_of move) is in
-    subst (λ m. Moves host actors printed printed' m result) (sym (ap (λ p. moved_at move p (slice_get scene p) scene) (sym there) ∙ ap (λ o. moved_at move place o scene) (no_partner actors scene place is.count none)))
-    (says_so host actors scene printed printed' (elsewhere move) result is says)
+fails_so : (scene : Scene) (printed printed' : List ℕ) (text : Option (List ℕ)) (fault : LineFault) → Prints printed printed' text (Err fault) → Moves printed printed' (with_text text scene) (Err fault)
+fails_so scene printed printed' text NotUnderstood says = subst (λ t. Moves printed printed' (with_text t scene) (Err NotUnderstood)) (sym says.0) (refl, says.1 ∙ sym (append-nil printed))
+fails_so scene printed printed' text Memory says = tt
+
+module _ (playing : APlaying) (scene : Scene) (move : Move) (name : List ℕ) (place : ℕ) (printed printed' : List ℕ) (is : IsScene playing.host playing.actors.items scene) (here : place ≡ position_or_len (has_name name) playing.actors.items) (none : slice_get playing.actors.items place ≡ None) where
+  elsewhere_is : moved_in move (Some name) scene ≡ with_text (elsewhere move) scene
+  elsewhere_is =
+      let there = here ∙ named playing.host playing.actors.items scene name is in
+      ap (λ p. moved_at move p (slice_get scene p) scene) (sym there) ∙ ap (λ o. moved_at move place o scene) (no_partner playing.actors.items scene place is.count none)
+
+  pub moved_elsewhere : Prints printed printed' (elsewhere move) (Ok tt) → IsMoved playing.host playing.actors.items printed printed' (moved_in move (Some name) scene)
+  moved_elsewhere says = subst (IsMoved playing.host playing.actors.items printed printed') (sym elsewhere_is) (says_so playing scene printed printed' (elsewhere move) is says)
+
+  pub failed_elsewhere : (fault : LineFault) → Prints printed printed' (elsewhere move) (Err fault) → Moves printed printed' (moved_in move (Some name) scene) (Err fault)
+  failed_elsewhere fault says = subst (λ m. Moves printed printed' m (Err fault)) (sym elsewhere_is) (fails_so scene printed printed' (elsewhere move) fault says)

@@ -1,13 +1,13 @@
 -- The realms of a script at work, and what one line of the script makes of them.
-use Rattle.std.specs.Prelude.{ℕ, List, [], ◌∷◌, Bool, true, ◌&&◌, Option, Some, None, slice_get, slice_set, if◌then◌else◌}
-use Rattle.std.specs.List.{position_or_len}
+use Rattle.std.specs.Prelude.{ℕ, List, [], ◌∷◌, ◌++◌, map, Bool, true, ◌&&◌, Option, Some, None, slice_get, slice_set, if◌then◌else◌}
+use Rattle.std.specs.List.{flat_map, list_any, position_or_len}
 use Rattle.std.specs.Str.{bytes_eq}
 use Rattle.tip_line.specs.Words.{is_address, is_word}
 use Rattle.tip_machine.specs.declared.connection.Purpose.{Purpose}
 use Rattle.tip_machine.specs.declared.connection.Purpose.TheVariants as purpose
 use Rattle.tip_machine.specs.declared.event.Event.TheVariants as event
-use Rattle.tip_actor.specs.Acting.{Acting, Done, boxes_of, drops_from, feeds, goes_for, happens, loses, on_connection, pulls, pushes, refuses, settles}
-use Rattle.tip_script.specs.Scripts.{Move, Declare, Open, Dial, Feed, Lose, Push, Pull, Go, Drop, Resume, Refuse, realm_of}
+use Rattle.tip_actor.specs.Acting.{Acting, Done, boxes_of, drops_from, feeds, goes_for, happens, is_at_end, loses, on_connection, opening_text, pulls, pushes, refuses, restarts, settles}
+use Rattle.tip_script.specs.Scripts.{Move, Declare, Open, Dial, Feed, Lose, Push, Pull, Go, Drop, Resume, Refuse, Restart, realm_of}
 use Rattle.tip_transcript.specs.Printing.{idle_text, nowhere_text}
 
 -- all realms, in the order of their declarations
@@ -41,6 +41,7 @@ does (Go realm) acting = goes_for acting.world.errands acting
 does (Drop realm) acting = Some (drops_from acting.world.errands acting)
 does (Resume realm id) acting = if is_word id then Some (happens (event.Resume id) acting) else None
 does (Refuse realm) acting = Some (refuses acting)
+does Restart acting = None
 
 -- what it prints of a realm that is not declared
 abbrev pub elsewhere : Move → Option (List ℕ)
@@ -55,6 +56,7 @@ elsewhere (Go realm) = Some (idle_text realm)
 elsewhere (Drop realm) = Some (idle_text realm)
 elsewhere (Resume realm id) = Some (nowhere_text realm)
 elsewhere (Refuse realm) = Some []
+elsewhere Restart = None
 
 abbrev pub is_named : List ℕ → Acting → Bool
 is_named name acting = bytes_eq acting.name name
@@ -76,6 +78,26 @@ abbrev pub moved_at : Move → ℕ → Option Acting → Scene → Moved
 moved_at move place None scene = with_text (elsewhere move) scene
 moved_at move place (Some acting) scene = with_done place (does move acting) scene
 
+-- Restarts
+
+-- what realms say that have started, one after another
+abbrev pub openings_text : Scene → List ℕ
+openings_text scene = flat_map opening_text scene
+
+-- the process starts again: first all that is let go, and then each realm with its epoch; not where an epoch is the last one
+abbrev pub restarted : Scene → Moved
+restarted scene =
+    if list_any is_at_end scene then fault
+    else record {
+      printed = flat_map (λ acting. (restarts acting).printed) scene ++ openings_text (map (λ acting. (restarts acting).acting) scene);
+      scene = Some (map (λ acting. (restarts acting).acting) scene);
+    }
+
+-- a line is of one realm, or of all
+abbrev pub moved_in : Move → Option (List ℕ) → Scene → Moved
+moved_in move None scene = restarted scene
+moved_in move (Some realm) scene = moved_at move (place_of realm scene) (slice_get scene (place_of realm scene)) scene
+
 -- WHAT A LINE DOES once the realms have started
 abbrev pub moved : Move → Scene → Moved
-moved move scene = moved_at move (place_of (realm_of move) scene) (slice_get scene (place_of (realm_of move) scene)) scene
+moved move scene = moved_in move (realm_of move) scene

@@ -1,22 +1,28 @@
 -- How the code's stage stands for the script's.
 use Rattle.std.specs.Prelude.{◌≡◌, ℕ, List, [], ◌∷◌, ◌++◌, true, false, Option, Some, None, Result, Ok, Err, is_some, slice_get}
+use Rattle.tip_actor.specs.Acting.{boxes_of}
 use Rattle.tip_actor.specs.Standing.{Actor, Host}
 use Rattle.tip_core.specs.Hosted.{Hosted}
-use Rattle.tip_machine.specs.declared.head.Start.{Start}
-use Rattle.tip_rows.specs.Memory as Rows
+use Rattle.tip_host.specs.declared.realm_spec.RealmSpec.{RealmSpec}
+use Rattle.tip_branch.specs.Lots.{badges_of}
+use Rattle.tip_branch.specs.declared.branch.Phase.TheVariants.{Active}
+use Rattle.tip_branch.specs.declared.branch.Standing.{Standing}
+use Rattle.tip_script.specs.Scripts.{Move, plans_of, plans_with, realm_of}
 use Rattle.tip_scene.specs.Acts.{Stage, Declaring, Playing, Acted}
 use Rattle.tip_scene.specs.Scenes.{Moved}
 use Rattle.tip_scene.specs.Standing.{IsScene, IsMoved}
+use Rattle.tip_scene.specs.declared.declared.Declaration.{Declaration}
 use Rattle.tip_scene.specs.declared.declared.Declared as declarations
 use Rattle.tip_scene.specs.declared.fault.LineFault.{LineFault}
 use Rattle.tip_scene.specs.declared.fault.LineFault.TheVariants.{NotUnderstood, Memory}
 use Rattle.tip_scene.specs.declared.playing.Playing as playings
+use Rattle.tip_scene.specs.declared.boxes.Wanted.{Wanted}
 use Rattle.tip_scene.specs.declared.stage.Stage as stages
 use Rattle.tip_scene.specs.declared.stage.Stage.TheVariants as stage
 
 -- the code's values: the realms declared, the realms at work, and the stage
 abbrev pub Declared : Type 0
-Declared = declarations.Declared Hosted Actor
+Declared = declarations.Declared Hosted
 
 abbrev pub APlaying : Type 0
 APlaying = playings.Playing Host Actor
@@ -24,44 +30,38 @@ APlaying = playings.Playing Host Actor
 abbrev pub AStage : Type 0
 AStage = stages.Stage Declared APlaying
 
--- a realm of this name, at its start
-pub record IsNew (actor : Actor) (name : List ℕ) : Type 0 where
-  pub named : actor.name ≡ name
-  pub readers : actor.readers.items ≡ []
-  pub errands : actor.errands.items ≡ []
-  pub due : actor.is_due ≡ false
+-- a realm as it is to be hosted
+abbrev pub spec_of : Declaration → RealmSpec
+spec_of declaration = record { name = declaration.name; address = declaration.address; limits = declaration.limits; branches = declaration.branches }
 
-abbrev pub AreActors : List Actor → List Start → Type 0
-AreActors [] [] = Unit {0}
-AreActors [] (start ∷ starts) = ⊥
-AreActors (actor ∷ actors) [] = ⊥
-AreActors (actor ∷ actors) (start ∷ starts) = IsNew actor start.name × AreActors actors starts
-
-pub record IsDeclared (realms : Declared) (starts : List Start) : Type 0 where
-  pub starts_are : realms.starts ≡ starts
-  pub actors : AreActors realms.actors.items starts
+abbrev pub IsDeclared : Declared → List Declaration → Type 0
+IsDeclared realms declarations = realms.declarations.items ≡ declarations
 
 abbrev pub IsStage : AStage → Stage → Type 0
-IsStage (stage.Declaring realms) (Declaring starts) = IsDeclared realms starts
+IsStage (stage.Declaring realms) (Declaring declarations) = IsDeclared realms declarations
 IsStage (stage.Declaring realms) (Playing scene) = ⊥
-IsStage (stage.Playing playing) (Declaring starts) = ⊥
+IsStage (stage.Playing playing) (Declaring declarations) = ⊥
 IsStage (stage.Playing playing) (Playing scene) = IsScene playing.host playing.actors.items scene
 
--- each realm is known to the store
-abbrev pub AreKnown : Rows.Memory → List Actor → Type 0
-AreKnown rows actors = (place : ℕ) (actor : Actor) → slice_get actors place ≡ Some actor → is_some ((Rows.log_of rows).epochs actor.name) ≡ true
-
 -- a realm more was declared, or may not be; where memory ends nothing is said
-abbrev pub Declares : Option (List Start) → Result Declared LineFault → Type 0
-Declares more (Ok realms) = (all : List Start) × (more ≡ Some all) × IsDeclared realms all
+abbrev pub Declares : Option (List Declaration) → Result Declared LineFault → Type 0
+Declares more (Ok realms) = (all : List Declaration) × (more ≡ Some all) × IsDeclared realms all
 Declares more (Err NotUnderstood) = more ≡ None
 Declares more (Err Memory) = Unit {0}
 
 -- a line was done, or may not stand here; where memory ends nothing is said
-abbrev pub Moves : Host → List Actor → List ℕ → List ℕ → Moved → Result (Unit {0}) LineFault → Type 0
-Moves host actors printed printed' moved (Ok done) = IsMoved host actors printed printed' moved
-Moves host actors printed printed' moved (Err NotUnderstood) = (moved.scene ≡ None) × (printed' ≡ printed ++ moved.printed)
-Moves host actors printed printed' moved (Err Memory) = Unit {0}
+abbrev pub Moves : List ℕ → List ℕ → Moved → Result APlaying LineFault → Type 0
+Moves printed printed' moved (Ok playing) = IsMoved playing.host playing.actors.items printed printed' moved
+Moves printed printed' moved (Err NotUnderstood) = (moved.scene ≡ None) × (printed' ≡ printed ++ moved.printed)
+Moves printed printed' moved (Err Memory) = Unit {0}
+
+-- the boxes that come with a line are those that it names; a restart names none
+abbrev pub ComeWith : Option Move → List Standing → Type 0
+ComeWith line boxes = (move : Move) (realm : List ℕ) → line ≡ Some move → realm_of move ≡ Some realm → badges_of boxes ≡ boxes_of (plans_with move)
+
+-- and so do those that are wanted, by their letters
+abbrev pub AreWanted : Option Move → Wanted → Type 0
+AreWanted line wanted = (move : Move) (realm : List ℕ) → line ≡ Some move → realm_of move ≡ Some realm → (wanted.phase ≡ Active) × (plans_of wanted.kinds.items ≡ plans_with move)
 
 abbrev pub ActsSo : List ℕ → List ℕ → Acted → Result AStage LineFault → Type 0
 ActsSo printed printed' acted (Ok code) = (now : Stage) × (acted.stage ≡ Some now) × IsStage code now × (printed' ≡ printed ++ acted.printed)

@@ -1,8 +1,9 @@
 -- How the code's values stand for the realms of a script at work.
-use Rattle.std.specs.Prelude.{◌≡◌, ℕ, List, ◌++◌, length, Bool, Option, Some, slice_get}
+use Rattle.std.specs.Prelude.{◌≡◌, ℕ, List, ◌++◌, length, Bool, Option, Some, None, slice_get}
 use Rattle.std.specs.Str.{bytes_eq}
 use Rattle.tip_actor.specs.Acting.{Acting}
 use Rattle.tip_actor.specs.Standing.{Actor, Host, IsActing}
+use Rattle.tip_core.specs.Hosted.{realm}
 use Rattle.tip_scene.specs.Scenes.{Scene, Moved}
 
 abbrev pub has_name : List ℕ → Actor → Bool
@@ -12,6 +13,8 @@ has_name name actor = bytes_eq actor.name name
 pub record IsScene (host : Host) (actors : List Actor) (scene : Scene) : Type 0 where
   pub count : length actors ≡ length scene
   pub each : (place : ℕ) (actor : Actor) (acting : Acting) → slice_get actors place ≡ Some actor → slice_get scene place ≡ Some acting → IsActing host place actor acting
+  -- and there are no others
+  pub beyond : (place : ℕ) → slice_get scene place ≡ None → realm host.core place ≡ None
 
 -- a line has printed its text, and the realms are as it made them
 pub record IsMoved (host : Host) (actors : List Actor) (printed printed' : List ℕ) (moved : Moved) : Type 0 where

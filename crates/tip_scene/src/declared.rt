@@ -1,54 +1,59 @@
 //! The realms of a script, before they start.
-ghost use Rattle.std.specs.Prelude.{◌≡◌, ◌≤◌, ◌++◌, ◌&&◌, ℕ, true, false, List, [], IfOk, OnOk, IsErrOf, string_bytes};
-ghost use Rattle.std.specs.List.{flat_map};
+ghost use Rattle.std.specs.Prelude.{◌≡◌, ◌≤◌, ◌++◌, ◌&&◌, ℕ, true, false, List, [], map, IfOk, OnOk, IsErrOf, string_bytes};
+ghost use Rattle.std.specs.List.{list_all};
 ghost use Rattle.tip_branch.specs.Always.{Always};
 ghost use Rattle.tip_line.specs.Words.{is_address, is_realm};
-ghost use Rattle.tip_machine.specs.declared.head.Start.{Start};
-ghost use Rattle.tip_rows.specs.Memory.{is_due_in};
-ghost use Rattle.tip_transcript.specs.Printing.{start_text};
-ghost use Rattle.tip_scene.specs.Acts.{declared, is_count, scene_of, start_of, starts_text};
-ghost use Rattle.tip_scene.specs.Stages.{AreKnown, Declares, IsDeclared};
+ghost use Rattle.tip_scene.specs.Acts.{declaration_of, declared, is_count, is_other, scene_of, starts_text};
+ghost use Rattle.tip_scene.specs.Rising.{AreNew};
+ghost use Rattle.tip_scene.specs.Stages.{Declares, IsDeclared, spec_of};
 ghost use Rattle.tip_scene.specs.Standing.{IsScene};
 ghost use Rattle.tip_scene.specs.declared.fault.LineFault.TheVariants.{NotUnderstood};
 
 use crate::branches::first_branches;
 use crate::fault::LineFault;
 use crate::playing::Playing;
+use crate::rising::begin;
 use std::alloc::{AllocError, Global};
 use std::collections::VecDeque;
 use tip_actor::Actor;
-use tip_core::{Core, Starts};
-use tip_host::Host;
+use tip_core::Core;
+use tip_host::{Host, RealmSpec};
 use tip_line::{Address, Realm};
-use tip_machine::{Limits, Start};
-use tip_rows::{MemRows, RowLog};
-use tip_transcript::print_start;
+use tip_machine::Limits;
+use tip_rows::{Branches, MemRows};
 
 /// How many realms a script may declare.
 const MOST_REALMS: usize = 64;
 
-/// The realms declared so far.
+/// A realm that a script declares.
 #[derive(Drop)]
-pub struct Declared<C = Core, A = Actor> {
-    core: C,
-    starts: Starts,
-    actors: Vec<A>,
+pub struct Declaration {
+    name: Realm,
+    address: Address,
+    limits: Limits,
+    branches: Branches,
 }
 
-impl Declared<Core, Actor> {
+/// The realms declared so far.
+#[derive(Drop)]
+pub struct Declared<C = Core> {
+    core: C,
+    declarations: Vec<Declaration>,
+}
+
+impl Declared<Core> {
     /// None are declared. The core, which has no realms yet, is for their start.
-    pub fn new(alloc: Global, core: Core) -> Declared<Core, Actor>
+    pub fn new(alloc: Global, core: Core) -> Declared<Core>
         requires { Always }
         ensures { IsDeclared result [] }
     {
         Declared {
             core,
-            starts: Starts::new(alloc),
-            actors: Vec::new(alloc),
+            declarations: Vec::new(alloc),
         }
     }
 
-    /// One realm more, in its first epoch.
+    /// One realm more.
     pub fn add(
         mut self,
         alloc: Global,
@@ -58,57 +63,61 @@ impl Declared<Core, Actor> {
         limits: Limits,
     ) -> Result<Declared, LineFault>
         requires { Always }
-        ensures { (starts : List Start) → IsDeclared self starts → Declares (declared name.now address.now branches limits starts) result }
+        ensures { (declarations : List Declaration) → IsDeclared self declarations → Declares (declared name.now address.now branches limits declarations) result }
     {
-        if self.starts.as_slice().len() >= MOST_REALMS
+        if self.declarations.len() >= MOST_REALMS
             || !is_count(branches)
             || !limits.are_allowed()
+            || !is_new(name, &self.declarations)
         {
             return Err(LineFault::NotUnderstood);
         }
-        let start = start_of(alloc, name, address, branches, limits)?;
-        let actor = Actor::new(alloc, start.name.copy()?, VecDeque::new(alloc));
-        self.actors.push(actor)?;
-        self.starts.add(start)?;
+        let declaration = declaration_of(alloc, name, address, branches, limits)?;
+        self.declarations.push(declaration)?;
         Ok(self)
     }
 
     /// The realms start, and say in which epoch.
     pub fn start(self, alloc: Global, printed: &mut String) -> Result<Playing, AllocError>
         requires { Always }
-        ensures text { (starts : List Start) → IsDeclared self starts → IfOk result (λ playing. string_bytes printed.new ≡ string_bytes printed.old ++ starts_text starts) }
-        ensures scene { (starts : List Start) → IsDeclared self starts → IfOk result (λ playing. IsScene playing.host playing.actors.items (scene_of starts)) }
+        ensures text { (declarations : List Declaration) → IsDeclared self declarations → IfOk result (λ playing. string_bytes printed.new ≡ string_bytes printed.old ++ starts_text declarations) }
+        ensures scene { (declarations : List Declaration) → IsDeclared self declarations → IfOk result (λ playing. IsScene playing.host playing.actors.items (scene_of declarations)) }
     {
-        let Declared {
-            core,
-            starts,
-            actors,
-        } = self;
-        let rows = rows_of(alloc, &actors)?;
-        let core = core.start(alloc, starts)?;
-        print_starts(printed, &actors)?;
-        Ok(Playing {
-            host: Host::new(rows, core),
-            actors,
-        })
+        let Declared { core, declarations } = self;
+        let actors = actors_of(alloc, &declarations)?;
+        let specs = specs_of(alloc, declarations)?;
+        match Host::load(alloc, MemRows::new(alloc), core, specs) {
+            Ok(recovering) => begin(recovering, actors, printed),
+            Err(_) => Err(AllocError),
+        }
     }
 }
 
-/// A store that knows these realms, and has no rows.
-fn rows_of(alloc: Global, actors: &[Actor]) -> Result<MemRows, AllocError>
-    ensures known { IfOk result (λ rows. AreKnown rows actors.now) }
-    ensures due { IfOk result (λ rows. (realm : List ℕ) → is_due_in rows realm ≡ false) }
+impl Declaration {
+    /// The realm as it is to be hosted. It takes no memory.
+    fn into_spec(self) -> Result<RealmSpec, AllocError>
+        ensures { IfOk result (λ spec. spec ≡ spec_of self) }
+    {
+        let Declaration {
+            name,
+            address,
+            limits,
+            branches,
+        } = self;
+        match RealmSpec::new(name, address, limits, branches) {
+            Ok(spec) => Ok(spec),
+            Err(_) => Err(AllocError),
+        }
+    }
+}
+
+/// Whether no realm has this name.
+fn is_new(name: &str, declarations: &[Declaration]) -> bool
+    ensures { result ≡ list_all (is_other name.now) declarations.now }
 {
-    let mut rows = MemRows::new(alloc);
-    for actor in actors {
-        let Ok(()) = rows.know(&actor.name) else {
-            return Err(AllocError);
-        };
-    }
-    match rows.raise_epochs() {
-        Ok(()) => Ok(rows),
-        Err(_) => Err(AllocError),
-    }
+    declarations
+        .iter()
+        .all(|declaration| declaration.name.as_str() != name)
 }
 
 /// Whether a transaction may have so many branches.
@@ -118,33 +127,48 @@ fn is_count(branches: u32) -> bool
     (1..=8).contains(&branches)
 }
 
-/// What is known of a realm at its start that is declared so.
-fn start_of(
+/// A realm that is declared so, with the first branches.
+fn declaration_of(
     alloc: Global,
     name: &str,
     address: &[u8],
     branches: u32,
     limits: Limits,
-) -> Result<Start, LineFault>
+) -> Result<Declaration, LineFault>
     requires { branches ≤ 8 }
-    ensures ok { IfOk result (λ start. (start ≡ start_of name.now address.now branches limits) × (is_realm name.now ≡ true) × (is_address address.now ≡ true)) }
+    ensures ok { IfOk result (λ declaration. (declaration ≡ declaration_of name.now address.now branches limits) × (is_realm name.now ≡ true) × (is_address address.now ≡ true)) }
     ensures bad { IsErrOf result NotUnderstood → (is_realm name.now && is_address address.now) ≡ false }
 {
-    Ok(Start {
+    Ok(Declaration {
         name: Realm::new(alloc, name.as_bytes())?,
         address: Address::new(alloc, address)?,
         limits,
         branches: first_branches(alloc, branches as u8)?,
-        epoch: 1,
     })
 }
 
-/// Prints the start of each realm.
-fn print_starts(printed: &mut String, actors: &[Actor]) -> Result<(), AllocError>
-    ensures { OnOk result (string_bytes printed.new ≡ string_bytes printed.old ++ flat_map (λ actor. start_text actor.name) actors.now) }
+/// Each realm at its start.
+fn actors_of(alloc: Global, declarations: &[Declaration]) -> Result<Vec<Actor>, AllocError>
+    ensures { IfOk result (λ actors. AreNew actors.items (scene_of declarations.now)) }
 {
-    for actor in actors {
-        print_start(printed, actor.name.as_str())?;
+    let mut actors = Vec::with_capacity(alloc, declarations.len())?;
+    for declaration in declarations {
+        let name = declaration.name.copy()?;
+        actors.push(Actor::new(alloc, name, VecDeque::new(alloc)))?;
     }
-    Ok(())
+    Ok(actors)
+}
+
+/// Each realm as it is to be hosted.
+fn specs_of(
+    alloc: Global,
+    declarations: Vec<Declaration>,
+) -> Result<Vec<RealmSpec>, AllocError>
+    ensures { IfOk result (λ specs. specs.items ≡ map spec_of declarations.items) }
+{
+    let mut specs = Vec::with_capacity(alloc, declarations.len())?;
+    for declaration in declarations {
+        specs.push(declaration.into_spec()?)?;
+    }
+    Ok(specs)
 }

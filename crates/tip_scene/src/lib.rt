@@ -1,13 +1,17 @@
 //! The realms of a script, declared and at work, and what each line of the script makes of them.
 #![tactic(auto)]
 
+mod boxes;
 mod branches;
 mod declared;
 mod fault;
 mod playing;
 mod requests;
+mod restarting;
+mod rising;
 mod stage;
 
+pub use boxes::{Wanted, are_of};
 pub use fault::LineFault;
 pub use playing::Playing;
-pub use stage::{Stage, kinds_in};
+pub use stage::Stage;

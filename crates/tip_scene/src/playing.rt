@@ -1,23 +1,25 @@
 //! The realms of a script at work.
-ghost use Rattle.std.specs.Prelude.{◌≡◌, ◌++◌, ℕ, List, Some, None, IfOk, string_bytes};
+ghost use Rattle.std.specs.Prelude.{◌≡◌, ◌++◌, ℕ, List, Some, None, map, IfOk, OnOk, string_bytes};
 ghost use Rattle.std.specs.List.{position_or_len};
 ghost use Rattle.tip_branch.specs.Always.{Always};
 ghost use Rattle.tip_actor.specs.Acting.{Acting, boxes_of};
 ghost use Rattle.tip_actor.specs.Standing.{Host as AHost, IsActing, Tells};
 ghost use Rattle.tip_script.specs.Moves.{move_by};
 ghost use Rattle.tip_script.specs.Scripts.{plans_with};
-ghost use Rattle.tip_scene.specs.Scenes.{Scene, does, elsewhere, moved};
+ghost use Rattle.tip_scene.specs.Scenes.{Scene, does, elsewhere, moved, moved_in};
 ghost use Rattle.tip_scene.specs.Standing.{has_name, IsScene};
-ghost use Rattle.tip_scene.specs.Stages.{Moves, Prints};
+ghost use Rattle.tip_scene.specs.Stages.{ComeWith, Moves, Prints};
 
+use crate::boxes::{Wanted, fresh};
 use crate::fault::LineFault;
 use crate::requests::{dial, pull, push, resume};
+use crate::restarting::restart;
 use std::alloc::{AllocError, Global};
 use tip_actor::Actor;
-use tip_branch::HeldFresh;
+use tip_branch::{Branch, HeldFresh};
 use tip_host::Host;
 use tip_machine::Event;
-use tip_rows::MemRows;
+use tip_rows::{MemRows, RowLog};
 use tip_script::Instruction;
 use tip_transcript::{print_idle, print_nowhere};
 
@@ -32,25 +34,57 @@ impl Playing<Host<MemRows>, Actor> {
     /// Does what a line says, with the boxes that come with it; then all lines of its realm that may be taken are taken.
     /// `NotUnderstood` where the line may not stand here.
     pub fn act(
-        &mut self,
+        self,
         alloc: Global,
+        instruction: Instruction<'_>,
+        boxes: Vec<Box<dyn Branch + Send>>,
+        printed: &mut String,
+    ) -> Result<Playing, LineFault>
+        requires { Always }
+        ensures { (scene : Scene) → IsScene self.host self.actors.items scene → ComeWith (Some (move_by instruction.entry)) (map standing boxes.items) →
+            Moves (string_bytes printed.old) (string_bytes printed.new) (moved (move_by instruction.entry) scene) result }
+    {
+        match instruction.realm() {
+            Some(realm) => {
+                let boxes = fresh(alloc, boxes)?;
+                self.act_in(alloc, realm, instruction, boxes, printed)
+            }
+            None => restart(self, alloc, boxes, printed),
+        }
+    }
+
+    /// Does what a line says that is of this realm.
+    fn act_in(
+        mut self,
+        alloc: Global,
+        realm: &str,
         instruction: Instruction<'_>,
         boxes: HeldFresh,
         printed: &mut String,
-    ) -> Result<(), LineFault>
+    ) -> Result<Playing, LineFault>
         requires { Always }
-        ensures { (scene : Scene) → IsScene self.old.host self.old.actors.items scene → boxes ≡ boxes_of (plans_with (move_by instruction.entry)) →
-            Moves self.new.host self.new.actors.items (string_bytes printed.old) (string_bytes printed.new) (moved (move_by instruction.entry) scene) result }
+        ensures { (scene : Scene) → IsScene self.host self.actors.items scene → boxes ≡ boxes_of (plans_with (move_by instruction.entry)) →
+            Moves (string_bytes printed.old) (string_bytes printed.new) (moved_in (move_by instruction.entry) (Some realm.now) scene) result }
     {
-        let place = self.place_of(instruction.realm());
-        let Playing { host, actors } = self;
-        let Some(actor) = actors.get_mut(place) else {
-            return print_elsewhere(printed, instruction);
+        let place = self.place_of(realm);
+        let Some(actor) = self.actors.get_mut(place) else {
+            print_elsewhere(printed, instruction)?;
+            return Ok(self);
         };
-        if !obey(actor, alloc, host, place, instruction, boxes, printed)? {
+        if !obey(actor, alloc, &mut self.host, place, instruction, boxes, printed)? {
             return Err(LineFault::NotUnderstood);
         }
-        Ok(actor.settle(alloc, host, place, printed)?)
+        actor.settle(alloc, &mut self.host, place, printed)?;
+        Ok(self)
+    }
+
+    /// The boxes that a restart wants: a willing one for each branch of each stored row.
+    pub fn willing(&mut self, alloc: Global) -> Result<Wanted, AllocError>
+        requires { Always }
+        ensures { (scene : Scene) → IsScene self.old.host self.old.actors.items scene → OnOk result (IsScene self.new.host self.new.actors.items scene) }
+    {
+        let Playing { host, actors } = self;
+        willing_for(alloc, host, actors)
     }
 
     /// The place of a realm; one behind all realms where it is not declared.
@@ -64,6 +98,24 @@ impl Playing<Host<MemRows>, Actor> {
         }
         self.actors.len()
     }
+}
+
+/// A willing box for each branch of each stored row of these realms.
+fn willing_for(
+    alloc: Global,
+    host: &mut Host<MemRows>,
+    actors: &[Actor],
+) -> Result<Wanted, AllocError>
+    ensures { (scene : Scene) → IsScene host.old actors.now scene → OnOk result (IsScene host.new actors.now scene) }
+{
+    let mut wanted = Wanted::none_ready(alloc);
+    for actor in actors {
+        let Ok(loaded) = host.store.load(&actor.name) else {
+            return Err(AllocError);
+        };
+        wanted.add_willing(&loaded.rows)?;
+    }
+    Ok(wanted)
 }
 
 /// Does what a line says to the realm that it is of, which has this place. It says whether the line may stand here.
@@ -80,7 +132,7 @@ fn obey(
         IfOk result (λ told. Tells host.old host.new place actor.old actor.new (string_bytes printed.old) (string_bytes printed.new) told (does (move_by instruction.entry) acting)) }
 {
     match instruction {
-        Instruction::Realm { .. } => Ok(false),
+        Instruction::Realm { .. } | Instruction::Restart => Ok(false),
         Instruction::Open { .. } => {
             actor.happen(alloc, host, place, Event::Open { boxes }, printed)?;
             Ok(true)
@@ -120,7 +172,8 @@ fn print_elsewhere(printed: &mut String, instruction: Instruction<'_>) -> Result
         | Instruction::Feed { .. }
         | Instruction::Lost { .. }
         | Instruction::Push(_)
-        | Instruction::Pull(_) => Err(LineFault::NotUnderstood),
+        | Instruction::Pull(_)
+        | Instruction::Restart => Err(LineFault::NotUnderstood),
         Instruction::Open { realm, .. }
         | Instruction::Dial { realm, .. }
         | Instruction::Resume { realm, .. } => Ok(print_nowhere(printed, realm)?),

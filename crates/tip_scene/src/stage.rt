@@ -1,18 +1,17 @@
 //! A script as far as it was played.
-ghost use Rattle.std.specs.Prelude.{◌≡◌, ◌++◌, List, [], OnOk, string_bytes};
-ghost use Rattle.tip_actor.specs.Acting.{boxes_of};
+ghost use Rattle.std.specs.Prelude.{◌≡◌, ◌++◌, List, [], Some, map, IfOk, OnOk, string_bytes};
 ghost use Rattle.tip_branch.specs.Always.{Always};
-ghost use Rattle.tip_machine.specs.declared.head.Start.{Start};
 ghost use Rattle.tip_script.specs.Moves.{move_by};
-ghost use Rattle.tip_script.specs.Scripts.{move_of, plans_in, plans_of, plans_with};
+ghost use Rattle.tip_script.specs.Scripts.{move_of};
 ghost use Rattle.tip_scene.specs.Acts.{Stage as AStage, Declaring as Begins, acted, acts, closing_of};
-ghost use Rattle.tip_scene.specs.Stages.{ActsSo, IsDeclared, IsStage};
+ghost use Rattle.tip_scene.specs.Stages.{ActsSo, AreWanted, ComeWith, IsDeclared, IsStage};
 
-use crate::declared::Declared;
+use crate::boxes::Wanted;
+use crate::declared::{Declaration, Declared};
 use crate::fault::LineFault;
 use crate::playing::Playing;
 use std::alloc::{AllocError, Global};
-use tip_branch::HeldFresh;
+use tip_branch::Branch;
 use tip_core::Core;
 use tip_script::Instruction;
 
@@ -37,11 +36,11 @@ impl Stage<Declared, Playing> {
         self,
         alloc: Global,
         line: &[u8],
-        boxes: HeldFresh,
+        boxes: Vec<Box<dyn Branch + Send>>,
         printed: &mut String,
     ) -> Result<Stage, LineFault>
         requires { Always }
-        ensures { (stage : AStage) → IsStage self stage → boxes ≡ boxes_of (plans_in (move_of line.now)) →
+        ensures { (stage : AStage) → IsStage self stage → ComeWith (move_of line.now) (map standing boxes.items) →
             ActsSo (string_bytes printed.old) (string_bytes printed.new) (acted stage line.now) result }
     {
         if line.is_empty() {
@@ -64,21 +63,44 @@ impl Stage<Declared, Playing> {
         Ok(())
     }
 
+    /// The boxes that a line wants.
+    pub fn wanted(&mut self, alloc: Global, line: &[u8]) -> Result<Wanted, AllocError>
+        requires { Always }
+        ensures stands { (stage : AStage) → IsStage self.old stage → OnOk result (IsStage self.new stage) }
+        ensures wanted { IfOk result (AreWanted (move_of line.now)) }
+    {
+        match Instruction::parse(line) {
+            Some(Instruction::Restart) => self.willing(alloc),
+            Some(instruction) => Wanted::active(alloc, instruction.kinds()),
+            None => Wanted::active(alloc, b""),
+        }
+    }
+
+    /// A willing box for each branch of each stored row.
+    fn willing(&mut self, alloc: Global) -> Result<Wanted, AllocError>
+        ensures { (stage : AStage) → IsStage self.old stage → OnOk result (IsStage self.new stage) }
+    {
+        match self {
+            Stage::Declaring(_) => Ok(Wanted::none_ready(alloc)),
+            Stage::Playing(playing) => playing.willing(alloc),
+        }
+    }
+
     /// Does what an instruction says.
     fn obey(
         self,
         alloc: Global,
         instruction: Instruction<'_>,
-        boxes: HeldFresh,
+        boxes: Vec<Box<dyn Branch + Send>>,
         printed: &mut String,
     ) -> Result<Stage, LineFault>
-        ensures { (stage : AStage) → IsStage self stage → boxes ≡ boxes_of (plans_with (move_by instruction.entry)) →
+        ensures { (stage : AStage) → IsStage self stage → ComeWith (Some (move_by instruction.entry)) (map standing boxes.items) →
             ActsSo (string_bytes printed.old) (string_bytes printed.new) (acts stage (move_by instruction.entry)) result }
     {
         match self {
             Stage::Declaring(declared) => declare(declared, alloc, instruction, boxes, printed),
-            Stage::Playing(mut playing) => {
-                playing.act(alloc, instruction, boxes, printed)?;
+            Stage::Playing(playing) => {
+                let playing = playing.act(alloc, instruction, boxes, printed)?;
                 Ok(Stage::Playing(playing))
             }
         }
@@ -90,11 +112,11 @@ fn declare(
     declared: Declared,
     alloc: Global,
     instruction: Instruction<'_>,
-    boxes: HeldFresh,
+    boxes: Vec<Box<dyn Branch + Send>>,
     printed: &mut String,
 ) -> Result<Stage, LineFault>
-    ensures { (starts : List Start) → IsDeclared declared starts → boxes ≡ boxes_of (plans_with (move_by instruction.entry)) →
-        ActsSo (string_bytes printed.old) (string_bytes printed.new) (acts (Begins starts) (move_by instruction.entry)) result }
+    ensures { (declarations : List Declaration) → IsDeclared declared declarations → ComeWith (Some (move_by instruction.entry)) (map standing boxes.items) →
+        ActsSo (string_bytes printed.old) (string_bytes printed.new) (acts (Begins declarations) (move_by instruction.entry)) result }
 {
     if let Instruction::Realm {
         name,
@@ -106,17 +128,7 @@ fn declare(
         let declared = declared.add(alloc, name, address, branches, limits)?;
         return Ok(Stage::Declaring(declared));
     }
-    let mut playing = declared.start(alloc, printed)?;
-    playing.act(alloc, instruction, boxes, printed)?;
+    let playing = declared.start(alloc, printed)?;
+    let playing = playing.act(alloc, instruction, boxes, printed)?;
     Ok(Stage::Playing(playing))
-}
-
-/// The boxes that come with a line, a letter for each.
-pub fn kinds_in(line: &[u8]) -> &[u8]
-    ensures { plans_of result.now ≡ plans_in (move_of line.now) }
-{
-    match Instruction::parse(line) {
-        Some(instruction) => instruction.kinds(),
-        None => b"",
-    }
 }

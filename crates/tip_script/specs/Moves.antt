@@ -2,7 +2,7 @@
 use Rattle.std.specs.Prelude.{ℕ, List, [], ◌∷◌, ◌++◌}
 use Rattle.tip_machine.specs.declared.connection.Purpose.{Purpose}
 use Rattle.tip_machine.specs.declared.connection.Purpose.TheVariants as purpose
-use Rattle.tip_script.specs.Scripts.{Move, Declare, Open, Dial, Feed, Lose, Push, Pull, Go, Drop, Resume, Refuse, Asking, octets_in, plans_of}
+use Rattle.tip_script.specs.Scripts.{Move, Declare, Open, Dial, Feed, Lose, Push, Pull, Go, Drop, Resume, Refuse, Restart, Asking, octets_in, plans_of}
 use Rattle.tip_script.specs.declared.asking.Aim.{Aim}
 use Rattle.tip_script.specs.declared.asking.Aim.TheVariants as aim
 use Rattle.tip_script.specs.declared.asking.Asked.{Asked}
@@ -39,3 +39,4 @@ move_by (instruction.Go realm) = Go realm.now
 move_by (instruction.Drop realm) = Drop realm.now
 move_by (instruction.Resume realm id) = Resume realm.now id.now
 move_by (instruction.Refuse realm) = Refuse realm.now
+move_by instruction.Restart = Restart

@@ -37,20 +37,23 @@ pub data Move : Type 0 where
   Resume : (realm : List ℕ) → (id : List ℕ) → Move
   -- the realm's next change of rows is to be refused
   Refuse : (realm : List ℕ) → Move
+  -- the process starts again
+  Restart : Move
 
--- the realm that a move is of
-abbrev pub realm_of : Move → List ℕ
-realm_of (Declare name address branches limits) = name
-realm_of (Open realm plans) = realm
-realm_of (Dial realm address plans purpose) = realm
-realm_of (Feed realm connection octets) = realm
-realm_of (Lose realm connection) = realm
-realm_of (Push realm connection id) = realm
-realm_of (Pull realm connection superior) = realm
-realm_of (Go realm) = realm
-realm_of (Drop realm) = realm
-realm_of (Resume realm id) = realm
-realm_of (Refuse realm) = realm
+-- the realm that it is of; a restart is of all
+abbrev pub realm_of : Move → Option (List ℕ)
+realm_of (Declare name address branches limits) = Some name
+realm_of (Open realm plans) = Some realm
+realm_of (Dial realm address plans purpose) = Some realm
+realm_of (Feed realm connection octets) = Some realm
+realm_of (Lose realm connection) = Some realm
+realm_of (Push realm connection id) = Some realm
+realm_of (Pull realm connection superior) = Some realm
+realm_of (Go realm) = Some realm
+realm_of (Drop realm) = Some realm
+realm_of (Resume realm id) = Some realm
+realm_of (Refuse realm) = Some realm
+realm_of Restart = None
 
 -- the boxes that come with a move
 abbrev pub plans_with : Move → List Plan
@@ -218,13 +221,19 @@ resumption (realm ∷ id ∷ []) = do
   Some (Resume name id)
 resumption fields = None
 
--- go REALM, drop REALM, refuse REALM, and resume REALM ID; else what we ask of other managers
+-- restart, and no more
+unfoldable pub restarting : List (List ℕ) → Option Move
+restarting [] = Some Restart
+restarting fields = None
+
+-- go REALM, drop REALM, refuse REALM, resume REALM ID, and restart; else what we ask of other managers
 unfoldable pub order_in : List ℕ → List (List ℕ) → Option Move
 order_in word fields =
     if bytes_eq word (codes "go") then realm_alone fields >>= (λ realm. Some (Go realm))
     else if bytes_eq word (codes "drop") then realm_alone fields >>= (λ realm. Some (Drop realm))
     else if bytes_eq word (codes "refuse") then realm_alone fields >>= (λ realm. Some (Refuse realm))
     else if bytes_eq word (codes "resume") then resumption fields
+    else if bytes_eq word (codes "restart") then restarting fields
     else request_in word fields
 
 -- what a line says; None where it is not understood

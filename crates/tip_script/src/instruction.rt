@@ -2,7 +2,7 @@
 ghost use Rattle.std.specs.Prelude.{◌≡◌, option_map};
 ghost use Rattle.std.specs.List.{list_all};
 ghost use Rattle.tip_script.specs.Moves.{move_by};
-ghost use Rattle.tip_script.specs.Scripts.{is_digit, is_hex, sizes_in, declaration, opening, text_line, hex_octets, loss, move_of, order_in, plans_of, plans_with, realm_alone, realm_of, resumption};
+ghost use Rattle.tip_script.specs.Scripts.{is_digit, is_hex, sizes_in, declaration, opening, text_line, hex_octets, loss, move_of, order_in, plans_of, plans_with, realm_alone, realm_of, restarting, resumption};
 
 use crate::asking::{Aim, Asked, request};
 use crate::fields::{number_in, realm_in};
@@ -74,6 +74,8 @@ pub enum Instruction<'a> {
     Refuse {
         realm: &'a str,
     },
+    /// `restart`: the process starts again.
+    Restart,
 }
 
 impl<'a> Instruction<'a> {
@@ -93,9 +95,9 @@ impl<'a> Instruction<'a> {
         }
     }
 
-    /// The realm that it is of.
-    pub fn realm(self) -> &'a str
-        ensures { result.now ≡ realm_of (move_by self.entry) }
+    /// The realm that it is of; None where it is of all.
+    pub fn realm(self) -> Option<&'a str>
+        ensures { option_map (λ realm. realm.now) result ≡ realm_of (move_by self.entry) }
     {
         match self {
             Instruction::Realm { name: realm, .. }
@@ -108,7 +110,8 @@ impl<'a> Instruction<'a> {
             | Instruction::Go { realm }
             | Instruction::Drop { realm }
             | Instruction::Resume { realm, .. }
-            | Instruction::Refuse { realm } => realm,
+            | Instruction::Refuse { realm } => Some(realm),
+            Instruction::Restart => None,
         }
     }
 
@@ -126,7 +129,8 @@ impl<'a> Instruction<'a> {
             | Instruction::Go { .. }
             | Instruction::Drop { .. }
             | Instruction::Resume { .. }
-            | Instruction::Refuse { .. } => b"",
+            | Instruction::Refuse { .. }
+            | Instruction::Restart => b"",
         }
     }
 }
@@ -241,6 +245,8 @@ fn order<'a>(word: &[u8], fields: Fields<'a, b' '>) -> Option<Instruction<'a>>
         Some(Instruction::Refuse { realm })
     } else if word == b"resume".as_slice() {
         resumption(fields)
+    } else if word == b"restart".as_slice() {
+        restarting(fields)
     } else {
         request(word, fields)
     }
@@ -271,6 +277,16 @@ fn resumption(mut fields: Fields<'_, b' '>) -> Option<Instruction<'_>>
         realm: realm_in(realm)?,
         id,
     })
+}
+
+#[tactic(auto, unfolding(crate::specs::Scripts::restarting))]
+fn restarting(mut fields: Fields<'_, b' '>) -> Option<Instruction<'_>>
+    ensures { option_map move_by result ≡ restarting fields.entry }
+{
+    match fields.next() {
+        Some(_) => None,
+        None => Some(Instruction::Restart),
+    }
 }
 
 /// Whether these are one or more pairs of digits from `0` to `9` and `a` to `f`.

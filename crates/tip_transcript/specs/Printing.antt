@@ -1,5 +1,5 @@
 -- What a transcript says of what a realm shows, one line for each output (ours).
-use Rattle.std.specs.Prelude.{ℕ, List, [], ◌++◌, Option, Some, None, codes, if◌then◌else◌}
+use Rattle.std.specs.Prelude.{ℕ, List, [], ◌∷◌, ◌++◌, Option, Some, None, codes, if◌then◌else◌}
 use Rattle.std.specs.Fmt.{decimal}
 use Rattle.std.specs.List.{flat_map}
 use Rattle.tip_branch.specs.Members.{is_active}
@@ -99,9 +99,18 @@ nowhere_text realm = refusal_text realm NoRealm
 abbrev pub idle_text : List ℕ → List ℕ
 idle_text realm = realm ++ codes " idle\n"
 
--- REALM epoch 1
-abbrev pub start_text : List ℕ → List ℕ
-start_text realm = realm ++ codes " epoch 1\n"
+-- REALM epoch EPOCH
+abbrev pub start_text : List ℕ → ℕ → List ℕ
+start_text realm epoch = realm ++ codes " epoch " ++ decimal epoch ++ codes "\n"
+
+-- a further number in a list of them
+abbrev pub number_text : ℕ × List ℕ → List ℕ
+number_text branch = codes "," ++ decimal branch.0
+
+-- REALM adopt ID NUMBERS: the branches of a row have their boxes, where there are some; their numbers are joined by commas
+abbrev pub adopted_text : List ℕ → List ℕ → List (ℕ × List ℕ) → List ℕ
+adopted_text realm id [] = []
+adopted_text realm id (first ∷ more) = realm ++ codes " adopt " ++ id ++ codes " " ++ decimal first.0 ++ flat_map number_text more ++ codes "\n"
 
 -- Members one by one
 

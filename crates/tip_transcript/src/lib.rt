@@ -3,6 +3,8 @@
 
 mod parties;
 mod printing;
+mod starting;
 
 pub use parties::{print_brought, print_drops};
-pub use printing::{print, print_idle, print_nowhere, print_start};
+pub use printing::{print, print_idle, print_nowhere};
+pub use starting::{print_adopted, print_start};

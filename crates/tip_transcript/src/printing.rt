@@ -7,7 +7,7 @@ ghost use Rattle.tip_machine.specs.Outputs.{Output, brought, drops_of, outputs};
 ghost use Rattle.tip_machine.specs.Steps.{key_changed};
 ghost use Rattle.tip_machine.specs.Types.{Event};
 ghost use Rattle.tip_machine.specs.declared.event.Outcome.TheVariants.{Refused, Stored};
-ghost use Rattle.tip_transcript.specs.Printing.{change_text, idle_text, nowhere_text, refusal_text, sent_text, shown_text, start_text};
+ghost use Rattle.tip_transcript.specs.Printing.{change_text, idle_text, nowhere_text, refusal_text, sent_text, shown_text};
 
 use crate::parties::{print_drops, print_work};
 use std::alloc::{AllocError, Global};
@@ -206,11 +206,4 @@ pub fn print_idle(printed: &mut String, realm: &str) -> Result<(), AllocError>
     ensures { OnOk result (string_bytes printed.new ≡ string_bytes printed.old ++ idle_text realm.now) }
 {
     writeln!(printed, "{realm} idle")
-}
-
-/// Prints the start of a realm, in its first epoch.
-pub fn print_start(printed: &mut String, realm: &str) -> Result<(), AllocError>
-    ensures { OnOk result (string_bytes printed.new ≡ string_bytes printed.old ++ start_text realm.now) }
-{
-    writeln!(printed, "{realm} epoch 1")
 }

@@ -1,11 +1,10 @@
 -- Lines that are read and played, one after another.
-use Rattle.std.proofs.Common.{rules, ◌≡◌, Ok, refl, subst, sym}
+use Rattle.std.proofs.Common.{◌≡◌, Ok, refl, subst, sym}
 use Rattle.std.proofs.lemmas.Result.{err_from_is_err_and}
 use Rattle.script_lines.specs.Lines.{Reads}
-use Rattle.tip_actor.specs.Acting.{boxes_of}
-use Rattle.tip_script.specs.Scripts.{move_of, plans_in}
 use Rattle.tip_scene.specs.Stages.{IsStage}
 use Rattle.tip_play.proofs.Reading.{line_fails, line_not_read, line_plays, line_too_long, reads_none, script_ends, stays_front}
+use Rattle.tip_play.proofs.Bringing.{come_with}
 use Rattle.tip_play.proofs.player.play_lines.Goals as goal
 
 pub loop-number-init : goal.loop-number-init
@@ -41,9 +40,9 @@ returns-in_err-push g c =
 pub returns-then-not-are_of : goal.returns-then-not-are_of
 returns-then-not-are_of g c = stays_front c.loop-number.stage c.loop-number.number (g.R.Read.remaining c.args.input.now) (g.R.Read.remaining c.loop-number.input) (g.W.Write.contents c.args.output.now) (g.W.Write.contents c.loop-number.output) c.loop-number.invariant
 
-pub returns-in_err-into_lot : goal.returns-in_err-into_lot
-returns-in_err-into_lot g c =
-    let e = err_from_is_err_and c.from_residual-in_err-into_lot.result c.from_residual-in_err-into_lot.ensures.1 in
+pub returns-in_err-wanted : goal.returns-in_err-wanted
+returns-in_err-wanted g c =
+    let e = err_from_is_err_and c.from_residual-in_err-wanted.result c.from_residual-in_err-wanted.ensures.1 in
     rw (e.1, e.2) (stays_front c.loop-number.stage c.loop-number.number (g.R.Read.remaining c.args.input.now) (g.R.Read.remaining c.loop-number.input) (g.W.Write.contents c.args.output.now) (g.W.Write.contents c.loop-number.output) c.loop-number.invariant)
 
 pub returns-in_err-stage : goal.returns-in_err-stage
@@ -53,9 +52,8 @@ returns-in_err-stage g c =
     let left = g.R.Read.remaining c.loop-number.input in
     let left' = g.R.Read.remaining c.read.new.input in
     let reads : Reads left left' text (Ok c.in_ok-end.end) = subst (λ l. Reads left left' l (Ok c.in_ok-end.end)) (sym c.as_slice-text.ensures) c.in_ok-end.ensures in
-    let brought : c.of-boxes.result ≡ boxes_of (plans_in (move_of text)) = search rules in
     rw (e.1, e.2) (line_fails c.loop-number.stage c.loop-number.number (g.R.Read.remaining c.args.input.now) left left' (g.W.Write.contents c.args.output.now) (g.W.Write.contents c.loop-number.output) (g.W.Write.contents c.act.new.output)
-    text c.in_ok-end.end c.in_err-stage.field-0.0 c.loop-number.invariant (c.is_too_long.ensures.no c.if-is_too_long.false) reads (λ now is. c.in_err-stage.ensures now (subst (λ s. IsStage s now) (sym c.loop-kind.invariant) is) brought))
+    text c.in_ok-end.end c.in_err-stage.field-0.0 c.loop-number.invariant (c.is_too_long.ensures.no c.if-is_too_long.false) reads (λ now is. c.in_err-stage.ensures now (subst (λ s. IsStage s now) (sym c.loop-kind.invariant) (c.in_ok-wanted.ensures.stands now is)) (λ move realm said named. come_with _ c.deref.ensures.value (c.are_of.ensures c.if-not-are_of.false) c.deref-in-loop-number.ensures.value (c.in_ok-wanted.ensures.wanted move realm said named).1)))
 
 pub returns-then-is_last : goal.returns-then-is_last
 returns-then-is_last g c =
@@ -63,9 +61,8 @@ returns-then-is_last g c =
     let left = g.R.Read.remaining c.loop-number.input in
     let left' = g.R.Read.remaining c.read.new.input in
     let reads : Reads left left' text (Ok c.in_ok-end.end) = subst (λ l. Reads left left' l (Ok c.in_ok-end.end)) (sym c.as_slice-text.ensures) c.in_ok-end.ensures in
-    let brought : c.of-boxes.result ≡ boxes_of (plans_in (move_of text)) = search rules in
     script_ends c.loop-number.stage c.in_ok-stage.stage c.loop-number.number (g.R.Read.remaining c.args.input.now) left left' (g.W.Write.contents c.args.output.now) (g.W.Write.contents c.loop-number.output) (g.W.Write.contents c.act.new.output) (g.W.Write.contents c.finish.new.output)
-    text c.in_ok-end.end c.finish.result c.loop-number.invariant (c.is_last.ensures.yes c.if-is_last.true) reads (λ now is. c.in_ok-stage.ensures now (subst (λ s. IsStage s now) (sym c.loop-kind.invariant) is) brought) c.finish.ensures
+    text c.in_ok-end.end c.finish.result c.loop-number.invariant (c.is_last.ensures.yes c.if-is_last.true) reads (λ now is. c.in_ok-stage.ensures now (subst (λ s. IsStage s now) (sym c.loop-kind.invariant) (c.in_ok-wanted.ensures.stands now is)) (λ move realm said named. come_with _ c.deref.ensures.value (c.are_of.ensures c.if-not-are_of.false) c.deref-in-loop-number.ensures.value (c.in_ok-wanted.ensures.wanted move realm said named).1)) c.finish.ensures
 
 pub loop-number-preserved : goal.loop-number-preserved
 loop-number-preserved g c =
@@ -73,9 +70,8 @@ loop-number-preserved g c =
     let left = g.R.Read.remaining c.loop-number.input in
     let left' = g.R.Read.remaining c.read.new.input in
     let reads : Reads left left' text (Ok c.in_ok-end.end) = subst (λ l. Reads left left' l (Ok c.in_ok-end.end)) (sym c.as_slice-text.ensures) c.in_ok-end.ensures in
-    let brought : c.of-boxes.result ≡ boxes_of (plans_in (move_of text)) = search rules in
     line_plays c.loop-number.stage c.in_ok-stage.stage c.loop-number.number (g.R.Read.remaining c.args.input.now) left left' (g.W.Write.contents c.args.output.now) (g.W.Write.contents c.loop-number.output) (g.W.Write.contents c.act.new.output)
-    text c.in_ok-end.end c.loop-number.invariant (c.is_too_long.ensures.no c.if-is_too_long.false) (c.is_last.ensures.no c.if-is_last.false) reads (λ now is. c.in_ok-stage.ensures now (subst (λ s. IsStage s now) (sym c.loop-kind.invariant) is) brought)
+    text c.in_ok-end.end c.loop-number.invariant (c.is_too_long.ensures.no c.if-is_too_long.false) (c.is_last.ensures.no c.if-is_last.false) reads (λ now is. c.in_ok-stage.ensures now (subst (λ s. IsStage s now) (sym c.loop-kind.invariant) (c.in_ok-wanted.ensures.stands now is)) (λ move realm said named. come_with _ c.deref.ensures.value (c.are_of.ensures c.if-not-are_of.false) c.deref-in-loop-number.ensures.value (c.in_ok-wanted.ensures.wanted move realm said named).1))
 
 pub returns : goal.returns
 returns g c = stays_front c.loop-number.stage c.loop-number.number (g.R.Read.remaining c.args.input.now) (g.R.Read.remaining c.loop-number.input) (g.W.Write.contents c.args.output.now) (g.W.Write.contents c.loop-number.output) c.loop-number.invariant

@@ -1,0 +1,60 @@
+-- Realms that have started, before they are at work.
+use Rattle.std.specs.Prelude.{◌≡◌, ℕ, List, [], ◌∷◌, map, true, Option, Some, None, is_some, slice_get}
+use Rattle.tip_branch.specs.declared.branch.Badge.{Badge}
+use Rattle.tip_core.specs.Hosted.{realm}
+use Rattle.tip_machine.specs.Recovery.{restarted}
+use Rattle.tip_machine.specs.States.{started}
+use Rattle.tip_recovery.specs.Adopting.{Recovery, Unfinished, given, loaded, unadopted, with_boxes}
+use Rattle.tip_rows.specs.Logs.{IsPart}
+use Rattle.tip_rows.specs.Memory.{Memory, is_due_in, log_of}
+use Rattle.tip_host.specs.Recovering.{Recovering}
+use Rattle.tip_actor.specs.Acting.{Acting}
+use Rattle.tip_actor.specs.Standing.{Actor}
+use Rattle.tip_scene.specs.Scenes.{Scene}
+
+-- nothing has come to it, and no party is out
+pub record IsNew (actor : Actor) (acting : Acting) : Type 0 where
+  pub name : actor.name ≡ acting.name
+  pub readers : actor.readers.items ≡ []
+  pub readings : acting.readings ≡ []
+  pub errands : actor.errands.items ≡ []
+  pub none_out : acting.world.errands ≡ []
+  pub due : actor.is_due ≡ acting.due
+
+abbrev pub AreNew : List Actor → Scene → Type 0
+AreNew [] [] = Unit {0}
+AreNew [] (acting ∷ scene) = ⊥
+AreNew (actor ∷ actors) [] = ⊥
+AreNew (actor ∷ actors) (acting ∷ scene) = IsNew actor acting × AreNew actors scene
+
+-- the same realm, to which nothing has come
+pub record IsAnew (new old : Actor) : Type 0 where
+  pub name : new.name ≡ old.name
+  pub readers : new.readers.items ≡ []
+  pub errands : new.errands.items ≡ []
+  pub due : new.is_due ≡ old.is_due
+
+abbrev pub AreAnew : List Actor → List Actor → Type 0
+AreAnew [] [] = Unit {0}
+AreAnew [] (old ∷ olds) = ⊥
+AreAnew (new ∷ news) [] = ⊥
+AreAnew (new ∷ news) (old ∷ olds) = IsAnew new old × AreAnew news olds
+
+-- the realm at a place has started: its rows are stored, and its boxes are adopted
+pub record IsRising (recovering : Recovering Memory) (place : ℕ) (acting : Acting) : Type 0 where
+  pub recovery : Recovery
+  pub there : slice_get recovering.realms place ≡ Some recovery
+  pub core : realm recovering.core place ≡ Some (started acting.world.state.head)
+  pub state : acting.world.state ≡ restarted acting.world.state.head (map loaded recovery.rows)
+  pub epoch : recovery.epoch ≡ acting.world.state.head.epoch
+  pub boxes : List (List Badge)
+  pub rows : recovery.rows ≡ given with_boxes boxes (map (unadopted acting.name) acting.world.rows)
+  pub part : IsPart (log_of recovering.store) acting.world.state.head.name acting.world.state.head.epoch acting.world.rows
+  pub known : is_some ((log_of recovering.store).epochs acting.world.state.head.name) ≡ true
+  pub due : is_due_in recovering.store acting.world.state.head.name ≡ acting.due
+  pub named : acting.world.state.head.name ≡ acting.name
+
+pub record AreRising (recovering : Recovering Memory) (scene : Scene) : Type 0 where
+  pub each : (place : ℕ) (acting : Acting) → slice_get scene place ≡ Some acting → IsRising recovering place acting
+  -- and there are no others
+  pub beyond : (place : ℕ) → slice_get scene place ≡ None → realm recovering.core place ≡ None
