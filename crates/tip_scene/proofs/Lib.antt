@@ -1,5 +1,6 @@
 pub mod FirstBranches
 pub mod Places
+pub mod Labelling
 pub mod Looking
 pub mod Scening
 pub mod Loaded

@@ -54,33 +54,26 @@ plays_on playing playing' printed printed' move (Playing scene) is moves =
     let m = moves scene is in
     (Playing m.scene, ap (option_map Playing) m.is, m.stands, m.text)
 
-starts_first : (declarations : List Declaration) (i : Instruction) → ((name : _) (address : _) (branches : ℕ) (limits : Limits) → i ≢ instruction.Realm name address branches limits) → acts (Declaring declarations) (move_by i) ≡ acted_by (starts_text declarations) (moved (move_by i) (scene_of declarations))
-starts_first declarations (instruction.Realm name address branches limits) other = absurd (other name address branches limits refl)
-starts_first declarations (instruction.Open realm kinds) other = refl
-starts_first declarations (instruction.Dial realm address kinds aim) other = refl
-starts_first declarations (instruction.Feed realm connection octets) other = refl
-starts_first declarations (instruction.Lost realm connection) other = refl
-starts_first declarations (instruction.Push asked) other = refl
-starts_first declarations (instruction.Pull asked) other = refl
-starts_first declarations (instruction.Go realm) other = refl
-starts_first declarations (instruction.Drop realm) other = refl
-starts_first declarations (instruction.Resume realm id) other = refl
-starts_first declarations (instruction.Refuse realm) other = refl
-starts_first declarations instruction.Restart other = refl
+starts_first : (declarations : List Declaration) (i : Instruction) → ((name : _) (address : _) (branches : ℕ) (limits : Limits) → i ≢ instruction.Realm name address branches limits) → ((realm : _) (labels : _) → i ≢ instruction.Labels realm labels) → acts (Declaring declarations) (move_by i) ≡ acted_by (starts_text declarations) (moved (move_by i) (scene_of declarations))
+starts_first declarations (instruction.Realm name address branches limits) other unlabelled = absurd (other name address branches limits refl)
+starts_first declarations (instruction.Labels realm labels) other unlabelled = absurd (unlabelled realm labels refl)
+starts_first declarations (instruction.Open realm kinds) other unlabelled = refl
+starts_first declarations (instruction.Dial realm address kinds aim) other unlabelled = refl
+starts_first declarations (instruction.Feed realm connection octets) other unlabelled = refl
+starts_first declarations (instruction.Lost realm connection) other unlabelled = refl
+starts_first declarations (instruction.Push asked) other unlabelled = refl
+starts_first declarations (instruction.Pull asked) other unlabelled = refl
+starts_first declarations (instruction.Go realm) other unlabelled = refl
+starts_first declarations (instruction.Drop realm) other unlabelled = refl
+starts_first declarations (instruction.Resume realm id) other unlabelled = refl
+starts_first declarations (instruction.Refuse realm) other unlabelled = refl
+starts_first declarations instruction.Restart other unlabelled = refl
 
-pub plays_first : (playing' : APlaying) (declarations : List Declaration) (printed between printed' : List ℕ) (i : Instruction) → ((name : _) (address : _) (branches : ℕ) (limits : Limits) → i ≢ instruction.Realm name address branches limits) → between ≡ printed ++ starts_text declarations → IsMoved playing'.host playing'.actors.items between printed' (moved (move_by i) (scene_of declarations)) →
+pub plays_first : (playing' : APlaying) (declarations : List Declaration) (printed between printed' : List ℕ) (i : Instruction) → ((name : _) (address : _) (branches : ℕ) (limits : Limits) → i ≢ instruction.Realm name address branches limits) → ((realm : _) (labels : _) → i ≢ instruction.Labels realm labels) → between ≡ printed ++ starts_text declarations → IsMoved playing'.host playing'.actors.items between printed' (moved (move_by i) (scene_of declarations)) →
     (then_ : Stage) × ((acts (Declaring declarations) (move_by i)).stage ≡ Some then_) × IsStage (stage.Playing playing') then_ × (printed' ≡ printed ++ (acts (Declaring declarations) (move_by i)).printed)
-plays_first playing' declarations printed between printed' i other text m =
-    let first = starts_first declarations i other in
+plays_first playing' declarations printed between printed' i other unlabelled text m =
+    let first = starts_first declarations i other unlabelled in
     (Playing m.scene, ap (λ (a : Acted). a.stage) first ∙ ap (option_map Playing) m.is, m.stands, m.text ∙ ap (λ t. t ++ (moved (move_by i) (scene_of declarations)).printed) text ∙ append_assoc printed (starts_text declarations) (moved (move_by i) (scene_of declarations)).printed ∙ ap (λ (a : Acted). printed ++ a.printed) (sym first))
-
--- the same of a line that fails once the realms have started
-pub fails_first : (declarations : List Declaration) (printed between printed' : List ℕ) (i : Instruction) → ((name : _) (address : _) (branches : ℕ) (limits : Limits) → i ≢ instruction.Realm name address branches limits) → between ≡ printed ++ starts_text declarations → (fault : LineFault) → Moves between printed' (moved (move_by i) (scene_of declarations)) (Err fault) →
-    ActsSo printed printed' (acts (Declaring declarations) (move_by i)) (Err fault)
-fails_first declarations printed between printed' i other text fault.NotUnderstood m =
-    let first = starts_first declarations i other in
-    (ap (λ (a : Acted). a.stage) first ∙ ap (option_map Playing) m.0, m.1 ∙ ap (λ t. t ++ (moved (move_by i) (scene_of declarations)).printed) text ∙ append_assoc printed (starts_text declarations) (moved (move_by i) (scene_of declarations)).printed ∙ ap (λ (a : Acted). printed ++ a.printed) (sym first))
-fails_first declarations printed between printed' i other text fault.Memory m = tt
 
 -- a line that is not empty does what it says
 pub acts_as_said : (now : Stage) (line : List ℕ) (move : Move) → false ≡ (length line == 0) → move_of line ≡ Some move → acted now line ≡ acts now move

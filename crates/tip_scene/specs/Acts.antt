@@ -1,8 +1,10 @@
 -- A script as far as it was played, and what each of its lines prints.
-use Rattle.std.specs.Prelude.{ℕ, zero, suc, ◌&&◌, List, [], ◌∷◌, ◌++◌, length, map, Bool, false, not, nat_le, nat_lt, Option, Some, None, option_map, if◌then◌else◌}
-use Rattle.std.specs.List.{list_all}
+use Rattle.std.specs.Prelude.{ℕ, zero, suc, ◌+◌, ◌==◌, ◌&&◌, List, [], ◌∷◌, ◌++◌, length, map, Bool, false, true, not, nat_le, nat_lt, Option, Some, None, option_map, slice_get, slice_set, if◌then◌else◌}
+use Rattle.std.specs.List.{list_all, position_or_len}
 use Rattle.std.specs.Str.{bytes_eq}
 use Rattle.tip_line.specs.Words.{is_address, is_realm}
+use Rattle.tip_rows.specs.Branches.{are_branches}
+use Rattle.tip_rows.specs.Labels.{is_label}
 use Rattle.tip_rows.specs.Rows.{first_label}
 use Rattle.tip_machine.specs.Heads.{are_allowed, starting}
 use Rattle.tip_machine.specs.Moves.{fresh}
@@ -11,7 +13,7 @@ use Rattle.tip_machine.specs.declared.head.Start.{Start}
 use Rattle.tip_actor.specs.Acting.{Acting}
 use Rattle.tip_scene.specs.Scenes.{Scene, Moved, moved, openings_text}
 use Rattle.tip_scene.specs.declared.declared.Declaration.{Declaration}
-use Rattle.tip_script.specs.Scripts.{Move, Declare, Open, Dial, Feed, Lose, Push, Pull, Go, Drop, Resume, Refuse, Restart, move_of}
+use Rattle.tip_script.specs.Scripts.{Move, Declare, Label, Open, Dial, Feed, Lose, Push, Pull, Go, Drop, Resume, Refuse, Restart, move_of}
 
 -- the realms are declared, and the first other line starts them
 pub data Stage : Type 0 where
@@ -31,7 +33,7 @@ first_branches zero = []
 first_branches (suc number) = first_branches number ++ (suc number, first_label (suc number)) ∷ []
 
 abbrev pub declaration_of : List ℕ → List ℕ → ℕ → Limits → Declaration
-declaration_of name address branches limits = record { name = name; address = address; limits = limits; branches = first_branches branches }
+declaration_of name address branches limits = record { name = name; address = address; limits = limits; branches = first_branches branches; is_labelled = false }
 
 -- how many branches a transaction may have
 abbrev pub is_count : ℕ → Bool
@@ -49,6 +51,37 @@ declared name address branches limits declarations =
     if may_be_declared name address branches limits declarations
     then Some (declarations ++ declaration_of name address branches limits ∷ [])
     else None
+
+-- Labels
+
+-- branches with these labels, numbered from here on
+abbrev pub numbered : ℕ → List (List ℕ) → List (ℕ × List ℕ)
+numbered number [] = []
+numbered number (label ∷ labels) = (number, label) ∷ numbered (number + 1) labels
+
+-- at most eight, each a label, and no two the same
+abbrev pub are_labels : List (List ℕ) → Bool
+are_labels labels = nat_le (length labels) 8 && list_all is_label labels && are_branches (numbered 1 labels)
+
+-- one for each branch, where none were named before
+abbrev pub may_be_labelled : List (List ℕ) → Declaration → Bool
+may_be_labelled labels declaration = not declaration.is_labelled && length labels == length declaration.branches && are_labels labels
+
+abbrev pub with_labels : List (List ℕ) → Declaration → Option Declaration
+with_labels labels declaration = if may_be_labelled labels declaration then Some (record declaration { branches = numbered 1 labels; is_labelled = true }) else None
+
+abbrev pub is_declared : List ℕ → Declaration → Bool
+is_declared name declaration = bytes_eq declaration.name name
+
+-- the first realm of this name
+abbrev pub labelled_at : List (List ℕ) → ℕ → Option Declaration → List Declaration → Option (List Declaration)
+labelled_at labels place None declarations = None
+labelled_at labels place (Some declaration) declarations = option_map (λ now. slice_set declarations place now) (with_labels labels declaration)
+
+abbrev pub labelled : List ℕ → List (List ℕ) → List Declaration → Option (List Declaration)
+labelled name labels declarations =
+    let place = position_or_len (is_declared name) declarations in
+    labelled_at labels place (slice_get declarations place) declarations
 
 -- The start
 
@@ -75,6 +108,7 @@ first_acts declarations move = acted_by (starts_text declarations) (moved move (
 
 abbrev pub acts : Stage → Move → Acted
 acts (Declaring declarations) (Declare name address branches limits) = record { printed = []; stage = option_map Declaring (declared name address branches limits declarations) }
+acts (Declaring declarations) (Label realm labels) = record { printed = []; stage = option_map Declaring (labelled realm labels declarations) }
 acts (Declaring declarations) (Open realm plans) = first_acts declarations (Open realm plans)
 acts (Declaring declarations) (Dial realm address plans purpose) = first_acts declarations (Dial realm address plans purpose)
 acts (Declaring declarations) (Feed realm connection octets) = first_acts declarations (Feed realm connection octets)

@@ -1,16 +1,15 @@
 -- Why a line of a script is not done.
-use Rattle.tip_core.specs.declared.starts.StartFault.{StartFault}
-use Rattle.tip_core.specs.declared.starts.StartFault.TheVariants as starts
 use Rattle.tip_line.specs.declared.fault.WordFault.{WordFault}
 use Rattle.tip_line.specs.declared.fault.WordFault.TheVariants as words
+use Rattle.tip_rows.specs.declared.label.LabelFault.{LabelFault}
+use Rattle.tip_rows.specs.declared.label.LabelFault.TheVariants as labels
 use Rattle.tip_scene.specs.declared.fault.LineFault.{LineFault}
 use Rattle.tip_scene.specs.declared.fault.LineFault.TheVariants as lines
 
--- a name that is there already makes a bad line
-abbrev pub start_fault_of : StartFault → LineFault
-start_fault_of starts.SameName = lines.NotUnderstood
-start_fault_of starts.NoEpoch = lines.NotUnderstood
-start_fault_of starts.Memory = lines.Memory
+-- what is no label makes a bad line
+abbrev pub of_label_fault : LabelFault → LineFault
+of_label_fault labels.BadLabel = lines.NotUnderstood
+of_label_fault labels.Memory = lines.Memory
 
 -- a word that is none makes a bad line; want of memory stays what it is
 abbrev pub line_fault_of : WordFault → LineFault

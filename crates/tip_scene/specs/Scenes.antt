@@ -7,7 +7,7 @@ use Rattle.tip_machine.specs.declared.connection.Purpose.{Purpose}
 use Rattle.tip_machine.specs.declared.connection.Purpose.TheVariants as purpose
 use Rattle.tip_machine.specs.declared.event.Event.TheVariants as event
 use Rattle.tip_actor.specs.Acting.{Acting, Done, boxes_of, drops_from, feeds, goes_for, happens, is_at_end, loses, on_connection, opening_text, pulls, pushes, refuses, restarts, settles}
-use Rattle.tip_script.specs.Scripts.{Move, Declare, Open, Dial, Feed, Lose, Push, Pull, Go, Drop, Resume, Refuse, Restart, realm_of}
+use Rattle.tip_script.specs.Scripts.{Move, Declare, Label, Open, Dial, Feed, Lose, Push, Pull, Go, Drop, Resume, Refuse, Restart, realm_of}
 use Rattle.tip_transcript.specs.Printing.{idle_text, nowhere_text}
 
 -- all realms, in the order of their declarations
@@ -31,6 +31,7 @@ is_purpose (purpose.Reconnect id place) = is_word id
 -- what a line does to the realm that it is of; none where it may not stand here
 abbrev pub does : Move → Acting → Option Done
 does (Declare name address branches limits) acting = None
+does (Label realm labels) acting = None
 does (Open realm plans) acting = Some (happens (event.Open (boxes_of plans)) acting)
 does (Dial realm address plans purpose) acting = if is_address address && is_purpose purpose then Some (happens (event.Dial address purpose (boxes_of plans)) acting) else None
 does (Feed realm connection octets) acting = on_connection (feeds octets) connection acting
@@ -46,6 +47,7 @@ does Restart acting = None
 -- what it prints of a realm that is not declared
 abbrev pub elsewhere : Move → Option (List ℕ)
 elsewhere (Declare name address branches limits) = None
+elsewhere (Label realm labels) = None
 elsewhere (Open realm plans) = Some (nowhere_text realm)
 elsewhere (Dial realm address plans purpose) = Some (nowhere_text realm)
 elsewhere (Feed realm connection octets) = None

@@ -1,15 +1,16 @@
 //! The realms of a script, before they start.
-ghost use Rattle.std.specs.Prelude.{◌≡◌, ◌≤◌, ◌++◌, ◌&&◌, ℕ, true, false, List, [], map, IfOk, OnOk, IsErrOf, string_bytes};
-ghost use Rattle.std.specs.List.{list_all};
+ghost use Rattle.std.specs.Prelude.{◌≡◌, ◌≤◌, ◌++◌, ◌&&◌, ℕ, true, false, List, [], None, Some, map, IfOk, OnOk, IsErrOf, string_bytes};
+ghost use Rattle.std.specs.List.{list_all, position_or_len};
 ghost use Rattle.tip_branch.specs.Always.{Always};
+ghost use Rattle.tip_line.specs.Fields.{fields_of};
 ghost use Rattle.tip_line.specs.Words.{is_address, is_realm};
-ghost use Rattle.tip_scene.specs.Acts.{declaration_of, declared, is_count, is_other, scene_of, starts_text};
+ghost use Rattle.tip_scene.specs.Acts.{declaration_of, declared, is_count, is_declared, is_other, labelled, scene_of, starts_text, with_labels};
 ghost use Rattle.tip_scene.specs.Rising.{AreNew};
 ghost use Rattle.tip_scene.specs.Stages.{Declares, IsDeclared, spec_of};
 ghost use Rattle.tip_scene.specs.Standing.{IsScene};
 ghost use Rattle.tip_scene.specs.declared.fault.LineFault.TheVariants.{NotUnderstood};
 
-use crate::branches::first_branches;
+use crate::branches::{first_branches, labelled_branches};
 use crate::fault::LineFault;
 use crate::playing::Playing;
 use crate::rising::begin;
@@ -32,6 +33,8 @@ pub struct Declaration {
     address: Address,
     limits: Limits,
     branches: Branches,
+    /// Its branches have labels that the script names.
+    is_labelled: bool,
 }
 
 /// The realms declared so far.
@@ -77,6 +80,24 @@ impl Declared<Core> {
         Ok(self)
     }
 
+    /// The branches of a realm's transactions have these labels, by number; spaces stand between them.
+    pub fn label(
+        mut self,
+        alloc: Global,
+        name: &str,
+        labels: &[u8],
+    ) -> Result<Declared, LineFault>
+        requires { Always }
+        ensures { (declarations : List Declaration) → IsDeclared self declarations → Declares (labelled name.now (fields_of 32 labels.now) declarations) result }
+    {
+        let place = place_of(name, &self.declarations);
+        let Some(declaration) = self.declarations.get_mut(place) else {
+            return Err(LineFault::NotUnderstood);
+        };
+        declaration.label(alloc, labels)?;
+        Ok(self)
+    }
+
     /// The realms start, and say in which epoch.
     pub fn start(self, alloc: Global, printed: &mut String) -> Result<Playing, AllocError>
         requires { Always }
@@ -94,6 +115,23 @@ impl Declared<Core> {
 }
 
 impl Declaration {
+    /// Its branches have these labels, by number, where none were named before.
+    fn label(&mut self, alloc: Global, labels: &[u8]) -> Result<(), LineFault>
+        ensures ok { OnOk result (with_labels (fields_of 32 labels.now) self.old ≡ Some self.new) }
+        ensures bad { IsErrOf result NotUnderstood → with_labels (fields_of 32 labels.now) self.old ≡ None }
+    {
+        if self.is_labelled {
+            return Err(LineFault::NotUnderstood);
+        }
+        let branches = labelled_branches(alloc, labels)?;
+        if branches.as_slice().len() != self.branches.as_slice().len() {
+            return Err(LineFault::NotUnderstood);
+        }
+        self.branches = branches;
+        self.is_labelled = true;
+        Ok(())
+    }
+
     /// The realm as it is to be hosted. It takes no memory.
     fn into_spec(self) -> Result<RealmSpec, AllocError>
         ensures { IfOk result (λ spec. spec ≡ spec_of self) }
@@ -103,6 +141,7 @@ impl Declaration {
             address,
             limits,
             branches,
+            ..
         } = self;
         match RealmSpec::new(name, address, limits, branches) {
             Ok(spec) => Ok(spec),
@@ -118,6 +157,18 @@ fn is_new(name: &str, declarations: &[Declaration]) -> bool
     declarations
         .iter()
         .all(|declaration| declaration.name.as_str() != name)
+}
+
+/// The place of a realm; one behind all realms where it is not declared.
+fn place_of(name: &str, declarations: &[Declaration]) -> usize
+    ensures { result ≡ position_or_len (is_declared name.now) declarations.now }
+{
+    for (place, declaration) in declarations.iter().enumerate() {
+        if declaration.name.as_str() == name {
+            return place;
+        }
+    }
+    declarations.len()
 }
 
 /// Whether a transaction may have so many branches.
@@ -144,6 +195,7 @@ fn declaration_of(
         address: Address::new(alloc, address)?,
         limits,
         branches: first_branches(alloc, branches as u8)?,
+        is_labelled: false,
     })
 }
 

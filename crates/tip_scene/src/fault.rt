@@ -2,8 +2,8 @@
 ghost use Rattle.std.specs.Prelude.{◌≡◌};
 
 use std::alloc::{AllocError, AllocFailed};
-use tip_core::StartFault;
 use tip_line::WordFault;
+use tip_rows::LabelFault;
 
 /// Why a line of a script is not done.
 #[derive(Clone, Copy, Debug, PartialEq, Eq)]
@@ -46,15 +46,15 @@ impl From<WordFault> for LineFault {
     }
 }
 
-impl From<StartFault> for LineFault {
-    ghost use Rattle.tip_scene.specs.Faults.{start_fault_of};
+impl From<LabelFault> for LineFault {
+    ghost use Rattle.tip_scene.specs.Faults.{of_label_fault};
 
-    ghost from_gives = { λ fault result. result ≡ start_fault_of fault };
+    ghost from_gives = { λ fault result. result ≡ of_label_fault fault };
 
-    fn from(fault: StartFault) -> LineFault {
+    fn from(fault: LabelFault) -> LineFault {
         match fault {
-            StartFault::SameName | StartFault::NoEpoch => LineFault::NotUnderstood,
-            StartFault::Memory => LineFault::Memory,
+            LabelFault::BadLabel => LineFault::NotUnderstood,
+            LabelFault::Memory => LineFault::Memory,
         }
     }
 }

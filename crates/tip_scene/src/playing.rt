@@ -132,7 +132,7 @@ fn obey(
         IfOk result (λ told. Tells host.old host.new place actor.old actor.new (string_bytes printed.old) (string_bytes printed.new) told (does (move_by instruction.entry) acting)) }
 {
     match instruction {
-        Instruction::Realm { .. } | Instruction::Restart => Ok(false),
+        Instruction::Realm { .. } | Instruction::Labels { .. } | Instruction::Restart => Ok(false),
         Instruction::Open { .. } => {
             actor.happen(alloc, host, place, Event::Open { boxes }, printed)?;
             Ok(true)
@@ -169,6 +169,7 @@ fn print_elsewhere(printed: &mut String, instruction: Instruction<'_>) -> Result
 {
     match instruction {
         Instruction::Realm { .. }
+        | Instruction::Labels { .. }
         | Instruction::Feed { .. }
         | Instruction::Lost { .. }
         | Instruction::Push(_)

@@ -107,7 +107,7 @@ impl Stage<Declared, Playing> {
     }
 }
 
-/// Does what an instruction says before the realms have started: each but a declaration starts them.
+/// Does what an instruction says before the realms have started: each but a declaration, and labels, starts them.
 fn declare(
     declared: Declared,
     alloc: Global,
@@ -127,6 +127,9 @@ fn declare(
     {
         let declared = declared.add(alloc, name, address, branches, limits)?;
         return Ok(Stage::Declaring(declared));
+    }
+    if let Instruction::Labels { realm, labels } = instruction {
+        return Ok(Stage::Declaring(declared.label(alloc, realm, labels)?));
     }
     let playing = declared.start(alloc, printed)?;
     let playing = playing.act(alloc, instruction, boxes, printed)?;

@@ -1,8 +1,9 @@
 -- What an instruction says.
 use Rattle.std.specs.Prelude.{ℕ, List, [], ◌∷◌, ◌++◌}
+use Rattle.tip_line.specs.Fields.{fields_of}
 use Rattle.tip_machine.specs.declared.connection.Purpose.{Purpose}
 use Rattle.tip_machine.specs.declared.connection.Purpose.TheVariants as purpose
-use Rattle.tip_script.specs.Scripts.{Move, Declare, Open, Dial, Feed, Lose, Push, Pull, Go, Drop, Resume, Refuse, Restart, Asking, octets_in, plans_of}
+use Rattle.tip_script.specs.Scripts.{Move, Declare, Label, Open, Dial, Feed, Lose, Push, Pull, Go, Drop, Resume, Refuse, Restart, Asking, octets_in, plans_of}
 use Rattle.tip_script.specs.declared.asking.Aim.{Aim}
 use Rattle.tip_script.specs.declared.asking.Aim.TheVariants as aim
 use Rattle.tip_script.specs.declared.asking.Asked.{Asked}
@@ -29,6 +30,7 @@ asking_of asked = record { realm = asked.realm.now; connection = asked.connectio
 -- the move that an instruction is
 abbrev pub move_by : Instruction → Move
 move_by (instruction.Realm name address branches limits) = Declare name.now address.now branches limits
+move_by (instruction.Labels realm labels) = Label realm.now (fields_of 32 labels.now)
 move_by (instruction.Open realm kinds) = Open realm.now (plans_of kinds.now)
 move_by (instruction.Dial realm address kinds aim) = Dial realm.now address.now (plans_of kinds.now) (purpose_of aim)
 move_by (instruction.Feed realm connection octets) = Feed realm.now connection (octets_of octets)

@@ -17,6 +17,8 @@ use Rattle.tip_machine.specs.declared.head.Limits.{Limits}
 pub data Move : Type 0 where
   -- a realm is declared
   Declare : (name : List ℕ) → (address : List ℕ) → (branches : ℕ) → (limits : Limits) → Move
+  -- the branches of a realm's transactions have these labels, by number
+  Label : (realm : List ℕ) → (labels : List (List ℕ)) → Move
   -- another manager opens a connection of a realm, and boxes of these plans come with it
   Open : (realm : List ℕ) → (plans : List Plan) → Move
   -- we open a connection of a realm for a purpose, and boxes of these plans come with it
@@ -43,6 +45,7 @@ pub data Move : Type 0 where
 -- the realm that it is of; a restart is of all
 abbrev pub realm_of : Move → Option (List ℕ)
 realm_of (Declare name address branches limits) = Some name
+realm_of (Label realm labels) = Some realm
 realm_of (Open realm plans) = Some realm
 realm_of (Dial realm address plans purpose) = Some realm
 realm_of (Feed realm connection octets) = Some realm
@@ -139,6 +142,13 @@ declaration (name ∷ address ∷ numbers) = do
   Some (Declare realm address sizes.0 sizes.1)
 declaration fields = None
 
+-- labels REALM LABEL LABEL ..
+unfoldable pub labelling : List (List ℕ) → Option Move
+labelling (realm ∷ label ∷ labels) = do
+  name ← realm_in realm
+  Some (Label name (label ∷ labels))
+labelling fields = None
+
 -- open REALM BOXES
 unfoldable pub opening : List (List ℕ) → Option Move
 opening (realm ∷ boxes) = do
@@ -226,7 +236,7 @@ unfoldable pub restarting : List (List ℕ) → Option Move
 restarting [] = Some Restart
 restarting fields = None
 
--- go REALM, drop REALM, refuse REALM, resume REALM ID, and restart; else what we ask of other managers
+-- go REALM, drop REALM, refuse REALM, resume REALM ID, restart, and labels REALM LABELS; else what we ask of other managers
 unfoldable pub order_in : List ℕ → List (List ℕ) → Option Move
 order_in word fields =
     if bytes_eq word (codes "go") then realm_alone fields >>= (λ realm. Some (Go realm))
@@ -234,6 +244,7 @@ order_in word fields =
     else if bytes_eq word (codes "refuse") then realm_alone fields >>= (λ realm. Some (Refuse realm))
     else if bytes_eq word (codes "resume") then resumption fields
     else if bytes_eq word (codes "restart") then restarting fields
+    else if bytes_eq word (codes "labels") then labelling fields
     else request_in word fields
 
 -- what a line says; None where it is not understood

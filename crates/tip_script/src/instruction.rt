@@ -2,7 +2,7 @@
 ghost use Rattle.std.specs.Prelude.{◌≡◌, option_map};
 ghost use Rattle.std.specs.List.{list_all};
 ghost use Rattle.tip_script.specs.Moves.{move_by};
-ghost use Rattle.tip_script.specs.Scripts.{is_digit, is_hex, sizes_in, declaration, opening, text_line, hex_octets, loss, move_of, order_in, plans_of, plans_with, realm_alone, realm_of, restarting, resumption};
+ghost use Rattle.tip_script.specs.Scripts.{is_digit, is_hex, sizes_in, declaration, opening, text_line, hex_octets, labelling, loss, move_of, order_in, plans_of, plans_with, realm_alone, realm_of, restarting, resumption};
 
 use crate::asking::{Aim, Asked, request};
 use crate::fields::{number_in, realm_in};
@@ -29,6 +29,12 @@ pub enum Instruction<'a> {
         /// How many local branches each transaction has.
         branches: u32,
         limits: Limits,
+    },
+    /// `labels REALM LABEL LABEL ..`: the branches of the realm's transactions have these labels, by number.
+    Labels {
+        realm: &'a str,
+        /// With the spaces between them.
+        labels: &'a [u8],
     },
     /// `open REALM BOXES`: another manager opens a connection, and boxes come with it, a letter for each; `-` stands for none.
     Open {
@@ -101,6 +107,7 @@ impl<'a> Instruction<'a> {
     {
         match self {
             Instruction::Realm { name: realm, .. }
+            | Instruction::Labels { realm, .. }
             | Instruction::Open { realm, .. }
             | Instruction::Dial { realm, .. }
             | Instruction::Feed { realm, .. }
@@ -122,6 +129,7 @@ impl<'a> Instruction<'a> {
         match self {
             Instruction::Open { kinds, .. } | Instruction::Dial { kinds, .. } => kinds,
             Instruction::Realm { .. }
+            | Instruction::Labels { .. }
             | Instruction::Feed { .. }
             | Instruction::Lost { .. }
             | Instruction::Push(_)
@@ -247,6 +255,8 @@ fn order<'a>(word: &[u8], fields: Fields<'a, b' '>) -> Option<Instruction<'a>>
         resumption(fields)
     } else if word == b"restart".as_slice() {
         restarting(fields)
+    } else if word == b"labels".as_slice() {
+        labelling(fields)
     } else {
         request(word, fields)
     }
@@ -287,6 +297,18 @@ fn restarting(mut fields: Fields<'_, b' '>) -> Option<Instruction<'_>>
         Some(_) => None,
         None => Some(Instruction::Restart),
     }
+}
+
+#[tactic(auto, unfolding(crate::specs::Scripts::labelling))]
+fn labelling(mut fields: Fields<'_, b' '>) -> Option<Instruction<'_>>
+    ensures { option_map move_by result ≡ labelling fields.entry }
+{
+    let realm = fields.next()?;
+    let labels = fields.rest()?;
+    Some(Instruction::Labels {
+        realm: realm_in(realm)?,
+        labels,
+    })
 }
 
 /// Whether these are one or more pairs of digits from `0` to `9` and `a` to `f`.
