@@ -59,6 +59,7 @@ use Rattle.tip_machine.specs.declared.event.Heard.{Heard}
 use Rattle.tip_machine.specs.declared.event.Heard.TheVariants.{Command, Malformed, Response}
 use Rattle.tip_machine.specs.declared.connection.Awaited.{Awaited}
 use Rattle.tip_machine.specs.declared.connection.Awaited.TheVariants as awaited
+use Rattle.tip_machine.specs.declared.connection.Purpose.TheVariants as purposes
 use Rattle.tip_machine.specs.declared.connection.Role.{Role}
 use Rattle.tip_machine.specs.declared.connection.Role.TheVariants.{Subordinate, Superior}
 use Rattle.tip_machine.specs.declared.transaction.Origin.{Origin}
@@ -66,8 +67,8 @@ use Rattle.tip_machine.specs.declared.transaction.Origin.TheVariants as origin
 use Rattle.tip_machine.specs.declared.transaction.PartyPlace.TheVariants.{Here, Out, Spent}
 use Rattle.tip_core.proofs.Outcomes.{acknowledged_all}
 use Rattle.tip_core.proofs.Proceeding.{dispatch_some}
-use Rattle.tip_core.proofs.Responses.{hears_nothing, hears_part, hears_pull, hears_query, noting_nobody, noting_part_of}
-use Rattle.tip_core.specs.Noting.{awaits_of, exists_of, note_of, noted, noting_as, part_of, pulled_of, pulling, querying, responding}
+use Rattle.tip_core.proofs.Responses.{hears_identified, hears_nothing, hears_part, hears_pull, hears_query, noting_nobody, noting_part_of}
+use Rattle.tip_core.specs.Noting.{awaits_of, exists_of, identifying, note_of, noted, noting_as, part_of, pulled_of, pulling, querying, responding, version_of}
 use Rattle.tip_core.specs.declared.noting.Awaits.{Awaits}
 use Rattle.tip_core.specs.declared.noting.Awaits.TheVariants as awaits
 use Rattle.tip_core.specs.Wanting.{abort_for, abort_wanted, agreed_change, answer_wanted, asked, away, command_wanted, commit_for, commit_wanted, concluded, finished, foreseen, forgotten, hears_responses, is_admitted, is_over, line_wanted, of_superior, outlook, owed_then, pair_at, pairs_of, prepare_for, prepare_wanted, presume_wanted, promised_of, query_wanted, response_wanted, resume_wanted, resumed_at, said_wanted, settled_wanted, vote_wanted, wanted_noting, wanted_of_part, wished, wished_in}
@@ -345,6 +346,10 @@ module _ (w : Work) (c : Connection) (there : connection_of c.number w.state ≡
   pulling_wants (Some true) said = refl
   pulling_wants (Some false) said = refl
 
+  identifying_wants : (version : Option ℕ) (said : AResponse) → wanted (identifying version purposes.Plain said c w) ≡ None
+  identifying_wants None said = refl
+  identifying_wants (Some version) said = refl
+
   querying_wants : (exists : Option Bool) (key : Key) (said : AResponse) → wanted (querying exists key said c w) ≡ query_wanted exists key c w.state
   querying_wants None key said = refl
   querying_wants (Some true) key said = refl
@@ -366,7 +371,9 @@ module _ (w : Work) (c : Connection) (there : connection_of c.number w.state ≡
 
     step : (a : Option Awaited) → c.awaited ≡ a → wanted (hear today Primary (Response said) c w) ≡ said_wanted (awaits_of c.awaited) said c w.state
     step None is = unheard None is refl refl
-    step (Some (awaited.Identify purpose)) is = unheard (Some (awaited.Identify purpose)) is refl refl
+    step (Some (awaited.Identify purposes.Plain)) is = ap wanted (hears_identified said c w (ap awaits_of is)) ∙ identifying_wants (version_of said) said ∙ ap (λ b. said_wanted (awaits_of b) said c w.state) (sym is)
+    step (Some (awaited.Identify (purposes.Query id))) is = unheard (Some (awaited.Identify (purposes.Query id))) is refl refl
+    step (Some (awaited.Identify (purposes.Reconnect id place))) is = unheard (Some (awaited.Identify (purposes.Reconnect id place))) is refl refl
     step (Some awaited.Push) is = of_part (Some awaited.Push) is command.Push refl
     step (Some awaited.Pull) is = ap wanted (hears_pull said c w (ap awaits_of is)) ∙ pulling_wants (pulled_of said) said ∙ ap (λ b. said_wanted (awaits_of b) said c w.state) (sym is)
     step (Some awaited.Prepare) is = of_part (Some awaited.Prepare) is command.Prepare refl
@@ -517,6 +524,7 @@ module _ (state : State) where
   said_before awaits.Nothing said c = refl
   said_before (awaits.OfPart name) said c = answer_before (note_of c.awaited said) c
   said_before awaits.Identified said c = refl
+  said_before awaits.Aimed said c = refl
   said_before awaits.Pulled said c = refl
   said_before (awaits.Queried key) said c = query_before (exists_of said) key c
 

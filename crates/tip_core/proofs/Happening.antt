@@ -3,28 +3,26 @@ use Rattle.std.proofs.Common.{◌≡◌, ◌≢◌, ◌<◌, ◌≤◌, ◌+◌,
 use Rattle.std.specs.Prelude.{find, is_some}
 use Rattle.std.specs.Option.{option_and_then, option_map_or}
 use Rattle.std.proofs.lemmas.Bool.Decides.{nat_tests}
-use Rattle.tip_branch.specs.declared.branch.Badge.{Badge}
 use Rattle.tip_conn.specs.declared.state.Side.{Side}
 use Rattle.tip_conn.specs.declared.state.Side.TheVariants.{Primary}
 use Rattle.tip_line.specs.declared.command.Command.{Command as ACommand}
 use Rattle.tip_line.specs.declared.command.Command.TheVariants as commands
 use Rattle.tip_line.specs.declared.command.CommandName.TheVariants as name
 use Rattle.tip_line.specs.Command.{name_of}
-use Rattle.tip_line.specs.declared.refusal.Refusal.TheVariants.{Busy, Full, Stale}
-use Rattle.tip_table.specs.Kept.{StandsAt, of}
+use Rattle.tip_line.specs.declared.refusal.Refusal.TheVariants.{Busy, Stale}
+use Rattle.tip_table.specs.Kept.{of}
 use Rattle.tip_machine.specs.Answers.{silence}
 use Rattle.tip_machine.specs.Changes.{refuse}
-use Rattle.tip_machine.specs.Connections.{has_number, may_take}
+use Rattle.tip_machine.specs.Connections.{may_take}
 use Rattle.tip_machine.specs.Counts.{HasCounts}
 use Rattle.tip_machine.specs.Failing.{closed, wrong}
 use Rattle.tip_machine.specs.Given.{are_numbered}
-use Rattle.tip_machine.specs.Requests.{ask_pull, ask_push, dial, hand_back, hear, line}
+use Rattle.tip_machine.specs.Requests.{hear, line}
 use Rattle.tip_machine.specs.Served.{today}
 use Rattle.tip_machine.specs.States.{Attempt, State, connection_of, has_room, seated}
 use Rattle.tip_machine.specs.Steps.{attempt, chosen, entered, frozen, is_open}
 use Rattle.tip_machine.specs.Transactions.{next_key}
 use Rattle.tip_machine.specs.Types.{Connection, Event}
-use Rattle.tip_machine.specs.declared.connection.Purpose.{Purpose}
 use Rattle.tip_machine.specs.declared.connection.Role.{Role}
 use Rattle.tip_machine.specs.declared.connection.Role.TheVariants.{Subordinate, Superior}
 use Rattle.tip_machine.specs.declared.event.Event.TheVariants.{AskPull, AskPush, Dial, Line, Lost, Open, Resume, Settled, Voted}
@@ -33,39 +31,11 @@ use Rattle.tip_machine.specs.declared.event.Heard.TheVariants.{Command}
 use Rattle.tip_machine.specs.declared.event.Outcome.{Outcome}
 use Rattle.tip_machine.specs.declared.event.Seat.{Seat}
 use Rattle.tip_machine.proofs.Counting.{entered_below}
-use Rattle.tip_core.proofs.Openings.{first_found}
 use Rattle.tip_core.proofs.Works.{then}
 use Rattle.tip_core.specs.Growing.{CanGrow}
-use Rattle.tip_core.specs.Needs.{HasNeeds, IsReady, begins, begins_on, happened, joined, lines_needed, peer_needed, room_on, transactions_for}
+use Rattle.tip_core.specs.Needs.{HasNeeds, IsReady, begins, begins_on, happened, joined, lines_needed, peer_needed, room_on, transactions_for, ours_needed, word_needed}
 use Rattle.tip_core.specs.Rooms.{room_for}
 use Rattle.tip_core.specs.Works.{CanMake, Does, Held, is_named, MayMake, lines_as, lines_at, lines_queried, work_of}
-
--- where no connection is dialled, there is none to ask on
-module _ (a b : Held) (seat : Seat) where
-  pub push_stale : seated seat (work_of a).state ≡ None → Does a b (refuse Stale (work_of a)) → (id : List ℕ) → Does a b (ask_push false (seated seat (work_of a).state) id (work_of a))
-  unfolding ask_push
-  push_stale none does id = subst (λ o. Does a b (ask_push false o id (work_of a))) (sym none) does
-
-  pub pull_stale : seated seat (work_of a).state ≡ None → Does a b (refuse Stale (work_of a)) → (superior : List ℕ) → Does a b (ask_pull false (seated seat (work_of a).state) superior (work_of a))
-  unfolding ask_pull
-  pull_stale none does superior = subst (λ o. Does a b (ask_pull false o superior (work_of a))) (sym none) does
-
-  module _ (place : ℕ) (here : StandsAt a.connections a.realm (has_number seat.number) place) (same : seated seat (work_of a).state ≡ connection_of seat.number (work_of a).state) where
-    pub push_busy : Does a b (refuse Busy (work_of a)) → (id : List ℕ) → Does a b (ask_push false (seated seat (work_of a).state) id (work_of a))
-    unfolding ask_push
-    push_busy does id = step (connection_of seat.number (work_of a).state) refl where
-      step : (found : Option Connection) → connection_of seat.number (work_of a).state ≡ found → Does a b (ask_push false (seated seat (work_of a).state) id (work_of a))
-      step None none = absurd (first_found (has_number seat.number) (of a.connections a.realm) here.at here.first none)
-      step (Some c) is = subst (λ o. Does a b (ask_push false o id (work_of a))) (sym (same ∙ is)) does
-
-    pub pull_busy : Does a b (refuse Busy (work_of a)) → (superior : List ℕ) → Does a b (ask_pull false (seated seat (work_of a).state) superior (work_of a))
-    unfolding ask_pull
-    pull_busy does superior = step (connection_of seat.number (work_of a).state) refl where
-      step : (found : Option Connection) → connection_of seat.number (work_of a).state ≡ found → Does a b (ask_pull false (seated seat (work_of a).state) superior (work_of a))
-      step None none = absurd (first_found (has_number seat.number) (of a.connections a.realm) here.at here.first none)
-      step (Some c) is = subst (λ o. Does a b (ask_pull false o superior (work_of a))) (sym (same ∙ is)) does
-
-pub ruleset asking_on = (push_stale, pull_stale, push_busy, pull_busy)
 
 -- As its primary we hear ERROR alone
 
@@ -122,10 +92,6 @@ pub ruleset lining = (line_stale, line_busy, line_heard)
 
 -- Events
 
-pub dialled_never : (a b : Held) (address : List ℕ) (purpose : Purpose) (boxes : List Badge) → Does a b (hand_back boxes (refuse Full (work_of a))) → Does a b (dial false address purpose boxes (work_of a))
-unfolding dial
-dialled_never a b address purpose boxes does = does
-
 pub part_line : (held : Held) (seat : Seat) (heard : Heard) → IsReady (Line seat heard) held → (id : List ℕ) → joined heard ≡ Some id → CanGrow (work_of held).state.head.name id (of held.transactions held.realm)
 part_line held seat heard ready id is = ready.part id is
 
@@ -138,7 +104,13 @@ lines_line held seat heard ready = let enough = ready.lines in omega (arith, eno
 pub queried_line : (held : Held) (seat : Seat) (heard : Heard) → IsReady (Line seat heard) held → lines_queried seat.number (work_of held).state ≤ held.making.free
 queried_line held seat heard ready = let enough = ready.lines in omega (arith, enough)
 
-pub ruleset happening = (dialled_never, able_line, lines_line, queried_line)
+pub able_pull : (held : Held) (seat : Seat) (superior : List ℕ) → IsReady (AskPull seat superior) held → MayMake seat.number held
+able_pull held seat superior ready = ready.able seat.number refl
+
+pub part_push : (held : Held) (seat : Seat) (id : List ℕ) → IsReady (AskPush seat id) held → CanGrow (work_of held).state.head.name id (of held.transactions held.realm)
+part_push held seat id ready = ready.part id refl
+
+pub ruleset happening = (able_line, able_pull, part_push, lines_line, queried_line)
 
 -- The entry of an event changes nothing that it needs
 
@@ -175,6 +147,28 @@ peer_before (AskPush seat id) state = refl
 peer_before (AskPull seat superior) state = refl
 peer_before (Resume id) state = refl
 
+ours_before : (event : Event) (state : State) → ours_needed event (entered state).state ≡ ours_needed event state
+ours_before (Open boxes) state = refl
+ours_before (Dial address purpose boxes) state = refl
+ours_before (Line seat heard) state = refl
+ours_before (Voted party) state = refl
+ours_before (Settled party) state = refl
+ours_before (Lost seat) state = refl
+ours_before (AskPush seat id) state = refl
+ours_before (AskPull seat superior) state = refl
+ours_before (Resume id) state = refl
+
+word_before : (event : Event) (state : State) → word_needed event (entered state).state ≡ word_needed event state
+word_before (Open boxes) state = refl
+word_before (Dial address purpose boxes) state = refl
+word_before (Line seat heard) state = refl
+word_before (Voted party) state = refl
+word_before (Settled party) state = refl
+word_before (Lost seat) state = refl
+word_before (AskPush seat id) state = refl
+word_before (AskPull seat superior) state = refl
+word_before (Resume id) state = refl
+
 module _ (a b : Held) (event : Event) (here : a.realm < length a.heads.items) (counts : HasCounts (work_of a).state) (silent : a.making.answer ≡ silence) (needs : HasNeeds event a) (open_is : is_open (work_of a).state ≡ true)
     (does : Does a b (entered (work_of a).state)) (rest : b ≡ record a { heads = b.heads; making = record a.making { answer = b.making.answer } }) where
   state_is : (work_of b).state ≡ (entered (work_of a).state).state
@@ -210,6 +204,8 @@ module _ (a b : Held) (event : Event) (here : a.realm < length a.heads.items) (c
     able = λ number begins_there c there room. able_at number begins_there c (sym (ap (connection_of number) state_is) ∙ there) (sym (ap (has_room c) state_is) ∙ room);
     part = λ id joins item found. needs.part id joins item (sym (ap (λ (h : Held). find (is_named (work_of a).state.head.name id) (of h.transactions h.realm)) rest) ∙ ap (λ (s : State). find (is_named s.head.name id) (of b.transactions b.realm)) (sym state_is) ∙ found);
     peer = ap (λ (h : Held). h.making.peer) rest ∙ needs.peer ∙ sym (peer_before event (work_of a).state) ∙ sym (ap (peer_needed event) state_is);
+    ours = ap (λ (h : Held). h.making.ours) rest ∙ needs.ours ∙ sym (ours_before event (work_of a).state) ∙ sym (ap (ours_needed event) state_is);
+    word = ap (λ (h : Held). h.making.word) rest ∙ needs.word ∙ sym (word_before event (work_of a).state) ∙ sym (ap (word_needed event) state_is);
     idle = record { work = ap (λ w. w.answer.work) does.own; spent = ap (λ w. w.answer.spent) does.own };
   }
 

@@ -30,11 +30,11 @@ use Rattle.tip_core.specs.Works.{Does, Held, HeldTransaction, is_keyed, peer_of,
 
 -- What a transaction answers that a part would join
 
-module _ (t : Transaction) (address subordinate : List ℕ) where
-  may_so : (active there : Bool) → is_active t.phase ≡ active → is_enlisted t.parts address (Some subordinate) ≡ there → may_join t address subordinate ≡ active && not there
-  may_so active there is at = ap (λ b. b && not (is_enlisted t.parts address (Some subordinate))) is ∙ ap (λ b. active && not b) at
+module _ (t : Transaction) (address : List ℕ) (subordinate : Option (List ℕ)) where
+  may_so : (active there : Bool) → is_active t.phase ≡ active → is_enlisted t.parts address subordinate ≡ there → may_join t address subordinate ≡ active && not there
+  may_so active there is at = ap (λ b. b && not (is_enlisted t.parts address subordinate)) is ∙ ap (λ b. active && not b) at
 
-  pub may_there : t.phase ≡ phase.Active → is_enlisted t.parts address (Some subordinate) ≡ false → may_join t address subordinate ≡ true
+  pub may_there : t.phase ≡ phase.Active → is_enlisted t.parts address subordinate ≡ false → may_join t address subordinate ≡ true
   may_there is at = may_so true false (ap is_active is) at
 
   not_active : (now : Phase) → now ≢ phase.Active → is_active now ≡ false
@@ -44,13 +44,13 @@ module _ (t : Transaction) (address subordinate : List ℕ) where
   not_active phase.Committed differ = refl
   not_active phase.Aborted differ = refl
 
-  pub may_never : (why : EnlistFault) (result : Result ℕ EnlistFault) → result ≡ Err why → ((result ≡ Err fault.NotActive) ↔ (t.phase ≢ phase.Active)) → ((result ≡ Err fault.Twice) ↔ ((t.phase ≡ phase.Active) × IsTrue (is_enlisted t.parts address (Some subordinate)))) → may_join t address subordinate ≡ false
-  may_never fault.NotActive result is late twice = ap (λ b. b && not (is_enlisted t.parts address (Some subordinate))) (not_active t.phase (late.0 is))
+  pub may_never : (why : EnlistFault) (result : Result ℕ EnlistFault) → result ≡ Err why → ((result ≡ Err fault.NotActive) ↔ (t.phase ≢ phase.Active)) → ((result ≡ Err fault.Twice) ↔ ((t.phase ≡ phase.Active) × IsTrue (is_enlisted t.parts address subordinate))) → may_join t address subordinate ≡ false
+  may_never fault.NotActive result is late twice = ap (λ b. b && not (is_enlisted t.parts address subordinate)) (not_active t.phase (late.0 is))
   may_never fault.Twice result is late twice = let both = twice.0 is in may_so true true (ap is_active both.0) both.1
 
 -- The part joins
 
-module _ (old : Held) (subordinate : List ℕ) (found : Option Transaction) where
+module _ (old : Held) (subordinate : Option (List ℕ)) (found : Option Transaction) where
   pub joins_nobody : None ≡ joined_as found None subordinate
   joins_nobody = step found where
     step : (o : Option Transaction) → None ≡ joined_as o None subordinate
@@ -63,7 +63,7 @@ module _ (old : Held) (subordinate : List ℕ) (found : Option Transaction) wher
     step None = nothing old
     step (Some t) = nothing old
 
-module _ (old : Held) (subordinate : List ℕ) (found : Option Transaction) (peer : Option (List ℕ)) (none : found ≡ None) where
+module _ (old : Held) (subordinate : Option (List ℕ)) (found : Option Transaction) (peer : Option (List ℕ)) (none : found ≡ None) where
   pub joins_nowhere : None ≡ joined_as found peer subordinate
   joins_nowhere = sym (ap (λ o. joined_as o peer subordinate) none)
 
@@ -77,13 +77,13 @@ changed_same test (x ∷ xs) = step (test x) (changed_same test xs) where
   step true rest = refl
   step false rest = ap (λ ys. x ∷ ys) rest
 
-module _ (old : Held) (key : Key) (place : ℕ) (item : HeldTransaction) (here : StandsAt old.transactions old.realm (is_keyed key) place) (is : item_at old.transactions place ≡ Some item) (address subordinate : List ℕ)
+module _ (old : Held) (key : Key) (place : ℕ) (item : HeldTransaction) (here : StandsAt old.transactions old.realm (is_keyed key) place) (is : item_at old.transactions place ≡ Some item) (address : List ℕ) (subordinate : Option (List ℕ))
     (found : Option Transaction) (same : found ≡ transaction_of key (work_of old).state) where
   there : found ≡ Some (seen item)
   there = same ∙ standing_key old key place item here is
 
-  so : (may : Bool) → may_join (seen item) address subordinate ≡ may → joining_part found (Some address) subordinate (work_of old) ≡ cond may (alter item.key (enlisting (enlisted address (Some subordinate))) (work_of old)) (work_of old)
-  so may at = ap (λ o. joining_part o (Some address) subordinate (work_of old)) there ∙ ap (λ b. cond b (alter item.key (enlisting (enlisted address (Some subordinate))) (work_of old)) (work_of old)) at
+  so : (may : Bool) → may_join (seen item) address subordinate ≡ may → joining_part found (Some address) subordinate (work_of old) ≡ cond may (alter item.key (enlisting (enlisted address subordinate)) (work_of old)) (work_of old)
+  so may at = ap (λ o. joining_part o (Some address) subordinate (work_of old)) there ∙ ap (λ b. cond b (alter item.key (enlisting (enlisted address subordinate)) (work_of old)) (work_of old)) at
 
   as_so : (may : Bool) → may_join (seen item) address subordinate ≡ may → joined_as found (Some address) subordinate ≡ cond may (Some (Subordinate item.key (length item.txn.parts))) None
   as_so may at = ap (λ o. joined_as o (Some address) subordinate) there ∙ ap (λ b. cond b (Some (Subordinate item.key (length item.txn.parts))) None) at
@@ -94,11 +94,11 @@ module _ (old : Held) (key : Key) (place : ℕ) (item : HeldTransaction) (here :
   pub joins_as : (part : ℕ) → may_join (seen item) address subordinate ≡ true → part ≡ length item.txn.parts → Some (Subordinate key part) ≡ joined_as found (Some address) subordinate
   joins_as part may at = ap (λ k. Some (Subordinate k part)) keyed ∙ ap (λ p. Some (Subordinate item.key p)) at ∙ sym (as_so true may)
 
-  pub part_joins : (txn : ATxn) → may_join (seen item) address subordinate ≡ true → txn ≡ record item.txn { parts = item.txn.parts ++ enlisted address (Some subordinate) ∷ []; spare = item.txn.spare - 1 } →
+  pub part_joins : (txn : ATxn) → may_join (seen item) address subordinate ≡ true → txn ≡ record item.txn { parts = item.txn.parts ++ enlisted address subordinate ∷ []; spare = item.txn.spare - 1 } →
       Does old (record old { transactions = with_item_at old.transactions place (record item { txn = txn }) }) (joining_part found (Some address) subordinate (work_of old))
   part_joins txn may after = subst (Does old (record old { transactions = with_item_at old.transactions place (record item { txn = txn }) })) (sym (so true may))
-      (subst (λ k. Does old (record old { transactions = with_item_at old.transactions place (record item { txn = txn }) }) (alter k (enlisting (enlisted address (Some subordinate))) (work_of old))) keyed
-      (altered old key (enlisting (enlisted address (Some subordinate))) place item (record item { txn = txn }) here is (ap (λ (x : ATxn). seen (record item { txn = x })) after)))
+      (subst (λ k. Does old (record old { transactions = with_item_at old.transactions place (record item { txn = txn }) }) (alter k (enlisting (enlisted address subordinate)) (work_of old))) keyed
+      (altered old key (enlisting (enlisted address subordinate)) place item (record item { txn = txn }) here is (ap (λ (x : ATxn). seen (record item { txn = x })) after)))
 
   pub joins_not : may_join (seen item) address subordinate ≡ false → None ≡ joined_as found (Some address) subordinate
   joins_not may = sym (as_so false may)
@@ -112,7 +112,7 @@ module _ (old : Held) (key : Key) (place : ℕ) (item : HeldTransaction) (here :
 -- PULL
 
 module _ (a b c : Held) (number : ℕ) (connection : Connection) (there : connection_of number (work_of a).state ≡ Some connection) (superior subordinate : List ℕ) (peer : Option (List ℕ)) (own : peer ≡ peer_of number (work_of a).state)
-    (first : Does a b (joining_part (identified_by superior (work_of a).state) peer subordinate (work_of a))) where
+    (first : Does a b (joining_part (identified_by superior (work_of a).state) peer (Some subordinate) (work_of a))) where
   pulls_so : Does a c (pull_into (identified_by superior (work_of a).state) peer subordinate number (work_of a)) → Does a c (pull superior subordinate connection (work_of a))
   unfolding pull
   pulls_so does =
@@ -138,18 +138,18 @@ module _ (a b c : Held) (number : ℕ) (connection : Connection) (there : connec
     not_joined_then true is joins second = absurd (none-some _ is)
     not_joined_then false is joins second = then a b c (reply number command.Pull said.NotPulled) _ joins second
 
-  pub pulls : (role : Role) → Some role ≡ joined_as (identified_by superior (work_of a).state) peer subordinate → Does b c (change number (taking role) (reply number command.Pull said.Pulled (work_of b))) → Does a c (pull superior subordinate connection (work_of a))
+  pub pulls : (role : Role) → Some role ≡ joined_as (identified_by superior (work_of a).state) peer (Some subordinate) → Does b c (change number (taking role) (reply number command.Pull said.Pulled (work_of b))) → Does a c (pull superior subordinate connection (work_of a))
   pulls role is second = pulls_so (step (identified_by superior (work_of a).state) peer is first) where
-    step : (found : Option Transaction) (p : Option (List ℕ)) → Some role ≡ joined_as found p subordinate → Does a b (joining_part found p subordinate (work_of a)) → Does a c (pull_into found p subordinate number (work_of a))
+    step : (found : Option Transaction) (p : Option (List ℕ)) → Some role ≡ joined_as found p (Some subordinate) → Does a b (joining_part found p (Some subordinate) (work_of a)) → Does a c (pull_into found p subordinate number (work_of a))
     step None p is joins = absurd (none-some role (sym is))
     step (Some t) None is joins = absurd (none-some role (sym is))
-    step (Some t) (Some address) is joins = joined_then t address (may_join t address subordinate) role is joins second
+    step (Some t) (Some address) is joins = joined_then t address (may_join t address (Some subordinate)) role is joins second
 
-  pub pulls_not : None ≡ joined_as (identified_by superior (work_of a).state) peer subordinate → Does b c (reply number command.Pull said.NotPulled (work_of b)) → Does a c (pull superior subordinate connection (work_of a))
+  pub pulls_not : None ≡ joined_as (identified_by superior (work_of a).state) peer (Some subordinate) → Does b c (reply number command.Pull said.NotPulled (work_of b)) → Does a c (pull superior subordinate connection (work_of a))
   pulls_not is second = pulls_so (step (identified_by superior (work_of a).state) peer is first) where
-    step : (found : Option Transaction) (p : Option (List ℕ)) → None ≡ joined_as found p subordinate → Does a b (joining_part found p subordinate (work_of a)) → Does a c (pull_into found p subordinate number (work_of a))
+    step : (found : Option Transaction) (p : Option (List ℕ)) → None ≡ joined_as found p (Some subordinate) → Does a b (joining_part found p (Some subordinate) (work_of a)) → Does a c (pull_into found p subordinate number (work_of a))
     step None p is joins = then a b c (reply number command.Pull said.NotPulled) _ joins second
     step (Some t) None is joins = then a b c (reply number command.Pull said.NotPulled) _ joins second
-    step (Some t) (Some address) is joins = not_joined_then t address (may_join t address subordinate) is joins second
+    step (Some t) (Some address) is joins = not_joined_then t address (may_join t address (Some subordinate)) is joins second
 
 pub ruleset joining = (joins_nobody, nobody_joins, joins_nowhere, nowhere_joins)

@@ -13,6 +13,8 @@ pub mod Outlooks
 pub mod Subordinates
 pub mod Responses
 pub mod Asking
+pub mod Dials
+pub mod Requests
 pub mod Needing
 pub mod Happening
 pub mod Turning

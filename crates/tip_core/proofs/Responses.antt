@@ -1,6 +1,7 @@
 -- What responses come to, case by case.
-use Rattle.std.proofs.Common.{◌≡◌, ◌≤◌, ◌+◌, Bool, true, false, cond, ℕ, suc, zero, List, [], ◌∷◌, Option, Some, None, length, refl, ap, arith, sym, subst, ◌∙◌}
-use Rattle.std.specs.Prelude.{filter}
+use Rattle.std.proofs.Common.{◌≡◌, ◌≤◌, ◌<◌, ◌+◌, Bool, true, false, cond, ℕ, suc, zero, List, [], ◌∷◌, Option, Some, None, length, refl, ap, arith, sym, subst, ◌∙◌}
+use Rattle.std.specs.Prelude.{filter, nat_le}
+use Rattle.std.proofs.lemmas.Bool.Decides.{nat_tests}
 use Rattle.std.specs.Option.{IfSome, option_and_then, option_map_or}
 use Rattle.std.proofs.lemmas.Option.{none-some, same_Some}
 use Rattle.tip_conn.specs.Table.{next_of}
@@ -25,7 +26,7 @@ use Rattle.tip_machine.specs.Connections.{names as is_named_in}
 use Rattle.tip_machine.specs.Failing.{wrong}
 use Rattle.tip_machine.specs.Proceeding.{proceed}
 use Rattle.tip_machine.specs.Requests.{hear}
-use Rattle.tip_machine.specs.Responses.{abort_as, answered_by, go_on, responded}
+use Rattle.tip_machine.specs.Responses.{abort_as, answered_by, go_on, greeted, responded}
 use Rattle.tip_machine.specs.Served.{is_heard, today}
 use Rattle.tip_machine.specs.States.{Attempt, Work, connection_of}
 use Rattle.tip_machine.specs.Steps.{chosen}
@@ -33,13 +34,15 @@ use Rattle.tip_machine.specs.Transactions.{has_key, noting}
 use Rattle.tip_machine.specs.Types.{Connection, Transaction}
 use Rattle.tip_machine.specs.declared.connection.Awaited.{Awaited}
 use Rattle.tip_machine.specs.declared.connection.Awaited.TheVariants as awaited
+use Rattle.tip_machine.specs.declared.connection.Purpose.{Purpose}
+use Rattle.tip_machine.specs.declared.connection.Purpose.TheVariants as purposes
 use Rattle.tip_machine.specs.declared.connection.Role.{Role}
 use Rattle.tip_machine.specs.declared.connection.Role.TheVariants.{Subordinate, Superior}
 use Rattle.tip_machine.specs.declared.event.Heard.TheVariants.{Response}
 use Rattle.tip_machine.specs.declared.event.Outcome.{Outcome}
 use Rattle.tip_core.proofs.Losing.{same_room, still_idle}
 use Rattle.tip_core.proofs.Works.{may_idle, nothing, then, unaltered}
-use Rattle.tip_core.specs.Noting.{awaits_of, exists_of, note_of, noted, noting_as, part_of, pulled_of, pulling, querying, responding}
+use Rattle.tip_core.specs.Noting.{awaits_of, exists_of, identifying, note_of, noted, noting_as, part_of, pulled_of, pulling, querying, responding, version_of}
 use Rattle.tip_core.specs.declared.noting.Awaits.{Awaits}
 use Rattle.tip_core.specs.declared.noting.Awaits.TheVariants as awaits
 use Rattle.tip_core.specs.Works.{Does, Held, IsIdle, key_queried, lines_as, lines_at, lines_for, lines_queried, work_of}
@@ -52,6 +55,7 @@ abbrev command_in : Awaits → Option CommandName
 command_in awaits.Nothing = None
 command_in (awaits.OfPart name) = Some name
 command_in awaits.Identified = None
+command_in awaits.Aimed = None
 command_in awaits.Pulled = None
 command_in (awaits.Queried key) = None
 
@@ -81,7 +85,11 @@ responds_to awaited.Reconnect response.NotReconnected c w = refl
 responds_to awaited.Reconnect response.NeedTls c w = refl
 responds_to awaited.Reconnect response.Error c w = refl
 responds_to awaited.Reconnect said c w = refl
-responds_to other said c w = tt
+responds_to (awaited.Identify purposes.Plain) said c w = tt
+responds_to (awaited.Identify (purposes.Query id)) said c w = tt
+responds_to (awaited.Identify (purposes.Reconnect id place)) said c w = tt
+responds_to awaited.Pull said c w = tt
+responds_to (awaited.Query key) said c w = tt
 
 responds_if : (found : Option CommandName) (name : CommandName) (P : CommandName → Type 0) → found ≡ Some name → IfSome found P → P name
 responds_if None name P is all = absurd (none-some name is)
@@ -101,10 +109,17 @@ queries key response.NeedTls c w = refl
 queries key response.Error c w = refl
 queries key said c w = refl
 
+identifies : (purpose : Purpose) (said : AResponse) (c : Connection) (w : Work) → responded (awaited.Identify purpose) said c w ≡ identifying (version_of said) purpose said c w
+identifies purpose (response.Identified version) c w = refl
+identifies purpose response.NeedTls c w = refl
+identifies purpose response.Error c w = refl
+identifies purpose said c w = refl
+
 abbrev key_in : Awaits → Option Key
 key_in awaits.Nothing = None
 key_in (awaits.OfPart name) = None
 key_in awaits.Identified = None
+key_in awaits.Aimed = None
 key_in awaits.Pulled = None
 key_in (awaits.Queried key) = Some key
 
@@ -122,7 +137,9 @@ module _ (said : AResponse) (c : Connection) (w : Work) where
 
     step : (a : Option Awaited) → c.awaited ≡ a → hear today Primary (Response said) c w ≡ responding (note_of c.awaited said) name said c w
     step None is = absurd (none-some name (ap command_in (sym (ap awaits_of is) ∙ so)))
-    step (Some (awaited.Identify purpose)) is = absurd (none-some name (ap command_in (sym (ap awaits_of is) ∙ so)))
+    step (Some (awaited.Identify purposes.Plain)) is = absurd (none-some name (ap command_in (sym (ap awaits_of is) ∙ so)))
+    step (Some (awaited.Identify (purposes.Query id))) is = absurd (none-some name (ap command_in (sym (ap awaits_of is) ∙ so)))
+    step (Some (awaited.Identify (purposes.Reconnect id place))) is = absurd (none-some name (ap command_in (sym (ap awaits_of is) ∙ so)))
     step (Some awaited.Push) is = as_asked awaited.Push is refl
     step (Some awaited.Pull) is = absurd (none-some name (ap command_in (sym (ap awaits_of is) ∙ so)))
     step (Some awaited.Prepare) is = as_asked awaited.Prepare is refl
@@ -135,7 +152,9 @@ module _ (said : AResponse) (c : Connection) (w : Work) where
   hears_pull so = step c.awaited refl where
     step : (a : Option Awaited) → c.awaited ≡ a → hear today Primary (Response said) c w ≡ pulling (pulled_of said) said c w
     step None is = absurd (let no = sym (ap awaits_of is) ∙ so in cc)
-    step (Some (awaited.Identify purpose)) is = absurd (let no = sym (ap awaits_of is) ∙ so in cc)
+    step (Some (awaited.Identify purposes.Plain)) is = absurd (let no = sym (ap awaits_of is) ∙ so in cc)
+    step (Some (awaited.Identify (purposes.Query id))) is = absurd (let no = sym (ap awaits_of is) ∙ so in cc)
+    step (Some (awaited.Identify (purposes.Reconnect id place))) is = absurd (let no = sym (ap awaits_of is) ∙ so in cc)
     step (Some awaited.Push) is = absurd (let no = sym (ap awaits_of is) ∙ so in cc)
     step (Some awaited.Pull) is = hears_at (Some awaited.Pull) is ∙ pulls said c w
     step (Some awaited.Prepare) is = absurd (let no = sym (ap awaits_of is) ∙ so in cc)
@@ -151,7 +170,9 @@ module _ (said : AResponse) (c : Connection) (w : Work) where
 
     step : (a : Option Awaited) → c.awaited ≡ a → hear today Primary (Response said) c w ≡ querying (exists_of said) key said c w
     step None is = no None is refl
-    step (Some (awaited.Identify purpose)) is = no (Some (awaited.Identify purpose)) is refl
+    step (Some (awaited.Identify purposes.Plain)) is = no (Some (awaited.Identify purposes.Plain)) is refl
+    step (Some (awaited.Identify (purposes.Query id))) is = no (Some (awaited.Identify (purposes.Query id))) is refl
+    step (Some (awaited.Identify (purposes.Reconnect id place))) is = no (Some (awaited.Identify (purposes.Reconnect id place))) is refl
     step (Some awaited.Push) is = no (Some awaited.Push) is refl
     step (Some awaited.Pull) is = no (Some awaited.Pull) is refl
     step (Some awaited.Prepare) is = no (Some awaited.Prepare) is refl
@@ -159,6 +180,21 @@ module _ (said : AResponse) (c : Connection) (w : Work) where
     step (Some awaited.Abort) is = no (Some awaited.Abort) is refl
     step (Some (awaited.Query other)) is = hears_at (Some (awaited.Query other)) is ∙ queries other said c w ∙ ap (λ k. querying (exists_of said) k said c w) (same_Some other key (ap key_in (sym (ap awaits_of is) ∙ so)))
     step (Some awaited.Reconnect) is = no (Some awaited.Reconnect) is refl
+
+  pub hears_identified : awaits_of c.awaited ≡ awaits.Identified → hear today Primary (Response said) c w ≡ identifying (version_of said) purposes.Plain said c w
+  hears_identified so = step c.awaited refl where
+    step : (a : Option Awaited) → c.awaited ≡ a → hear today Primary (Response said) c w ≡ identifying (version_of said) purposes.Plain said c w
+    step None is = absurd (let no = sym (ap awaits_of is) ∙ so in cc)
+    step (Some (awaited.Identify purposes.Plain)) is = hears_at (Some (awaited.Identify purposes.Plain)) is ∙ identifies purposes.Plain said c w
+    step (Some (awaited.Identify (purposes.Query id))) is = absurd (let no = sym (ap awaits_of is) ∙ so in cc)
+    step (Some (awaited.Identify (purposes.Reconnect id place))) is = absurd (let no = sym (ap awaits_of is) ∙ so in cc)
+    step (Some awaited.Push) is = absurd (let no = sym (ap awaits_of is) ∙ so in cc)
+    step (Some awaited.Pull) is = absurd (let no = sym (ap awaits_of is) ∙ so in cc)
+    step (Some awaited.Prepare) is = absurd (let no = sym (ap awaits_of is) ∙ so in cc)
+    step (Some awaited.Commit) is = absurd (let no = sym (ap awaits_of is) ∙ so in cc)
+    step (Some awaited.Abort) is = absurd (let no = sym (ap awaits_of is) ∙ so in cc)
+    step (Some (awaited.Query key)) is = absurd (let no = sym (ap awaits_of is) ∙ so in cc)
+    step (Some awaited.Reconnect) is = absurd (let no = sym (ap awaits_of is) ∙ so in cc)
 
   hears_unheard : (a : Option Awaited) → c.awaited ≡ a → is_heard a ≡ false → hear today Primary (Response said) c w ≡ Attempt.Done (wrong c w)
   hears_unheard a is not = hears_at a is ∙ ap (λ b. cond b (answered_by a said c w) (Attempt.Done (wrong c w))) not
@@ -176,12 +212,17 @@ module _ (a b : Held) (said : AResponse) (c : Connection) (outcome : Outcome) wh
   pub answered_query : (key : Key) → awaits_of c.awaited ≡ awaits.Queried key → Does a b (chosen (querying (exists_of said) key said c (work_of a)) outcome) → Does a b (chosen (hear today Primary (Response said) c (work_of a)) outcome)
   answered_query key is does = subst (λ t. Does a b (chosen t outcome)) (sym (hears_query said c (work_of a) key is)) does
 
+  pub answered_identified : awaits_of c.awaited ≡ awaits.Identified → Does a b (chosen (identifying (version_of said) purposes.Plain said c (work_of a)) outcome) → Does a b (chosen (hear today Primary (Response said) c (work_of a)) outcome)
+  answered_identified is does = subst (λ t. Does a b (chosen t outcome)) (sym (hears_identified said c (work_of a) is)) does
+
 -- the lines of the transaction that is asked for
 pub queried_lines : (held : Held) (number : ℕ) (c : Connection) (key : Key) → connection_of number (work_of held).state ≡ Some c → awaits_of c.awaited ≡ awaits.Queried key → lines_queried number (work_of held).state ≤ held.making.free → lines_for key (work_of held).state ≤ held.making.free
 queried_lines held number c key found is enough = subst (λ n. n ≤ held.making.free) (ap (λ o. option_map_or (λ k. lines_for k (work_of held).state) (option_and_then (λ (d : Connection). key_queried d.awaited) o) 0) found ∙ ap (λ o. option_map_or (λ k. lines_for k (work_of held).state) o 0) (step c.awaited is)) enough where
   step : (a : Option Awaited) → awaits_of a ≡ awaits.Queried key → key_queried a ≡ Some key
   step None so = ap key_in so
-  step (Some (awaited.Identify purpose)) so = ap key_in so
+  step (Some (awaited.Identify purposes.Plain)) so = ap key_in so
+  step (Some (awaited.Identify (purposes.Query id))) so = ap key_in so
+  step (Some (awaited.Identify (purposes.Reconnect id place))) so = ap key_in so
   step (Some awaited.Push) so = ap key_in so
   step (Some awaited.Pull) so = ap key_in so
   step (Some awaited.Prepare) so = ap key_in so
@@ -353,3 +394,17 @@ module _ (a b : Held) (number : ℕ) (c : Connection) (said : AResponse) (found 
   pull_aborts came d role is on first second = pull_refused came d is (subst (λ r. Does a d (abort_as r (go_on command.Pull names.NotPulled c (work_of a)))) (sym on) (then a b d (abort_as (Some role)) _ (goes_on a b number command.Pull names.NotPulled note.Nothing c found first) second))
 
 pub ruleset ending_pull = (gone_idle, gone_lines, pull_came, pull_alone, pull_aborts)
+
+-- IDENTIFY
+
+greets_so : (version : ℕ) (c : Connection) (w : Work) (spoken : Bool) → nat_le 3 version ≡ spoken → greeted version purposes.Plain c w ≡ cond spoken (go_on command.Identify names.Identified c w) (wrong c w)
+greets_so version c w spoken is = ap (λ b. cond b (go_on command.Identify names.Identified c w) (wrong c w)) is
+
+module _ (a b : Held) (number version : ℕ) (c : Connection) (found : connection_of number (work_of a).state ≡ Some c) where
+  pub greets : 3 ≤ version → Does a b (change number (advanced command.Identify names.Identified) (work_of a)) → Does a b (greeted version purposes.Plain c (work_of a))
+  greets le first = let spoken : nat_le 3 version ≡ true = grind (arith, nat_tests, le) in subst (Does a b) (sym (greets_so version c (work_of a) true spoken)) (goes_on a b number command.Identify names.Identified note.Nothing c found first)
+
+  pub greets_not : version < 3 → Does a b (wrong c (work_of a)) → Does a b (greeted version purposes.Plain c (work_of a))
+  greets_not less does = let spoken : nat_le 3 version ≡ false = grind (arith, nat_tests, less) in subst (Does a b) (sym (greets_so version c (work_of a) false spoken)) does
+
+pub ruleset greeting_back = (greets, greets_not)

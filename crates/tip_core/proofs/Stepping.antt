@@ -129,14 +129,16 @@ nowhere_steps realms turns place event outcome answer le is = record {
 -- Room
 
 -- the room that was made is what the work of the event needs
-pub needs : (realms : Realms) (place : ℕ) (outcome : Outcome) (made : Made) (event : Event) (room : Granted) → Suits (state_in place realms) realms.connections.free realms.transactions.free (of realms.transactions place) event room → made.free ≡ room.lines → made.room ≡ room.transaction → made.peer ≡ room.peer → HasNeeds event (working place outcome made realms)
-needs realms place outcome made event room suits lines transaction peer = record {
+pub needs : (realms : Realms) (place : ℕ) (outcome : Outcome) (made : Made) (event : Event) (room : Granted) → Suits (state_in place realms) realms.connections.free realms.transactions.free (of realms.transactions place) event room → made.free ≡ room.lines → made.room ≡ room.transaction → made.peer ≡ room.peer → made.ours ≡ room.ours → made.word ≡ room.word → HasNeeds event (working place outcome made realms)
+needs realms place outcome made event room suits lines transaction peer ours word = record {
   lines = omega (arith, suits.lines, lines);
   connections = suits.connections;
   transactions = suits.transactions;
   transaction = λ is. transaction ∙ suits.transaction is;
   part = suits.part;
   peer = peer ∙ suits.peer;
+  ours = ours ∙ suits.ours;
+  word = word ∙ suits.word;
 }
 
 pub room_for_it : (realms : Realms) (turns place : ℕ) (event : Event) (room : Granted) → place < length realms.heads.items → length (of realms.connections place) ≤ turns → Suits (state_in place realms) realms.connections.free realms.transactions.free (of realms.transactions place) event room → IsRoomFor (hosted realms turns) place event room

@@ -13,6 +13,10 @@ pub record Made : Type 0 where
   pub room : Option TransactionRoom
   -- where the other side of the event's connection is, for what is made of it
   pub peer : Option (List ℕ)
+  -- where we are, for a connection that we open
+  pub ours : Option (List ℕ)
+  -- the identifier that goes into a question
+  pub word : Option (List ℕ)
 
 -- these items on a connection
 abbrev pub items_on : ℕ → List Item → List Sent

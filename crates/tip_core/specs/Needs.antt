@@ -11,7 +11,7 @@ use Rattle.tip_machine.specs.Steps.{attempt, chosen, entered, frozen, is_open, w
 use Rattle.tip_machine.specs.Transactions.{next_key}
 use Rattle.tip_machine.specs.Types.{Event}
 use Rattle.tip_machine.specs.declared.event.Change.{Change}
-use Rattle.tip_machine.specs.declared.event.Event.TheVariants.{Line, Lost, Open, Settled, Voted}
+use Rattle.tip_machine.specs.declared.event.Event.TheVariants.{AskPull, AskPush, Dial, Line, Lost, Open, Settled, Voted}
 use Rattle.tip_machine.specs.declared.event.Heard.{Heard}
 use Rattle.tip_machine.specs.declared.event.Heard.TheVariants.{Command}
 use Rattle.tip_machine.specs.declared.event.Outcome.{Outcome}
@@ -26,11 +26,15 @@ lines_needed (Line seat heard) state = lines_at seat.number state + (lines_queri
 lines_needed (Voted party) state = lines_of (owner party state) state
 lines_needed (Settled party) state = lines_of (owner party state) state
 lines_needed (Lost seat) state = lines_at seat.number state
+lines_needed (Dial address purpose boxes) state = 1
+lines_needed (AskPush seat id) state = 1
+lines_needed (AskPull seat superior) state = 1
 lines_needed other state = 0
 
 -- how many connections an event may add
 abbrev pub connections_for : Event → ℕ
 connections_for (Open boxes) = 1
+connections_for (Dial address purpose boxes) = 1
 connections_for other = 0
 
 -- may a transaction begin?
@@ -42,6 +46,7 @@ begins other = false
 -- the number of the connection on which an event may begin a transaction
 abbrev pub begins_on : Event → Option ℕ
 begins_on (Line seat heard) = if begins heard then Some seat.number else None
+begins_on (AskPull seat superior) = Some seat.number
 begins_on other = None
 
 -- how many transactions an event may add
@@ -62,6 +67,7 @@ joined other = None
 
 abbrev pub joined_by : Event → Option (List ℕ)
 joined_by (Line seat heard) = joined heard
+joined_by (AskPush seat id) = Some id
 joined_by other = None
 
 -- it has room for that, in a realm of this name
@@ -71,7 +77,20 @@ MayJoin event realm transactions = (id : List ℕ) → joined_by event ≡ Some 
 -- where the other side of the event's connection is
 abbrev pub peer_needed : Event → State → Option (List ℕ)
 peer_needed (Line seat heard) state = peer_of seat.number state
+peer_needed (Dial address purpose boxes) state = Some address
+peer_needed (AskPush seat id) state = peer_of seat.number state
+peer_needed (AskPull seat superior) state = peer_of seat.number state
 peer_needed other state = None
+
+-- where we are, for a connection that we open
+abbrev pub ours_needed : Event → State → Option (List ℕ)
+ours_needed (Dial address purpose boxes) state = Some state.head.address
+ours_needed other state = None
+
+-- the identifier that goes into a question
+abbrev pub word_needed : Event → State → Option (List ℕ)
+word_needed (AskPull seat superior) state = Some superior
+word_needed other state = None
 
 -- what a Room has
 pub record Granted : Type 0 where
@@ -79,6 +98,8 @@ pub record Granted : Type 0 where
   pub lines : ℕ
   pub transaction : Option TransactionRoom
   pub peer : Option (List ℕ)
+  pub ours : Option (List ℕ)
+  pub word : Option (List ℕ)
   -- the change of its row that the event wants
   pub change : Option Change
 
@@ -91,6 +112,8 @@ pub record Suits (state : State) (free_connections free_transactions : ℕ) (hel
   pub transaction : is_open state ≡ true → room.transaction ≡ room_needed event state
   pub part : MayJoin event state.head.name held
   pub peer : room.peer ≡ peer_needed event state
+  pub ours : room.ours ≡ ours_needed event state
+  pub word : room.word ≡ word_needed event state
   pub change : room.change ≡ wants state event
 
 -- the work of an event has what it needs
@@ -101,6 +124,8 @@ pub record HasNeeds (event : Event) (held : Held) : Type 0 where
   pub transaction : is_open (work_of held).state ≡ true → held.making.room ≡ room_needed event (work_of held).state
   pub part : MayJoin event (work_of held).state.head.name (of held.transactions held.realm)
   pub peer : held.making.peer ≡ peer_needed event (work_of held).state
+  pub ours : held.making.ours ≡ ours_needed event (work_of held).state
+  pub word : held.making.word ≡ word_needed event (work_of held).state
 
 -- the same once the event has its entry
 pub record IsReady (event : Event) (held : Held) : Type 0 where
@@ -112,6 +137,8 @@ pub record IsReady (event : Event) (held : Held) : Type 0 where
   pub able : (number : ℕ) → begins_on event ≡ Some number → MayMake number held
   pub part : MayJoin event (work_of held).state.head.name (of held.transactions held.realm)
   pub peer : held.making.peer ≡ peer_needed event (work_of held).state
+  pub ours : held.making.ours ≡ ours_needed event (work_of held).state
+  pub word : held.making.word ≡ word_needed event (work_of held).state
   pub idle : IsIdle held.making.answer
 
 -- what an event comes to, before its lines are put in order

@@ -18,6 +18,7 @@ use Rattle.tip_machine.specs.Types.{Connection}
 use Rattle.tip_machine.specs.declared.connection.Awaited.{Awaited}
 use Rattle.tip_machine.specs.declared.connection.Awaited.TheVariants as awaited
 use Rattle.tip_machine.specs.declared.connection.Purpose.{Purpose}
+use Rattle.tip_machine.specs.declared.connection.Purpose.TheVariants as purpose
 use Rattle.tip_machine.specs.declared.connection.Role.{Role}
 use Rattle.tip_machine.specs.declared.connection.Role.TheVariants.{Subordinate, Superior}
 use Rattle.tip_core.specs.declared.noting.Awaits.{Awaits}
@@ -43,7 +44,9 @@ part_of (Some (Subordinate key part)) = Some (key, part)
 -- what is awaited, by the rule of its responses
 abbrev pub awaits_of : Option Awaited → Awaits
 awaits_of None = awaits.Nothing
-awaits_of (Some (awaited.Identify purpose)) = awaits.Identified
+awaits_of (Some (awaited.Identify purpose.Plain)) = awaits.Identified
+awaits_of (Some (awaited.Identify (purpose.Query id))) = awaits.Aimed
+awaits_of (Some (awaited.Identify (purpose.Reconnect id place))) = awaits.Aimed
 awaits_of (Some awaited.Push) = awaits.OfPart command.Push
 awaits_of (Some awaited.Pull) = awaits.Pulled
 awaits_of (Some awaited.Prepare) = awaits.OfPart command.Prepare

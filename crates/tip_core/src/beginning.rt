@@ -71,7 +71,12 @@ impl Work<Connection, Transaction, Making> {
 
     /// A transaction is made on a connection, of its first boxes, where the realm has room. Its key is given.
     #[tactic(auto, using(crate::proofs::Beginnings::making_where_room))]
-    fn make_where_room(&mut self, number: u32, place: usize, origin: Origin) -> Option<Key>
+    pub(crate) fn make_where_room(
+        &mut self,
+        number: u32,
+        place: usize,
+        origin: Origin,
+    ) -> Option<Key>
         requires here { self.old.realm < length self.old.heads.items }
         requires stands { StandsAt self.old.connections self.old.realm (has_number number) place }
         requires able { MayMake number self.old }

@@ -2,8 +2,8 @@
 ghost use Rattle.std.specs.Prelude.{◌≡◌, ◌≤◌, ◌<◌, ◌+◌, Some, length, option_map};
 ghost use Rattle.std.specs.List.{filter};
 ghost use Rattle.tip_table.specs.Kept.{StandsAt};
-ghost use Rattle.tip_machine.specs.Changes.{change, reply};
-ghost use Rattle.tip_machine.specs.Connections.{advanced, has_number, identified, is_on, owing, taking};
+ghost use Rattle.tip_machine.specs.Changes.{change, reply, send};
+ghost use Rattle.tip_machine.specs.Connections.{advanced, awaiting, has_number, identified, is_on, owing, taking};
 ghost use Rattle.tip_machine.specs.Failing.{closed, fail, gone, wrong};
 ghost use Rattle.tip_machine.specs.States.{connection_of};
 ghost use Rattle.tip_machine.specs.Types.{Connection as AConnection};
@@ -12,7 +12,7 @@ ghost use Rattle.tip_core.specs.Works.{Does, IsIdle, lines_for, work_of};
 use crate::making::Making;
 use crate::work::Work;
 use tip_line::{Address, CommandName, ResponseName};
-use tip_machine::{Connection, Item, Role, Said, Transaction};
+use tip_machine::{Asked, Awaited, Connection, Item, Role, Said, Transaction};
 
 impl Work<Connection, Transaction, Making> {
     /// The connection of a number, which stands at this place.
@@ -90,6 +90,48 @@ impl Work<Connection, Transaction, Making> {
         self.tell(number, Item::Say(said));
         let connection = self.connections.item_mut(place);
         connection.go(command, response);
+        connection.role = Some(role);
+    }
+
+    /// A command is said, and its response awaited.
+    #[tactic(auto, using(crate::proofs::Requests::sending))]
+    pub fn send(&mut self, number: u32, place: usize, awaited: Awaited, asked: Asked)
+        requires stands { StandsAt self.old.connections self.old.realm (has_number number) place }
+        requires room { 0 < self.old.making.free }
+        ensures does { Does self.old self.new (send number awaited asked (work_of self.old)) }
+        ensures stands { StandsAt self.new.connections self.new.realm (has_number number) place }
+    {
+        self.tell(number, Item::Ask(asked));
+        self.wait_for(number, place, awaited);
+    }
+
+    /// The same, and it takes its role on a transaction.
+    #[tactic(auto, using(crate::proofs::Requests::sending_as))]
+    pub fn send_as(&mut self, number: u32, place: usize, awaited: Awaited, asked: Asked, role: Role)
+        requires stands { StandsAt self.old.connections self.old.realm (has_number number) place }
+        requires room { 0 < self.old.making.free }
+        ensures { Does self.old self.new (change number (taking role) (send number awaited asked (work_of self.old))) }
+    {
+        self.send(number, place, awaited, asked);
+        self.take_role(number, place, role);
+    }
+
+    /// A response is awaited.
+    fn wait_for(&mut self, number: u32, place: usize, awaited: Awaited)
+        requires { StandsAt self.old.connections self.old.realm (has_number number) place }
+        ensures does { Does self.old self.new (change number (awaiting awaited) (work_of self.old)) }
+        ensures stands { StandsAt self.new.connections self.new.realm (has_number number) place }
+    {
+        let connection = self.connections.item_mut(place);
+        connection.awaited = Some(awaited);
+    }
+
+    /// A connection takes its role on a transaction.
+    fn take_role(&mut self, number: u32, place: usize, role: Role)
+        requires { StandsAt self.old.connections self.old.realm (has_number number) place }
+        ensures { Does self.old self.new (change number (taking role) (work_of self.old)) }
+    {
+        let connection = self.connections.item_mut(place);
         connection.role = Some(role);
     }
 

@@ -4,6 +4,7 @@
 mod beginning;
 mod commands;
 mod connections;
+mod dialling;
 mod failing;
 mod finding;
 mod happened;
@@ -22,6 +23,7 @@ mod reaction;
 mod realms;
 mod reconnecting;
 mod recovering;
+mod requesting;
 mod responding;
 mod returning;
 mod room;

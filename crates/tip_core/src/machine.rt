@@ -109,7 +109,7 @@ impl Core {
         ensures ok { IfOk result (IsRoomFor self.new realm event.now) }
     {
         if realm >= self.realms.heads.len() {
-            return Room::new(alloc, 0, None, None, None);
+            return Room::nothing(alloc);
         }
         self.turns.reserve(self.realms.connections.count(realm))?;
         self.realms.room(alloc, realm, event)

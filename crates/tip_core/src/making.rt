@@ -10,8 +10,19 @@ use crate::turns::Turns;
 use std::alloc::{AllocError, Global};
 use std::marker::Model;
 use tip_branch::{HeldFresh, HeldParty};
-use tip_line::{Address, Refusal};
+use tip_line::{Address, Id, Refusal};
 use tip_machine::{Answer, Event, Item, Seat, Sent, SentLines};
+
+/// Copies of words, for what is made of them.
+#[derive(Debug, Drop)]
+pub struct Words {
+    /// Where the other side of the event's connection is, if it said so.
+    pub peer: Option<Address>,
+    /// Where we are, for a connection that we open.
+    pub ours: Option<Address>,
+    /// The identifier that goes into a question.
+    pub word: Option<Id>,
+}
 
 /// The answer as far as it goes, with room for what may still go out.
 #[derive(Drop)]
@@ -27,6 +38,8 @@ pub struct Making {
     entry: Option<u32>,
     room: Option<TransactionRoom>,
     peer: Option<Address>,
+    ours: Option<Address>,
+    word: Option<Id>,
 }
 
 impl Model for Making {
@@ -40,6 +53,8 @@ impl Model for Making {
       free = vec_capacity m.sent - vec_len m.sent;
       room = m.room;
       peer = m.peer;
+      ours = m.ours;
+      word = m.word;
     } };
 
     ghost invariant = { λ m. (m.ordered.items ≡ []) × (vec_capacity m.sent ≤ vec_capacity m.ordered) };
@@ -61,6 +76,8 @@ impl Making {
             entry: None,
             room: None,
             peer: None,
+            ours: None,
+            word: None,
         }
     }
 
@@ -70,12 +87,14 @@ impl Making {
         alloc: Global,
         lines: usize,
         room: Option<TransactionRoom>,
-        peer: Option<Address>,
+        words: Words,
     ) -> Result<Making, AllocError>
         ensures answer { IfOk result (λ making. making.answer ≡ silence) }
         ensures lines { IfOk result (λ making. lines ≤ making.free) }
         ensures room { IfOk result (λ making. making.room ≡ room) }
-        ensures peer { IfOk result (λ making. making.peer ≡ peer) }
+        ensures peer { IfOk result (λ making. making.peer ≡ words.peer) }
+        ensures ours { IfOk result (λ making. making.ours ≡ words.ours) }
+        ensures word { IfOk result (λ making. making.word ≡ words.word) }
     {
         let sent = Vec::with_capacity(alloc, lines)?;
         let ordered = Vec::with_capacity(alloc, sent.capacity())?;
@@ -89,7 +108,9 @@ impl Making {
             unused: None,
             entry: None,
             room,
-            peer,
+            peer: words.peer,
+            ours: words.ours,
+            word: words.word,
         })
     }
 
@@ -99,6 +120,8 @@ impl Making {
         ensures free { self.new.free + 1 ≡ self.old.free }
         ensures room { self.new.room ≡ self.old.room }
         ensures peer { self.new.peer ≡ self.old.peer }
+        ensures ours { self.new.ours ≡ self.old.ours }
+        ensures word { self.new.word ≡ self.old.word }
     {
         self.sent.push_reserved(Sent { connection, item });
     }
@@ -121,6 +144,33 @@ impl Making {
         ensures left { self.new ≡ record self.old { peer = None } }
     {
         self.peer.take()
+    }
+
+    /// Where the other side is of a connection that we open, and where we are.
+    pub fn take_addresses(&mut self) -> (Address, Address)
+        requires peer { IsSome self.old.peer }
+        requires ours { IsSome self.old.ours }
+        ensures peer { self.old.peer ≡ Some result.0 }
+        ensures ours { self.old.ours ≡ Some result.1 }
+        ensures left { self.new ≡ record self.old { peer = None; ours = None } }
+    {
+        match (self.peer.take(), self.ours.take()) {
+            (Some(peer), Some(ours)) => (peer, ours),
+            _ => unreachable!(),
+        }
+    }
+
+    /// Where the other side of the event's connection is, and the identifier that goes into a question.
+    pub fn take_question(&mut self) -> (Option<Address>, Id)
+        requires { IsSome self.old.word }
+        ensures peer { result.0 ≡ self.old.peer }
+        ensures word { self.old.word ≡ Some result.1 }
+        ensures left { self.new ≡ record self.old { peer = None; word = None } }
+    {
+        match self.word.take() {
+            Some(word) => (self.peer.take(), word),
+            None => unreachable!(),
+        }
     }
 
     pub fn refuse(&mut self, why: Refusal)
@@ -203,6 +253,8 @@ impl Making {
             entry,
             room: _,
             peer: _,
+            ours: _,
+            word: _,
         } = self;
         Answer {
             refusal,

@@ -1,16 +1,16 @@
 //! What an event needs, made before it happens: lines, places in the tables, a transaction that begins, and the change of its row.
-ghost use Rattle.std.specs.Prelude.{◌≡◌, ◌+◌, ◌<◌, ◌≤◌, ℕ, length, map, true, IfOk, OnOk};
+ghost use Rattle.std.specs.Prelude.{if◌then◌else◌, ◌≡◌, ◌+◌, ◌<◌, ◌≤◌, ℕ, length, map, true, IfOk, OnOk};
 ghost use Rattle.std.specs.Option.{option_and_then, option_copied};
 ghost use Rattle.tip_table.specs.Kept.{of};
 ghost use Rattle.tip_machine.specs.Counts.{HasCounts};
 ghost use Rattle.tip_machine.specs.Steps.{is_open, wants};
 ghost use Rattle.tip_machine.specs.Requests.{owner};
-ghost use Rattle.tip_machine.specs.States.{connection_of};
+ghost use Rattle.tip_machine.specs.States.{State, connection_of};
 ghost use Rattle.tip_machine.specs.Types.{seen};
-ghost use Rattle.tip_core.specs.Needs.{MayJoin, Suits, begins_on, connections_for, joined_by, lines_needed, peer_needed, room_needed, transactions_for};
+ghost use Rattle.tip_core.specs.Needs.{MayJoin, Suits, begins_on, connections_for, joined_by, lines_needed, ours_needed, peer_needed, room_needed, transactions_for, word_needed};
 ghost use Rattle.tip_core.specs.Works.{key_queried, lines_as, lines_at, lines_for, lines_of, lines_queried, peer_of, work_of};
 
-use crate::making::Making;
+use crate::making::{Making, Words};
 use crate::query::{Numbered, OnKey};
 use crate::room::Room;
 use crate::transaction_room::TransactionRoom;
@@ -35,9 +35,9 @@ impl Work<Connection, Transaction, Making> {
         self.reserve_part(event)?;
         let lines = self.lines_needed(event)?;
         let transaction = self.room_to_begin(alloc, event)?;
-        let peer = self.peer_needed(event)?;
+        let words = self.words_needed(event)?;
         let change = self.wants(alloc, event)?;
-        Room::new(alloc, lines, transaction, peer, change)
+        Room::new(alloc, lines, transaction, words, change)
     }
 
     /// Makes a place for a connection or a transaction, where the event may add one.
@@ -48,7 +48,7 @@ impl Work<Connection, Transaction, Making> {
         ensures transactions { (realm : ℕ) → of self.new.transactions realm ≡ of self.old.transactions realm }
         ensures rest { self.new ≡ record self.old { connections = self.new.connections; transactions = self.new.transactions } }
     {
-        if let Event::Open { .. } = event {
+        if opens(event) {
             return self.connections.reserve();
         }
         if begins_on(event).is_some() {
@@ -117,19 +117,55 @@ impl Work<Connection, Transaction, Making> {
         Ok(Some(self.room_for(alloc, key)?))
     }
 
+    /// Copies of words, for what may be made of them.
+    fn words_needed(&self, event: &Event) -> Result<Words, AllocError>
+        requires { self.now.realm < length self.now.heads.items }
+        ensures peer { IfOk result (λ words. words.peer ≡ peer_needed event.now (work_of self.now).state) }
+        ensures ours { IfOk result (λ words. words.ours ≡ ours_needed event.now (work_of self.now).state) }
+        ensures word { IfOk result (λ words. words.word ≡ word_needed event.now (work_of self.now).state) }
+    {
+        Ok(Words {
+            peer: self.peer_needed(event)?,
+            ours: self.ours_needed(event)?,
+            word: word_needed(event)?,
+        })
+    }
+
+    /// Where we are, for a connection that the event opens.
+    fn ours_needed(&self, event: &Event) -> Result<Option<Address>, AllocError>
+        requires { self.now.realm < length self.now.heads.items }
+        ensures { IfOk result (λ ours. ours ≡ ours_needed event.now (work_of self.now).state) }
+    {
+        match event {
+            Event::Dial { .. } => Ok(Some(self.heads[self.realm].address.copy()?)),
+            Event::Open { .. }
+            | Event::Line { .. }
+            | Event::Voted(_)
+            | Event::Settled(_)
+            | Event::Lost { .. }
+            | Event::AskPush { .. }
+            | Event::AskPull { .. }
+            | Event::Resume { .. } => Ok(None),
+        }
+    }
+
     /// Where the other side of the event's connection is, for what may be made of it.
     fn peer_needed(&self, event: &Event) -> Result<Option<Address>, AllocError>
         ensures { IfOk result (λ peer. peer ≡ peer_needed event.now (work_of self.now).state) }
     {
         match event {
             Event::Line { seat, heard: _ } => self.peer_of(seat.number),
+            Event::Dial {
+                address,
+                purpose: _,
+                boxes: _,
+            } => Ok(Some(address.copy()?)),
+            Event::AskPush { seat, id: _ } => self.peer_of(seat.number),
+            Event::AskPull { seat, superior: _ } => self.peer_of(seat.number),
             Event::Open { .. }
-            | Event::Dial { .. }
             | Event::Voted(_)
             | Event::Settled(_)
             | Event::Lost { .. }
-            | Event::AskPush { .. }
-            | Event::AskPull { .. }
             | Event::Resume { .. } => Ok(None),
         }
     }
@@ -156,11 +192,8 @@ impl Work<Connection, Transaction, Making> {
             Event::Voted(party) => Ok(self.lines_of(party)),
             Event::Settled(party) => Ok(self.lines_of(party)),
             Event::Lost { seat } => Ok(self.lines_at(seat.number)),
-            Event::Open { .. }
-            | Event::Dial { .. }
-            | Event::AskPush { .. }
-            | Event::AskPull { .. }
-            | Event::Resume { .. } => Ok(0),
+            Event::Dial { .. } | Event::AskPush { .. } | Event::AskPull { .. } => Ok(1),
+            Event::Open { .. } | Event::Resume { .. } => Ok(0),
         }
     }
 
@@ -261,6 +294,30 @@ fn copy_of(address: &Option<Address>) -> Result<Option<Address>, AllocError>
     }
 }
 
+/// The identifier that goes into a question.
+fn word_needed(event: &Event) -> Result<Option<Id>, AllocError>
+    ensures { (state : State) → IfOk result (λ word. word ≡ word_needed event.now state) }
+{
+    match event {
+        Event::AskPull { seat: _, superior } => Ok(Some(superior.copy()?)),
+        Event::Open { .. }
+        | Event::Dial { .. }
+        | Event::Line { .. }
+        | Event::Voted(_)
+        | Event::Settled(_)
+        | Event::Lost { .. }
+        | Event::AskPush { .. }
+        | Event::Resume { .. } => Ok(None),
+    }
+}
+
+/// Whether an event may add a connection.
+fn opens(event: &Event) -> bool
+    ensures { connections_for event.now ≡ (if result then 1 else 0) }
+{
+    matches!(event, Event::Open { .. } | Event::Dial { .. })
+}
+
 /// The identifier of the transaction that may get a part more.
 fn joined_by(event: &Event) -> Option<&Id>
     ensures { option_copied result ≡ joined_by event.now }
@@ -275,6 +332,7 @@ fn joined_by(event: &Event) -> Option<&Id>
                 },
             ),
         } => Some(superior),
+        Event::AskPush { seat: _, id } => Some(id),
         _ => None,
     }
 }
@@ -288,6 +346,7 @@ fn begins_on(event: &Event) -> Option<u32>
             seat,
             heard: Heard::Command(Command::Begin | Command::Push { .. }),
         } => Some(seat.number),
+        Event::AskPull { seat, superior: _ } => Some(seat.number),
         _ => None,
     }
 }

@@ -5,7 +5,7 @@ ghost use Rattle.tip_core.specs.Noting.{awaits_of, ends, exists_of, note_of, not
 
 use std::alloc::AllocError;
 use tip_line::{CommandName, Id, Response};
-use tip_machine::Awaited;
+use tip_machine::{Awaited, Purpose};
 use tip_rows::Key;
 use tip_txn::{Ballot, Participant};
 
@@ -125,7 +125,10 @@ pub enum Awaits {
     Nothing,
     /// The response to a command that a part was asked.
     OfPart(CommandName),
+    /// On a connection that was opened for whatever will be asked.
     Identified,
+    /// On one that was opened for a transaction. It is not heard yet.
+    Aimed,
     Pulled,
     /// For the transaction of a key.
     Queried(Key),
@@ -137,7 +140,8 @@ impl Awaits {
     {
         match awaited {
             None => Awaits::Nothing,
-            Some(Awaited::Identify(_)) => Awaits::Identified,
+            Some(Awaited::Identify(Purpose::Plain)) => Awaits::Identified,
+            Some(Awaited::Identify(Purpose::Query(_) | Purpose::Reconnect(_, _))) => Awaits::Aimed,
             Some(Awaited::Push) => Awaits::OfPart(CommandName::Push),
             Some(Awaited::Pull) => Awaits::Pulled,
             Some(Awaited::Prepare) => Awaits::OfPart(CommandName::Prepare),

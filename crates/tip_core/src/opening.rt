@@ -83,7 +83,7 @@ impl Work<Connection, Transaction, Making> {
     }
 
     /// Whether a connection is free, and no more boxes are handed in than may be.
-    fn has_place(&self, boxes: usize) -> bool
+    pub(crate) fn has_place(&self, boxes: usize) -> bool
         requires { self.now.realm < length self.now.heads.items }
         ensures { result ≡ has_place boxes (work_of self.now).state }
     {
@@ -101,7 +101,7 @@ impl Work<Connection, Transaction, Making> {
     }
 
     /// The seat of the next connection, which is counted.
-    fn next_seat(&mut self) -> Seat
+    pub(crate) fn next_seat(&mut self) -> Seat
         requires here { self.old.realm < length self.old.heads.items }
         requires counted { (work_of self.old).state.head.given < (work_of self.old).state.head.entries }
         ensures seat { result ≡ record { epoch = (work_of self.old).state.head.epoch; number = (work_of self.old).state.head.given + 1 } }
@@ -119,16 +119,18 @@ impl Work<Connection, Transaction, Making> {
 
     /// A connection joins the realm's, in room that is there.
     #[tactic(auto, using(crate::proofs::Openings::joining_one))]
-    fn join(&mut self, connection: Connection)
+    pub(crate) fn join(&mut self, connection: Connection)
         requires { 0 < self.old.connections.free }
-        ensures { Does self.old self.new (joining connection (work_of self.old)) }
+        ensures does { Does self.old self.new (joining connection (work_of self.old)) }
+        ensures rest { self.new ≡ record self.old { connections = self.new.connections } }
     {
         self.connections.add(self.realm, connection);
     }
 
     /// The new connection is shown.
-    fn show(&mut self, seat: Seat)
-        ensures { Does self.old self.new (showing seat (work_of self.old)) }
+    pub(crate) fn show(&mut self, seat: Seat)
+        ensures does { Does self.old self.new (showing seat (work_of self.old)) }
+        ensures rest { self.new ≡ record self.old { making = record self.old.making { answer = self.new.making.answer } } }
     {
         self.making.open(seat);
     }

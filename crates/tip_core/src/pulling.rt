@@ -24,7 +24,7 @@ impl Work<Connection, Transaction, Making> {
         ensures { (connection : AConnection) → connection_of number (work_of self.old).state ≡ Some connection → Does self.old self.new (pull superior.now subordinate connection (work_of self.old)) }
     {
         let address = self.making.take_peer();
-        match self.join_part(superior, address, subordinate) {
+        match self.join_part(superior, address, Some(subordinate)) {
             Some(role) => self.reply_as(number, place, CommandName::Pull, Said::Pulled, role),
             None => self.reply(number, place, CommandName::Pull, Said::NotPulled),
         }
@@ -33,11 +33,11 @@ impl Work<Connection, Transaction, Making> {
     /// A subordinate at an address becomes a part of an active transaction, if it is none yet. What its connection is then on
     /// the transaction is given.
     #[tactic(auto, using(crate::proofs::Joining::joining))]
-    fn join_part(
+    pub(crate) fn join_part(
         &mut self,
         superior: &Id,
         address: Option<Address>,
-        subordinate: Id,
+        subordinate: Option<Id>,
     ) -> Option<Role>
         requires here { self.old.realm < length self.old.heads.items }
         requires part { CanGrow (work_of self.old).state.head.name superior.now (of self.old.transactions self.old.realm) }
@@ -48,7 +48,7 @@ impl Work<Connection, Transaction, Making> {
         let address = address?;
         let (key, place) = self.identified(superior)?;
         let transaction = self.transactions.item_mut(place);
-        match transaction.txn.enlist(address, Some(subordinate)) {
+        match transaction.txn.enlist(address, subordinate) {
             Ok(part) => Some(Role::Subordinate { key, part }),
             Err(_) => None,
         }

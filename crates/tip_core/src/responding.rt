@@ -7,18 +7,19 @@ ghost use Rattle.tip_machine.specs.Connections.{has_number};
 ghost use Rattle.tip_machine.specs.Requests.{hear};
 ghost use Rattle.tip_line.specs.declared.response.Response.{Response as ASaid};
 ghost use Rattle.tip_machine.specs.Failing.{closed, wrong};
-ghost use Rattle.tip_machine.specs.Responses.{abort_as, go_on};
+ghost use Rattle.tip_machine.specs.Responses.{abort_as, go_on, greeted};
+ghost use Rattle.tip_machine.specs.declared.connection.Purpose.TheVariants.{Plain};
 ghost use Rattle.tip_machine.specs.Served.{today};
 ghost use Rattle.tip_machine.specs.States.{connection_of};
 ghost use Rattle.tip_machine.specs.Steps.{chosen};
 ghost use Rattle.tip_machine.specs.Transactions.{noting};
 ghost use Rattle.tip_machine.specs.Types.{Connection as AConnection};
 ghost use Rattle.tip_machine.specs.declared.event.Heard.TheVariants.{Response as AResponse};
-ghost use Rattle.tip_core.specs.Noting.{note_of, noted, noting_as, pulled_of, pulling, responding};
+ghost use Rattle.tip_core.specs.Noting.{identifying, note_of, noted, noting_as, pulled_of, pulling, responding, version_of};
 ghost use Rattle.tip_core.specs.Works.{Does, IsIdle, lines_as, lines_at, lines_queried, work_of};
 
 use crate::making::Making;
-use crate::noting::{Awaits, Note, ends, pulled_of};
+use crate::noting::{Awaits, Note, ends, pulled_of, version_of};
 use crate::work::Work;
 use tip_line::{CommandName, Response, ResponseName};
 use tip_machine::{Connection, Role, Transaction};
@@ -39,7 +40,8 @@ impl Work<Connection, Transaction, Making> {
             Awaits::OfPart(command) => self.respond_as_part(number, place, command, response),
             Awaits::Pulled => self.respond_to_pull(number, place, response),
             Awaits::Queried(key) => self.respond_to_query(number, place, key, response),
-            Awaits::Nothing | Awaits::Identified => self.reject(number, place),
+            Awaits::Identified => self.respond_to_identify(number, place, response),
+            Awaits::Nothing | Awaits::Aimed => self.reject(number, place),
         }
     }
 
@@ -61,6 +63,39 @@ impl Work<Connection, Transaction, Making> {
         match Note::of(&self.connection(number, place).awaited, response) {
             Some(note) => self.note_as(number, place, command, name, note),
             None => self.refuse_line(number, place, ends),
+        }
+    }
+
+    /// A response to IDENTIFY, on a connection that was opened for whatever will be asked.
+    fn respond_to_identify(&mut self, number: u32, place: usize, response: Response)
+        requires stands { StandsAt self.old.connections self.old.realm (has_number number) place }
+        requires lines { lines_at number (work_of self.old).state + 2 ≤ self.old.making.free }
+        requires none { IsIdle self.old.making.answer }
+        ensures { (connection : AConnection) → connection_of number (work_of self.old).state ≡ Some connection → Does self.old self.new (chosen (identifying (version_of response) Plain response connection (work_of self.old)) self.old.outcome) }
+    {
+        match version_of(&response) {
+            Some(version) => self.greet_back(number, place, version),
+            None => self.refuse_line(number, place, ends(&response)),
+        }
+    }
+
+    /// IDENTIFIED: the version is 3 or one above, of which we speak 3.
+    #[tactic(auto, using(crate::proofs::Responses::greeting_back))]
+    fn greet_back(&mut self, number: u32, place: usize, version: u32)
+        requires stands { StandsAt self.old.connections self.old.realm (has_number number) place }
+        requires lines { lines_at number (work_of self.old).state + 2 ≤ self.old.making.free }
+        requires none { IsIdle self.old.making.answer }
+        ensures { (connection : AConnection) → connection_of number (work_of self.old).state ≡ Some connection → Does self.old self.new (greeted version Plain connection (work_of self.old)) }
+    {
+        if version >= 3 {
+            self.go(
+                number,
+                place,
+                CommandName::Identify,
+                ResponseName::Identified,
+            );
+        } else {
+            self.reject(number, place);
         }
     }
 

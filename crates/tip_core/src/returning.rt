@@ -89,10 +89,12 @@ impl Work<Connection, Transaction, Making> {
     {
         let waits = has_ready(&party);
         self.take_back(key, place, party);
-        if !waits {
+        if waits {
+            self.proceed(key);
+        } else {
             self.dispatch(key);
+            self.proceed(key);
         }
-        self.proceed(key);
     }
 
     /// The party was told to abort.

@@ -1,13 +1,12 @@
 //! Room for one event.
-ghost use Rattle.std.specs.Prelude.{◌≡◌, IfOk, ◌≤◌};
+ghost use Rattle.std.specs.Prelude.{◌≡◌, None, IfOk, ◌≤◌};
 ghost use Rattle.std.specs.Option.{option_copied};
 ghost use Rattle.tip_machine.specs.Runs.{unstored_outcome};
 
-use crate::making::Making;
+use crate::making::{Making, Words};
 use crate::transaction_room::TransactionRoom;
 use std::alloc::{AllocError, Global};
 use std::marker::Model;
-use tip_line::Address;
 use tip_machine::{Change, Outcome};
 
 /// All the memory that one event needs, and the change of its row that it wants. It belongs to the state and the event that it
@@ -25,7 +24,7 @@ impl Model for Room {
 
     ghost Value = { Granted };
 
-    ghost view = { λ r. record { lines = r.making.free; transaction = r.making.room; peer = r.making.peer; change = r.change } };
+    ghost view = { λ r. record { lines = r.making.free; transaction = r.making.room; peer = r.making.peer; ours = r.making.ours; word = r.making.word; change = r.change } };
 
     ghost invariant = { λ r. r.making.answer ≡ silence };
 }
@@ -33,24 +32,38 @@ impl Model for Room {
 impl Room {
     ghost use Rattle.tip_machine.specs.Answers.{silence};
 
-    /// Room for so many lines and closings, for a transaction if it is given, for an event that wants this change. The other
-    /// side of its connection is there, if it said where.
+    /// Room for so many lines and closings, for a transaction if it is given, for an event that wants this change, with these
+    /// copies of words.
     pub fn new(
         alloc: Global,
         lines: usize,
         transaction: Option<TransactionRoom>,
-        peer: Option<Address>,
+        words: Words,
         change: Option<Change>,
     ) -> Result<Room, AllocError>
         ensures lines { IfOk result (λ room. lines ≤ room.lines) }
         ensures transaction { IfOk result (λ room. room.transaction ≡ transaction) }
-        ensures peer { IfOk result (λ room. room.peer ≡ peer) }
+        ensures peer { IfOk result (λ room. room.peer ≡ words.peer) }
+        ensures ours { IfOk result (λ room. room.ours ≡ words.ours) }
+        ensures word { IfOk result (λ room. room.word ≡ words.word) }
         ensures change { IfOk result (λ room. room.change ≡ change) }
     {
         Ok(Room {
-            making: Making::new(alloc, lines, transaction, peer)?,
+            making: Making::new(alloc, lines, transaction, words)?,
             change,
         })
+    }
+
+    /// Room for nothing.
+    pub fn nothing(alloc: Global) -> Result<Room, AllocError>
+        ensures { IfOk result (λ room. room.change ≡ None) }
+    {
+        let words = Words {
+            peer: None,
+            ours: None,
+            word: None,
+        };
+        Room::new(alloc, 0, None, words, None)
     }
 
     /// The change of its row that the event wants. Its outcome is handed to `Core::apply`.
@@ -76,6 +89,8 @@ impl Room {
         ensures lines { result.0.free ≡ self.lines }
         ensures transaction { result.0.room ≡ self.transaction }
         ensures peer { result.0.peer ≡ self.peer }
+        ensures ours { result.0.ours ≡ self.ours }
+        ensures word { result.0.word ≡ self.word }
         ensures change { result.1 ≡ self.change }
     {
         let Room { making, change } = self;

@@ -8,7 +8,7 @@ ghost use Rattle.tip_machine.specs.Answers.{silence};
 ghost use Rattle.tip_machine.specs.Connections.{has_number};
 ghost use Rattle.tip_machine.specs.Counts.{HasCounts};
 ghost use Rattle.tip_machine.specs.Given.{are_numbered};
-ghost use Rattle.tip_machine.specs.Requests.{ask_pull, ask_push, hear, line};
+ghost use Rattle.tip_machine.specs.Requests.{hear, line};
 ghost use Rattle.tip_machine.specs.Served.{today};
 ghost use Rattle.tip_machine.specs.States.{connection_of, seated};
 ghost use Rattle.tip_machine.specs.Steps.{attempt, chosen, frozen};
@@ -58,16 +58,16 @@ impl Work<Connection, Transaction, Making> {
         match event {
             Event::Open { boxes } => self.open(boxes),
             Event::Dial {
-                address: _,
-                purpose: _,
+                address,
+                purpose,
                 boxes,
-            } => self.turn_away(boxes),
+            } => self.dial(address, purpose, boxes),
             Event::Line { seat, heard } => self.line(seat, heard),
             Event::Voted(party) => self.voted(party),
             Event::Settled(party) => self.settled(party),
             Event::Lost { seat } => self.lost(seat),
-            Event::AskPush { seat, id: _ } => self.ask_on(seat),
-            Event::AskPull { seat, superior: _ } => self.ask_on(seat),
+            Event::AskPush { seat, id } => self.ask_push(seat, &id),
+            Event::AskPull { seat, superior } => self.ask_pull(seat, superior),
             Event::Resume { id } => self.resume(&id),
         }
     }
@@ -144,19 +144,6 @@ impl Work<Connection, Transaction, Making> {
             self.close(number, place);
         } else {
             self.reject(number, place);
-        }
-    }
-
-    /// We are asked to speak first on a connection: none is dialled.
-    #[tactic(auto, using(crate::proofs::Happening::asking_on))]
-    fn ask_on(&mut self, seat: Seat)
-        requires { self.old.realm < length self.old.heads.items }
-        ensures push { (id : List ℕ) → Does self.old self.new (ask_push false (seated seat (work_of self.old).state) id (work_of self.old)) }
-        ensures pull { (superior : List ℕ) → Does self.old self.new (ask_pull false (seated seat (work_of self.old).state) superior (work_of self.old)) }
-    {
-        match self.seated(seat) {
-            Some(_) => self.refuse(Refusal::Busy),
-            None => self.refuse(Refusal::Stale),
         }
     }
 }

@@ -4,6 +4,7 @@ use Rattle.std.specs.Prelude.{Bool, true, false, Option, Some, None}
 use Rattle.tip_line.specs.declared.command.CommandName.{CommandName}
 use Rattle.tip_machine.specs.declared.connection.Awaited.{Awaited}
 use Rattle.tip_machine.specs.declared.connection.Awaited.TheVariants.{Identify, Push, Pull, Prepare, Commit, Abort, Query, Reconnect}
+use Rattle.tip_machine.specs.declared.connection.Purpose.TheVariants as purpose
 
 pub record Serving : Type 0 where
   -- a command that is not served is answered ERROR, and the connection is closed
@@ -13,11 +14,12 @@ pub record Serving : Type 0 where
   -- where connections are not dialled, a realm has none free to dial (Full), to push or to pull on (Busy)
   pub dials : Bool
 
--- the responses on connections that turned round, or went on: all but that to IDENTIFY, with which a connection that we dialled
--- begins
+-- each response, but that to IDENTIFY on a connection that was opened to ask for a transaction, or to reach a subordinate again
 abbrev pub is_heard : Option Awaited → Bool
 is_heard None = false
-is_heard (Some (Identify purpose)) = false
+is_heard (Some (Identify purpose.Plain)) = true
+is_heard (Some (Identify (purpose.Query id))) = false
+is_heard (Some (Identify (purpose.Reconnect id place))) = false
 is_heard (Some Push) = true
 is_heard (Some Pull) = true
 is_heard (Some Prepare) = true
@@ -26,9 +28,9 @@ is_heard (Some Abort) = true
 is_heard (Some (Query key)) = true
 is_heard (Some Reconnect) = true
 
--- what is served today: every command, on connections that others open, and what parts answer there
+-- what is served today: every command, every request, and these responses
 abbrev pub today : Serving
-today = record { commands = λ command. true; responses = is_heard; dials = false }
+today = record { commands = λ command. true; responses = is_heard; dials = true }
 
 -- the whole machine
 abbrev pub everything : Serving

@@ -22,7 +22,7 @@ note-requires g c =
 pub step-made-requires-clause-needs : goal.step-made-requires-clause-needs
 step-made-requires-clause-needs g c =
     let room = subst (λ h. IsRoomFor h c.args.realm c.args.event c.args.room) (sym c.self.view_is) c.requires.room in
-    needs c.self.inside.realms c.args.realm c.args.outcome c.into_parts-making.result.0 c.args.event c.args.room (room.suits (state_in c.args.realm c.self.inside.realms) (there c.self.inside.realms c.self.inside.turns.capacity c.args.realm (search rules))) c.into_parts-making.ensures.lines c.into_parts-making.ensures.transaction c.into_parts-making.ensures.peer
+    needs c.self.inside.realms c.args.realm c.args.outcome c.into_parts-making.result.0 c.args.event c.args.room (room.suits (state_in c.args.realm c.self.inside.realms) (there c.self.inside.realms c.self.inside.turns.capacity c.args.realm (search rules))) c.into_parts-making.ensures.lines c.into_parts-making.ensures.transaction c.into_parts-making.ensures.peer c.into_parts-making.ensures.ours c.into_parts-making.ensures.word
 
 pub returns-clause-steps : goal.returns-clause-steps
 returns-clause-steps g c = rw (← c.self.view_is) (steps c.self.inside.realms c.step-made.new.self c.args.realm c.args.event c.args.outcome c.into_parts-making.result.0 c.step-made.result (search rules) c.step-made.ensures c.self.inside.turns.capacity c.note.new.self.capacity c.finish-answer-2.result

@@ -1,7 +1,7 @@
 use Rattle.std.proofs.Common.{◌≡◌, ap, sym, ◌∙◌}
 use Rattle.std.proofs.lemmas.Option.{same_Some}
 use Rattle.tip_machine.specs.Types.{Connection}
-use Rattle.tip_core.proofs.Responses.{answered_part, answered_pull, answered_query}
+use Rattle.tip_core.proofs.Responses.{answered_identified, answered_part, answered_pull, answered_query}
 use Rattle.tip_core.specs.Noting.{awaits_of}
 use Rattle.tip_core.proofs.responding.Work+Connection+Transaction+Making.respond.Goals as goal
 
@@ -19,3 +19,8 @@ pub returns-in-Queried : goal.returns-in-Queried
 returns-in-Queried g c = λ connection found.
     let is : c.connection.result.now ≡ connection = same_Some c.connection.result.now connection (sym c.connection.ensures ∙ found) in
     answered_query c.args.self.now c.respond_to_query.new.self c.args.response connection c.args.self.now.outcome c.in-Queried.key (sym (c.of.ensures ∙ ap (λ (d : Connection). awaits_of d.awaited) is) ∙ c.in-Queried.is) (c.respond_to_query.ensures connection found)
+
+pub returns-in-Identified : goal.returns-in-Identified
+returns-in-Identified g c = λ connection found.
+    let is : c.connection.result.now ≡ connection = same_Some c.connection.result.now connection (sym c.connection.ensures ∙ found) in
+    answered_identified c.args.self.now c.respond_to_identify.new.self c.args.response connection c.args.self.now.outcome (sym (c.of.ensures ∙ ap (λ (d : Connection). awaits_of d.awaited) is) ∙ c.in-Identified.is) (c.respond_to_identify.ensures connection found)
