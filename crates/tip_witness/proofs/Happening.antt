@@ -68,7 +68,7 @@ use Rattle.tip_machine.proofs.Walks.{there_by_key}
 use Rattle.tip_agreement.proofs.Around.{Whole}
 use Rattle.tip_agreement.proofs.Reaching.{only_prepared}
 use Rattle.tip_agreement.proofs.Sound.{found_by}
-use Rattle.tip_witness.proofs.Walking.{Asked, In, ProceedsSo, Walks, aborts_so, alters, asks_so, closes, commits_so, dispatches, fails, finishes, goes_wrong, in_found, lasts_more, proceeds_after, proceeds_so, walks_beside, walks_same, walks_then}
+use Rattle.tip_witness.proofs.Walking.{Asked, In, ProceedsSo, Walks, aborts_so, alters, asks_so, closes, commits_so, dispatches, fails, finishes, goes_wrong, in_found, lasts_more, live_in, proceeds_after, proceeds_so, walks_beside, walks_same, walks_then}
 
 -- WHAT AN EVENT COMES TO
 
@@ -175,7 +175,7 @@ module _ (c : Connection) (w : Work) where
   enlists : (t : Transaction) (address : List ℕ) (id : Option (List ℕ)) (number : ℕ) (v : Work) → Aside w v → Walks w (change number (taking (Subordinate t.key (length t.parts))) (alter t.key (enlisting (enlisted address id)) v))
   enlists t address id number v is =
       let grown = alter t.key (enlisting (enlisted address id)) v in
-      walks_then w grown (change number (taking (Subordinate t.key (length t.parts))) grown) (walks_then w v grown (walks_aside w v is) (alters t.key (enlisting (enlisted address id)) v (λ u. (refl, lasts_more (enlisted address id) u.parts refl, refl)))) (walks_beside grown _ refl refl)
+      walks_then w grown (change number (taking (Subordinate t.key (length t.parts))) grown) (walks_then w v grown (walks_aside w v is) (alters t.key (enlisting (enlisted address id)) v (λ u. (refl, lasts_more (enlisted address id) u.parts refl, refl, refl)))) (walks_beside grown _ refl refl)
 
   pulls_into : (found : Option Transaction) (peer : Option (List ℕ)) (subordinate : List ℕ) → EndsSo w (Attempt.Done (pull_into found peer subordinate c.number w))
   unfolding reply
@@ -214,20 +214,20 @@ module _ (c : Connection) (w : Work) where
     stays_so : EndsSo u (Attempt.Done u)
     stays_so = inl (walks_same u)
 
-    prepares : (phase : Phase) (peer : Option (List ℕ)) → EndsSo u (prepare phase peer c t u)
-    prepares phase.Active (Some address) = ends_so u (ask t u) (asks_so t u found)
-    prepares phase.Active None = inl (aborts_so t.key u)
-    prepares phase.Aborted peer = inl (aborts_so t.key u)
-    prepares phase.Asking peer = stays_so
-    prepares phase.Prepared peer = stays_so
-    prepares phase.Committed peer = stays_so
+    prepares : (phase : Phase) → t.phase ≡ phase → (peer : Option (List ℕ)) → EndsSo u (prepare phase peer c t u)
+    prepares phase.Active at (Some address) = ends_so u (ask t u) (asks_so t u found at)
+    prepares phase.Active at None = inl (aborts_so t.key u)
+    prepares phase.Aborted at peer = inl (aborts_so t.key u)
+    prepares phase.Asking at peer = stays_so
+    prepares phase.Prepared at peer = stays_so
+    prepares phase.Committed at peer = stays_so
 
-    commits_on : (phase : Phase) → EndsSo u (decide_commit phase c t u)
-    commits_on phase.Active = ends_so u (ask t u) (asks_so t u found)
-    commits_on phase.Prepared = (commits_so t.key u, closes c u, inl (record { middle = u; walks = walks_same u; transaction = t; found = found; why = refl }))
-    commits_on phase.Aborted = inl (aborts_so t.key u)
-    commits_on phase.Asking = stays_so
-    commits_on phase.Committed = stays_so
+    commits_on : (phase : Phase) → t.phase ≡ phase → EndsSo u (decide_commit phase c t u)
+    commits_on phase.Active at = ends_so u (ask t u) (asks_so t u found at)
+    commits_on phase.Prepared at = (commits_so t.key u (live_in t u phase.Prepared found at (λ is. let wrong : phase.Prepared ≡ phase.Aborted = is in cc)), closes c u, inl (record { middle = u; walks = walks_same u; transaction = t; found = found; why = refl }))
+    commits_on phase.Aborted at = inl (aborts_so t.key u)
+    commits_on phase.Asking at = stays_so
+    commits_on phase.Committed at = stays_so
 
     aborts_on : (phase : Phase) → t.phase ≡ phase → EndsSo u (decide_abort phase c t u)
     aborts_on phase.Active at = inl (aborts_so t.key u)
@@ -255,8 +255,8 @@ module _ (c : Connection) (w : Work) where
   serves commands.Begin = begins
   serves (commands.Push superior) = pushes superior
   serves (commands.Pull superior subordinate) = pulls superior subordinate
-  serves commands.Prepare = obeys command.Prepare (λ t. prepare t.phase c.peer c t) (λ t u found. prepares t u found t.phase c.peer)
-  serves commands.Commit = obeys command.Commit (λ t. decide_commit t.phase c t) (λ t u found. commits_on t u found t.phase)
+  serves commands.Prepare = obeys command.Prepare (λ t. prepare t.phase c.peer c t) (λ t u found. prepares t u found t.phase refl c.peer)
+  serves commands.Commit = obeys command.Commit (λ t. decide_commit t.phase c t) (λ t u found. commits_on t u found t.phase refl)
   serves commands.Abort = obeys command.Abort (λ t. decide_abort t.phase c t) (λ t u found. aborts_on t u found t.phase refl)
   serves (commands.Query superior) = queries superior
   serves (commands.Reconnect subordinate) = reconnects subordinate

@@ -144,12 +144,31 @@ leaves_then a b c (inr left) (inr again) = absurd (elim left.2 [ inl out ↦ nev
 
 -- A TRANSACTION, as it was
 
+abbrev pub IsOpen : Transaction → Transaction → Type 0
+IsOpen old new = (new.phase ≡ Aborted) ⊎ (old.phase ≡ Aborted → ⊥)
+
+pub open_same : (t u : Transaction) → u.phase ≡ t.phase → IsOpen t u
+open_same t u same = step t.phase refl where
+  step : (f : Phase) → t.phase ≡ f → IsOpen t u
+  step Aborted is = inl (same ∙ is)
+  step Active is = inr (λ at. let wrong : Active ≡ Aborted = sym is ∙ at in cc)
+  step Asking is = inr (λ at. let wrong : Asking ≡ Aborted = sym is ∙ at in cc)
+  step Prepared is = inr (λ at. let wrong : Prepared ≡ Aborted = sym is ∙ at in cc)
+  step Committed is = inr (λ at. let wrong : Committed ≡ Aborted = sym is ∙ at in cc)
+
+pub open_then : (a b c : Transaction) → IsOpen a b → IsOpen b c → IsOpen a c
+open_then a b c first (inl aborted) = inl aborted
+open_then a b c (inl aborted) (inr live) = absurd (live aborted)
+open_then a b c (inr live) (inr later) = inr live
+
 pub record Was (w : Work) (u : Transaction) : Type 0 where
   pub before : Transaction
   pub there : In before w.state.transactions
   pub key : u.key ≡ before.key
   pub parts : Lasts before.parts u.parts
   pub place : Leaves before.place u.place
+  -- one that is aborted stays so
+  pub live : IsOpen before u
 
 -- the party that goes out was here
 pub record Sent (w v : Work) : Type 0 where
@@ -165,7 +184,7 @@ pub record Walks (w v : Work) : Type 0 where
   pub sends : (v.answer.work ≡ w.answer.work) ⊎ Sent w v
 
 was_there : (w : Work) (u : Transaction) → In u w.state.transactions → Was w u
-was_there w u there = record { before = u; there = there; key = refl; parts = lasts_same u.parts; place = inl refl }
+was_there w u there = record { before = u; there = there; key = refl; parts = lasts_same u.parts; place = inl refl; live = open_same u u refl }
 
 pub walks_beside : (w v : Work) → v.state.transactions ≡ w.state.transactions → v.answer.work ≡ w.answer.work → Walks w v
 walks_beside w v same work = record { each = λ u there. was_there w u (subst (In u) same there); sends = inl work }
@@ -178,7 +197,7 @@ walks_then a b c first next = record {
   each = λ u there.
       let mid = next.each u there in
       let old = first.each mid.before mid.there in
-      record { before = old.before; there = old.there; key = mid.key ∙ old.key; parts = lasts_then old.before.parts mid.before.parts u.parts old.parts mid.parts; place = leaves_then old.before.place mid.before.place u.place old.place mid.place };
+      record { before = old.before; there = old.there; key = mid.key ∙ old.key; parts = lasts_then old.before.parts mid.before.parts u.parts old.parts mid.parts; place = leaves_then old.before.place mid.before.place u.place old.place mid.place; live = open_then old.before mid.before u old.live mid.live };
   sends = step first.sends next.sends;
 } where
   step : (b.answer.work ≡ a.answer.work) ⊎ Sent a b → (c.answer.work ≡ b.answer.work) ⊎ Sent b c → (c.answer.work ≡ a.answer.work) ⊎ Sent a c
@@ -192,29 +211,39 @@ walks_then a b c first next = record {
         was_here place (inr left) = absurd (elim left.2 [ inl out ↦ never_out s.party out.0 s.transaction.place out.1 s.here | inr spent ↦ never_spent s.party s.transaction.place spent.0 s.here ])
 
 -- one is altered
-alters_found : (key : Key) (f : Transaction → Transaction) (w v : Work) → v.state.transactions ≡ changed (has_key key) f w.state.transactions → (v.answer.work ≡ w.answer.work) ⊎ Sent w v → ((t : Transaction) → transaction_of key w.state ≡ Some t → ((f t).key ≡ t.key) × Lasts t.parts (f t).parts × Leaves t.place (f t).place) → Walks w v
+alters_found : (key : Key) (f : Transaction → Transaction) (w v : Work) → v.state.transactions ≡ changed (has_key key) f w.state.transactions → (v.answer.work ≡ w.answer.work) ⊎ Sent w v → ((t : Transaction) → transaction_of key w.state ≡ Some t → ((f t).key ≡ t.key) × Lasts t.parts (f t).parts × Leaves t.place (f t).place × IsOpen t (f t)) → Walks w v
 alters_found key f w v same sends may = record {
   each = λ u there. elim (in_changed (has_key key) f w.state.transactions u (subst (In u) same there)) [
     | inl old ↦ was_there w u old
     | inr new ↦
         let so = may new.0 new.1 in
         let is = new.2 in
-        record { before = new.0; there = in_found (has_key key) w.state.transactions new.0 new.1; key = ap (λ (x : Transaction). x.key) is ∙ so.0; parts = subst (λ (x : Transaction). Lasts new.0.parts x.parts) (sym is) so.1; place = subst (λ (x : Transaction). Leaves new.0.place x.place) (sym is) so.2 }
+        record { before = new.0; there = in_found (has_key key) w.state.transactions new.0 new.1; key = ap (λ (x : Transaction). x.key) is ∙ so.0; parts = subst (λ (x : Transaction). Lasts new.0.parts x.parts) (sym is) so.1; place = subst (λ (x : Transaction). Leaves new.0.place x.place) (sym is) so.2; live = subst (IsOpen new.0) (sym is) so.3 }
   ];
   sends = sends;
 }
 
-pub alters : (key : Key) (f : Transaction → Transaction) (w : Work) → ((t : Transaction) → ((f t).key ≡ t.key) × Lasts t.parts (f t).parts × ((f t).place ≡ t.place)) → Walks w (alter key f w)
-alters key f w may = alters_found key f w (alter key f w) refl (inl refl) (λ t found. let so = may t in (so.0, so.1, inl so.2))
+pub alters : (key : Key) (f : Transaction → Transaction) (w : Work) → ((t : Transaction) → ((f t).key ≡ t.key) × Lasts t.parts (f t).parts × ((f t).place ≡ t.place) × ((f t).phase ≡ t.phase)) → Walks w (alter key f w)
+alters key f w may = alters_found key f w (alter key f w) refl (inl refl) (λ t found. let so = may t in (so.0, so.1, inl so.2, open_same t (f t) so.3))
 
-enters : (phase : Phase) (key : Key) (w : Work) → Walks w (enter phase key w)
-enters phase key w = alters key (entering phase) w (λ t. (refl, lasts_same t.parts, refl))
+-- the transaction of this key is not aborted
+abbrev pub IsLive : Key → Work → Type 0
+IsLive key w = (t : Transaction) → transaction_of key w.state ≡ Some t → t.phase ≡ Aborted → ⊥
+
+enters : (phase : Phase) (key : Key) (w : Work) → IsLive key w → Walks w (enter phase key w)
+enters phase key w live = alters_found key (entering phase) w (enter phase key w) refl (inl refl) (λ t found. (refl, lasts_same t.parts, inl refl, inr (live t found)))
+
+enters_aborted : (key : Key) (w : Work) → Walks w (enter Aborted key w)
+enters_aborted key w = alters_found key (entering Aborted) w (enter Aborted key w) refl (inl refl) (λ t found. (refl, lasts_same t.parts, inl refl, inl refl))
+
+pub live_in : (t : Transaction) (w : Work) (phase : Phase) → transaction_of t.key w.state ≡ Some t → t.phase ≡ phase → (phase ≡ Aborted → ⊥) → IsLive t.key w
+live_in t w phase found at never u is aborted = never (sym at ∙ (ap (λ (x : Transaction). x.phase) (same_Some t u (sym found ∙ is)) ∙ aborted))
 
 gives : (e : Errand) (party : PartyNotes) (key : Key) (w : Work) (t : Transaction) → transaction_of key w.state ≡ Some t → t.place ≡ Here party → Walks w (give_out e party key w)
-gives e party key w t found here = alters_found key (standing_at (Out e)) w (give_out e party key w) refl (inr (record { transaction = t; there = in_found (has_key key) w.state.transactions t found; party = party; here = here; errand = e; now = refl })) (λ u is. (refl, lasts_same u.parts, inr (party, ap (λ (x : Transaction). x.place) (sym (same_Some t u (sym found ∙ is))) ∙ here, inl (e, refl))))
+gives e party key w t found here = alters_found key (standing_at (Out e)) w (give_out e party key w) refl (inr (record { transaction = t; there = in_found (has_key key) w.state.transactions t found; party = party; here = here; errand = e; now = refl })) (λ u is. (refl, lasts_same u.parts, inr (party, ap (λ (x : Transaction). x.place) (sym (same_Some t u (sym found ∙ is))) ∙ here, inl (e, refl)), open_same u (standing_at (Out e) u) refl))
 
 lets : (party : PartyNotes) (key : Key) (w : Work) (t : Transaction) → transaction_of key w.state ≡ Some t → t.place ≡ Here party → has_ready party ≡ false → Walks w (let_go party key w)
-lets party key w t found here idle = alters_found key (standing_at Spent) w (let_go party key w) refl (inl refl) (λ u is. (refl, lasts_same u.parts, inr (party, ap (λ (x : Transaction). x.place) (sym (same_Some t u (sym found ∙ is))) ∙ here, inr (refl, idle))))
+lets party key w t found here idle = alters_found key (standing_at Spent) w (let_go party key w) refl (inl refl) (λ u is. (refl, lasts_same u.parts, inr (party, ap (λ (x : Transaction). x.place) (sym (same_Some t u (sym found ∙ is))) ∙ here, inr (refl, idle)), open_same u (standing_at Spent u) refl))
 
 ends : (key : Key) (w : Work) → Walks w (end key w)
 ends key w = record { each = λ u there. was_there w u (in_without (has_key key) w.state.transactions u there); sends = inl refl }
@@ -258,18 +287,18 @@ aborts_so key w =
     let entered = enter Aborted key w in
     let told = react aborts key entered in
     let gone = dispatch key told in
-    walks_then w gone (release key gone) (walks_then w told gone (walks_then w entered told (enters Aborted key w) (reacts aborts key entered)) (dispatches key told)) (releases key gone)
+    walks_then w gone (release key gone) (walks_then w told gone (walks_then w entered told (enters_aborted key w) (reacts aborts key entered)) (dispatches key told)) (releases key gone)
 
-pub commits_so : (key : Key) (w : Work) → Walks w (commit key w)
+pub commits_so : (key : Key) (w : Work) → IsLive key w → Walks w (commit key w)
 unfolding commit
-commits_so key w =
+commits_so key w live =
     let entered = enter Committed key w in
     let told = react commits key entered in
-    walks_then w told (dispatch key told) (walks_then w entered told (enters Committed key w) (reacts commits key entered)) (dispatches key told)
+    walks_then w told (dispatch key told) (walks_then w entered told (enters Committed key w live) (reacts commits key entered)) (dispatches key told)
 
-promises_so : (key : Key) (w : Work) → Walks w (promise key w)
+promises_so : (key : Key) (w : Work) → IsLive key w → Walks w (promise key w)
 unfolding promise
-promises_so key w = let entered = enter Prepared key w in walks_then w entered (react promises key entered) (enters Prepared key w) (reacts promises key entered)
+promises_so key w live = let entered = enter Prepared key w in walks_then w entered (react promises key entered) (enters Prepared key w live) (reacts promises key entered)
 
 leaves_so : (key : Key) (w : Work) → Walks w (leave key w)
 unfolding leave
@@ -311,10 +340,10 @@ module _ (t : Transaction) (w : Work) (found : transaction_of t.key w.state ≡ 
     step true done = (ends t.key w, walks_same w, record { middle = w; walks = walks_same w; transaction = t; found = found; why = done })
     step false not = walks_same w
 
-  agrees : (owed : Option CommandName) (from : Origin) → ProceedsSo w (agree owed from t w)
-  agrees (Some command.Prepare) (origin.Subordinate (Some address) superior) = (promises_so t.key w, aborts_so t.key w, record { middle = w; walks = walks_same w; transaction = t; found = found; why = tt })
-  agrees (Some command.Commit) from = (commits_so t.key w, aborts_so t.key w, record { middle = w; walks = walks_same w; transaction = t; found = found; why = refl })
-  agrees owed from = walks_same w
+  agrees : IsLive t.key w → (owed : Option CommandName) (from : Origin) → ProceedsSo w (agree owed from t w)
+  agrees live (Some command.Prepare) (origin.Subordinate (Some address) superior) = (promises_so t.key w live, aborts_so t.key w, record { middle = w; walks = walks_same w; transaction = t; found = found; why = tt })
+  agrees live (Some command.Commit) from = (commits_so t.key w live, aborts_so t.key w, record { middle = w; walks = walks_same w; transaction = t; found = found; why = refl })
+  agrees live owed from = walks_same w
 
   waits : (phase : Phase) → Walks w (wait phase t.key w)
   waits Asking = reacts asks t.key w
@@ -323,37 +352,37 @@ module _ (t : Transaction) (w : Work) (found : transaction_of t.key w.state ≡ 
   waits Committed = walks_same w
   waits Aborted = walks_same w
 
-  concludes : (d : Decision) → ProceedsSo w (conclude d t w)
-  concludes decision.Wait = waits t.phase
-  concludes decision.Commit = agrees (owed_to_superior t.key w.state) t.origin
-  concludes decision.Abort = aborts_so t.key w
-  concludes decision.ReadOnly = leaves_so t.key w
+  concludes : IsLive t.key w → (d : Decision) → ProceedsSo w (conclude d t w)
+  concludes live decision.Wait = waits t.phase
+  concludes live decision.Commit = agrees live (owed_to_superior t.key w.state) t.origin
+  concludes live decision.Abort = aborts_so t.key w
+  concludes live decision.ReadOnly = leaves_so t.key w
 
-goes_in : (phase : Phase) (t : Transaction) (w : Work) → transaction_of t.key w.state ≡ Some t → ProceedsSo w (proceed_in phase t w)
+goes_in : (phase : Phase) (t : Transaction) (w : Work) → transaction_of t.key w.state ≡ Some t → t.phase ≡ phase → ProceedsSo w (proceed_in phase t w)
 unfolding react
-goes_in Active t w found = concludes t w found (decision_of t)
-goes_in Asking t w found = concludes t w found (decision_of t)
-goes_in Prepared t w found = walks_same w
-goes_in Committed t w found = proceeds_after w (react commits t.key w) (finish t (react commits t.key w)) (reacts commits t.key w) (finishes t (react commits t.key w) found)
-goes_in Aborted t w found = aborts_so t.key w
+goes_in Active t w found at = concludes t w found (live_in t w Active found at (λ is. let wrong : Active ≡ Aborted = is in cc)) (decision_of t)
+goes_in Asking t w found at = concludes t w found (live_in t w Asking found at (λ is. let wrong : Asking ≡ Aborted = is in cc)) (decision_of t)
+goes_in Prepared t w found at = walks_same w
+goes_in Committed t w found at = proceeds_after w (react commits t.key w) (finish t (react commits t.key w)) (reacts commits t.key w) (finishes t (react commits t.key w) found)
+goes_in Aborted t w found at = aborts_so t.key w
 
 pub proceeds_so : (key : Key) (w : Work) → ProceedsSo w (proceed key w)
 unfolding proceed
 proceeds_so key w = step (transaction_of key w.state) refl where
   step : (found : Option Transaction) → transaction_of key w.state ≡ found → ProceedsSo w (attempt_on found (λ (t : Transaction). proceed_in t.phase t) w)
   step None is = walks_same w
-  step (Some t) is = goes_in t.phase t w (there_by_key key w.state.transactions t is)
+  step (Some t) is = goes_in t.phase t w (there_by_key key w.state.transactions t is) refl
 
-pub asks_so : (t : Transaction) (w : Work) → transaction_of t.key w.state ≡ Some t → ProceedsSo w (ask t w)
+pub asks_so : (t : Transaction) (w : Work) → transaction_of t.key w.state ≡ Some t → t.phase ≡ Active → ProceedsSo w (ask t w)
 unfolding ask
-asks_so t w found = at_place t.place refl where
+asks_so t w found active = at_place t.place refl where
   at_place : (place : PartyPlace) → t.place ≡ place → ProceedsSo w (proceed t.key (asked_for_votes place t.key (enter Asking t.key w)))
   at_place (Here party) at =
       let entered = enter Asking t.key w in
       let out = give_out errand.Vote party t.key entered in
-      proceeds_after w out (proceed t.key out) (walks_then w entered out (enters Asking t.key w) (gives errand.Vote party t.key entered (entering Asking t) (found_altered t.key w.state (entering Asking) (λ t. refl) t found) at)) (proceeds_so t.key out)
-  at_place (Out e) at = proceeds_after w (enter Asking t.key w) (proceed t.key (enter Asking t.key w)) (enters Asking t.key w) (proceeds_so t.key (enter Asking t.key w))
-  at_place Spent at = proceeds_after w (enter Asking t.key w) (proceed t.key (enter Asking t.key w)) (enters Asking t.key w) (proceeds_so t.key (enter Asking t.key w))
+      proceeds_after w out (proceed t.key out) (walks_then w entered out (enters Asking t.key w (live_in t w Active found active (λ is. let wrong : Active ≡ Aborted = is in cc))) (gives errand.Vote party t.key entered (entering Asking t) (found_altered t.key w.state (entering Asking) (λ t. refl) t found) at)) (proceeds_so t.key out)
+  at_place (Out e) at = proceeds_after w (enter Asking t.key w) (proceed t.key (enter Asking t.key w)) (enters Asking t.key w (live_in t w Active found active (λ is. let wrong : Active ≡ Aborted = is in cc))) (proceeds_so t.key (enter Asking t.key w))
+  at_place Spent at = proceeds_after w (enter Asking t.key w) (proceed t.key (enter Asking t.key w)) (enters Asking t.key w (live_in t w Active found active (λ is. let wrong : Active ≡ Aborted = is in cc))) (proceeds_so t.key (enter Asking t.key w))
 
 -- FAILURES
 
@@ -372,7 +401,7 @@ misses (Some (Superior key)) w = step (transaction_of key w.state) where
   step (Some t) = by_phase t.phase
 misses (Some (Subordinate key part)) w = step (transaction_of key w.state) refl where
   loses : (t : Transaction) → transaction_of t.key w.state ≡ Some t → answer_at t.parts part ≡ None → Walks w (alter t.key (noting part (answered Lost)) w)
-  loses t found none = alters_found t.key (noting part (answered Lost)) w (alter t.key (noting part (answered Lost)) w) refl (inl refl) (λ u is. (refl, lasts_lost part u.parts (ap (λ (x : Transaction). answer_at x.parts part) (same_Some u t (sym is ∙ found)) ∙ none), inl refl))
+  loses t found none = alters_found t.key (noting part (answered Lost)) w (alter t.key (noting part (answered Lost)) w) refl (inl refl) (λ u is. (refl, lasts_lost part u.parts (ap (λ (x : Transaction). answer_at x.parts part) (same_Some u t (sym is ∙ found)) ∙ none), inl refl, open_same u (noting part (answered Lost) u) refl))
 
   none_there : (answer : Option Ballot) → is_some answer ≡ false → answer ≡ None
   none_there None is = refl
