@@ -55,12 +55,19 @@ use Rattle.tip_witness.proofs.Walking.{In, in_found}
 
 -- A BRANCH IS TOLD
 
+-- the member of this number was called, and answered so
+abbrev pub is_called_so : (Call → Bool) → ℕ → Member → Bool
+is_called_so test number m = (m.number == number) && option_map_or test m.call false
+
+abbrev pub called_among : (Call → Bool) → List Member → ℕ × List ℕ → Bool
+called_among test members branch = list_any (is_called_so test branch.0) members
+
 -- it has done what it was told
 abbrev has_done_so : ℕ → Member → Bool
-has_done_so number m = (m.number == number) && option_map_or is_done_commit m.call false
+has_done_so number m = is_called_so is_done_commit number m
 
 abbrev done_among : List Member → ℕ × List ℕ → Bool
-done_among members branch = list_any (has_done_so branch.0) members
+done_among members branch = called_among is_done_commit members branch
 
 -- it waits still, or has done it
 abbrev Told : List Member → ℕ × List ℕ → Type 0
@@ -114,22 +121,22 @@ told_by errand.Vote Back.Aborted members branch never is = inl is
 told_by errand.Vote Back.Undone members branch never is = inl is
 told_by errand.Idle back members branch never is = inl is
 
--- what it has done was called
-calls_shown : (realm id : List ℕ) (party : PartyNotes) (members : List Member) (branch : ℕ × List ℕ) → bytes_eq id party.id ≡ true → done_among members branch ≡ true → list_any (is_called realm id is_done_commit branch.0) (filter_map (λ (m : Member). option_map (Output.Called party.id m.number m.standing.badge) m.call) members) ≡ true
-calls_shown realm id party [] branch named is = is
-calls_shown realm id party (m ∷ members) branch named is = step m.call (or_cases (has_done_so branch.0 m) (done_among members branch) is) (calls_shown realm id party members branch named) where
+-- what it answered so is among its calls
+pub calls_shown : (test : Call → Bool) (realm id : List ℕ) (party : PartyNotes) (members : List Member) (branch : ℕ × List ℕ) → bytes_eq id party.id ≡ true → called_among test members branch ≡ true → list_any (is_called realm id test branch.0) (filter_map (λ (m : Member). option_map (Output.Called party.id m.number m.standing.badge) m.call) members) ≡ true
+calls_shown test realm id party [] branch named is = is
+calls_shown test realm id party (m ∷ members) branch named is = step m.call (or_cases (is_called_so test branch.0 m) (called_among test members branch) is) (calls_shown test realm id party members branch named) where
   rest : List Output
   rest = filter_map (λ (m : Member). option_map (Output.Called party.id m.number m.standing.badge) m.call) members
 
-  step : (call : Option Call) → (((m.number == branch.0) && option_map_or is_done_commit m.call false) ≡ true) ⊎ (done_among members branch ≡ true) → (done_among members branch ≡ true → list_any (is_called realm id is_done_commit branch.0) (filter_map (λ (m : Member). option_map (Output.Called party.id m.number m.standing.badge) m.call) members) ≡ true) → list_any (is_called realm id is_done_commit branch.0) (cons_option (option_map (Output.Called party.id m.number m.standing.badge) m.call) (filter_map (λ (m : Member). option_map (Output.Called party.id m.number m.standing.badge) m.call) members)) ≡ true
+  step : (call : Option Call) → (((m.number == branch.0) && option_map_or test m.call false) ≡ true) ⊎ (called_among test members branch ≡ true) → (called_among test members branch ≡ true → list_any (is_called realm id test branch.0) (filter_map (λ (m : Member). option_map (Output.Called party.id m.number m.standing.badge) m.call) members) ≡ true) → list_any (is_called realm id test branch.0) (cons_option (option_map (Output.Called party.id m.number m.standing.badge) m.call) (filter_map (λ (m : Member). option_map (Output.Called party.id m.number m.standing.badge) m.call) members)) ≡ true
   step c (inr later) next = behind m.call (next later) where
-    behind : (c : Option Call) → list_any (is_called realm id is_done_commit branch.0) (filter_map (λ (m : Member). option_map (Output.Called party.id m.number m.standing.badge) m.call) members) ≡ true → list_any (is_called realm id is_done_commit branch.0) (cons_option (option_map (Output.Called party.id m.number m.standing.badge) c) (filter_map (λ (m : Member). option_map (Output.Called party.id m.number m.standing.badge) m.call) members)) ≡ true
+    behind : (c : Option Call) → list_any (is_called realm id test branch.0) (filter_map (λ (m : Member). option_map (Output.Called party.id m.number m.standing.badge) m.call) members) ≡ true → list_any (is_called realm id test branch.0) (cons_option (option_map (Output.Called party.id m.number m.standing.badge) c) (filter_map (λ (m : Member). option_map (Output.Called party.id m.number m.standing.badge) m.call) members)) ≡ true
     behind None is = is
-    behind (Some call) is = or_right (is_called realm id is_done_commit branch.0 (Output.Called party.id m.number m.standing.badge call)) _ is
-  step c (inl here) next = now m.call (and_parts (m.number == branch.0) (option_map_or is_done_commit m.call false) here).0 (and_parts (m.number == branch.0) (option_map_or is_done_commit m.call false) here).1 where
-    now : (c : Option Call) → (m.number == branch.0) ≡ true → option_map_or is_done_commit c false ≡ true → list_any (is_called realm id is_done_commit branch.0) (cons_option (option_map (Output.Called party.id m.number m.standing.badge) c) (filter_map (λ (m : Member). option_map (Output.Called party.id m.number m.standing.badge) m.call) members)) ≡ true
+    behind (Some call) is = or_right (is_called realm id test branch.0 (Output.Called party.id m.number m.standing.badge call)) _ is
+  step c (inl here) next = now m.call (and_parts (m.number == branch.0) (option_map_or test m.call false) here).0 (and_parts (m.number == branch.0) (option_map_or test m.call false) here).1 where
+    now : (c : Option Call) → (m.number == branch.0) ≡ true → option_map_or test c false ≡ true → list_any (is_called realm id test branch.0) (cons_option (option_map (Output.Called party.id m.number m.standing.badge) c) (filter_map (λ (m : Member). option_map (Output.Called party.id m.number m.standing.badge) m.call) members)) ≡ true
     now None number is = absurd (let wrong : false ≡ true = is in cc)
-    now (Some call) number is = or_left (is_called realm id is_done_commit branch.0 (Output.Called party.id m.number m.standing.badge call)) _ (and_from _ _ (and_from _ _ named number) is)
+    now (Some call) number is = or_left (is_called realm id test branch.0 (Output.Called party.id m.number m.standing.badge call)) _ (and_from _ _ (and_from _ _ named number) is)
 
 -- BEFORE IT GOES ON
 
@@ -207,7 +214,7 @@ module _ (world : World) (sound : IsSound world) (party : PartyNotes) (rest : Li
     | inl done ↦ or_left (has_done realm all id b) _ done
     | inr waits ↦ elim (told_by party.errand back party.members b (never_aborts branches subs there) waits) [
       | inl still ↦ or_right (has_done realm all id b) _ still
-      | inr done ↦ or_left (has_done realm all id b) _ (shown_now b (brings (is_called realm id is_done_commit b.0) (calls_shown realm id (back_of party back) (back_of party back).members b named done)))
+      | inr done ↦ or_left (has_done realm all id b) _ (shown_now b (brings (is_called realm id is_done_commit b.0) (calls_shown is_done_commit realm id (back_of party back) (back_of party back).members b named done)))
     ]
   ]) ((cared t listed branches subs there).out e at party (subst (In party) (sym out) (inl refl)) named its_epoch) where
     shown_now : (b : ℕ × List ℕ) → list_any (is_called realm id is_done_commit b.0) moment.shown ≡ true → has_done realm all id b ≡ true

@@ -61,7 +61,7 @@ part_fits table start (suc m) (q ∷ parts) key cs p all at =
     let next : m + (start + 1) ≡ suc m + start = omega arith in
     subst (λ n. table (link (find (is_part_of key n) cs)) p ≡ true) next (part_fits table (start + 1) m parts key cs p (and_parts (table (link (find (is_part_of key start) cs)) q) (parts_from table (start + 1) parts key cs) all).1 at)
 
-behind_local : (table : Link → Participant → Bool) (party : PartyPlace → Option Ballot → Bool) (place : PartyPlace) (m : ℕ) (parts : List Participant) (key : Key) (cs : List Connection) (p : Participant) → have_parts table party place parts key cs ≡ true → slice_get parts (suc m) ≡ Some p → table (link (find (is_part_of key (suc m)) cs)) p ≡ true
+pub behind_local : (table : Link → Participant → Bool) (party : PartyPlace → Option Ballot → Bool) (place : PartyPlace) (m : ℕ) (parts : List Participant) (key : Key) (cs : List Connection) (p : Participant) → have_parts table party place parts key cs ≡ true → slice_get parts (suc m) ≡ Some p → table (link (find (is_part_of key (suc m)) cs)) p ≡ true
 behind_local table party place m [] key cs p all at = absurd (cc)
 behind_local table party place m (local ∷ parts) key cs p all at =
     let next : m + 1 ≡ suc m = omega arith in
@@ -74,7 +74,7 @@ noted_all test zero note (p ∷ parts) all may = let both = and_parts (test p) (
 noted_all test (suc m) note (p ∷ parts) all may = let both = and_parts (test p) (list_all test parts) all in and_from _ _ both.0 (noted_all test m note parts both.1 may)
 
 -- what is noted is of a part
-noted_partly : (a : Awaited) (r : Response) (note : Participant → Participant) → note_of a r ≡ Some note → is_partly a ≡ true
+pub noted_partly : (a : Awaited) (r : Response) (note : Participant → Participant) → note_of a r ≡ Some note → is_partly a ≡ true
 noted_partly Push r note so = refl
 noted_partly Prepare r note so = refl
 noted_partly Commit r note so = refl
@@ -89,7 +89,7 @@ committed_note Push r note so at answer fits = absurd (never_pushed at answer fi
 committed_note Prepare r note so at answer fits = absurd (never_asked at answer fits)
 committed_note a r note so at answer fits = absurd (none-some note so)
 
-primary : (c : Connection) (a : Awaited) → c.awaited ≡ Some a → (side : Side) → acts_as side c ≡ true → side ≡ Primary
+pub primary : (c : Connection) (a : Awaited) → c.awaited ≡ Some a → (side : Side) → acts_as side c ≡ true → side ≡ Primary
 primary c a waits Primary acts = refl
 primary c a waits Secondary acts = absurd (let wrong : false ≡ true = sym (ap is_none waits) ∙ acts in cc)
 

@@ -1,3 +1,4 @@
+pub mod Ballots
 pub mod Bases
 pub mod Beginning
 pub mod Coming
@@ -6,6 +7,8 @@ pub mod Happening
 pub mod Hearing
 pub mod Keeping
 pub mod Keptness
+pub mod Linking
 pub mod Outcomes
 pub mod Walking
+pub mod Willing
 pub mod Witnessed
