@@ -101,15 +101,10 @@ part_in_role : Option Role → ℕ
 part_in_role (Some (Subordinate key part)) = part
 part_in_role role = 0
 
-module _ (world : World) (sound : IsSound world) (moments : List Moment) (moment : Moment) (at : moment.world ≡ world)
-    (shown : AreShown world.state.head.name (moments ++ moment ∷ []) world.state.transactions) (cared : AreCared world.state.head.name (moments ++ moment ∷ []) world.state.head.epoch world.state.transactions world.errands world.rows)
-    (c : Connection) (here : connection_of c.number world.state ≡ Some c) (key : Key) (part : ℕ) (on : c.role ≡ Some (Subordinate key part)) (a : Awaited) (waits : c.awaited ≡ Some a) (r : Response) (note : Participant → Participant) (so : note_of a r ≡ Some note)
-    (heard : heard_in moment ≡ Some (record { connection = c; response = r })) where
+-- A CONNECTION OF A PART that is awaited
+module _ (world : World) (sound : IsSound world) (c : Connection) (here : connection_of c.number world.state ≡ Some c) (key : Key) (part : ℕ) (on : c.role ≡ Some (Subordinate key part)) (a : Awaited) (waits : c.awaited ≡ Some a) (partly : is_partly a ≡ true) where
   abbrev realm : List ℕ
   realm = world.state.head.name
-
-  abbrev all : List Moment
-  all = moments ++ moment ∷ []
 
   w : Work
   w = entered world.state
@@ -124,7 +119,7 @@ module _ (world : World) (sound : IsSound world) (moments : List Moment) (moment
 
   its : PartOf c w.state
   unfolding w
-  its = part_now c w whole here a side waits (noted_partly a r note so)
+  its = part_now c w whole here a side waits partly
 
   same_key_of : its.transaction.key ≡ key
   unfolding key_in_role
@@ -133,6 +128,11 @@ module _ (world : World) (sound : IsSound world) (moments : List Moment) (moment
   same_part : suc its.place ≡ part
   unfolding part_in_role
   same_part = ap part_in_role (sym its.on ∙ on)
+
+  -- what it is in the table of parts
+  its_fits : is_part its.transaction.phase (Awaits c.state (Some a)) its.held.part.answer ≡ true
+  unfolding w
+  its_fits = (in_table its.transaction.phase (Awaits c.state (Some a)) its.held.part (subst (λ l. is_part_in its.transaction.phase l its.held.part ≡ true) (link_now c w whole here a side waits partly) its.held.holds)).fits
 
   -- the part that is noted, as its table says
   module _ (t : Transaction) (found : transaction_of key world.state ≡ Some t) where
@@ -149,69 +149,79 @@ module _ (world : World) (sound : IsSound world) (moments : List Moment) (moment
     listed : In t world.state.transactions
     listed = in_found (has_key key) world.state.transactions t found
 
-    fits : (p : Participant) → slice_get t.parts part ≡ Some p → InTable t.phase (Awaits c.state (Some a)) p
+    pub fits : (p : Participant) → slice_get t.parts part ≡ Some p → InTable t.phase (Awaits c.state (Some a)) p
     unfolding w
     fits p is =
         let parts = (in_phase t.key t world.state found_own (in_all (is_transaction world.state) world.state.transactions t sound.transactions listed)).owned.parts in
         let role : c.role ≡ Some (Subordinate t.key (suc its.place)) = on ∙ (λ i. Some (Subordinate (key_is i) (sym same_part i))) in
-        let link_is = ap link (part_there its.place t c w whole here found_own role) ∙ link_now c w whole here a side waits (noted_partly a r note so) in
+        let link_is = ap link (part_there its.place t c w whole here found_own role) ∙ link_now c w whole here a side waits partly in
         in_table t.phase (Awaits c.state (Some a)) p (subst (λ l. is_part_in t.phase l p ≡ true) link_is (behind_local (is_part_in t.phase) (is_party t.phase) t.place its.place t.parts t.key world.state.connections p parts (subst (λ n. slice_get t.parts n ≡ Some p) (sym same_part) is)))
 
-    -- it is heard to acknowledge
-    abbrev id : List ℕ
+    pub fits_somewhere : (answer : Option Ballot) × (is_part t.phase (Awaits c.state (Some a)) answer ≡ true)
+    fits_somewhere = (its.held.part.answer, subst (λ (x : Transaction). is_part x.phase (Awaits c.state (Some a)) its.held.part.answer ≡ true) one its_fits)
+
+    abbrev pub id : List ℕ
     id = identifier realm t.key
 
-    is_on : (p : Participant) → slice_get t.parts part ≡ Some p → part_on realm id c moment.world.state ≡ Some p
-    is_on p is =
-        let known = found_by_id id world.state t (in_bounds world.state sound.bounded).spelled found_own (bytes_eq-self id) in
-        let spells : part_of realm id c.role ≡ Some part = ap (part_of realm id) on ∙ ap (λ b. cond b (Some part) None) (subst (λ k. bytes_eq id (identifier realm k) ≡ true) (sym key_is) (bytes_eq-self id)) in
-        (λ i. option_and_then (λ part. option_and_then (λ (t : Transaction). slice_get t.parts part) (identified_by id (at i).state)) (spells i)) ∙ (ap (option_and_then (λ (t : Transaction). slice_get t.parts part)) known ∙ is)
+  -- WHAT IS HEARD of it
+  module _ (moments : List Moment) (moment : Moment) (at : moment.world ≡ world)
+      (shown : AreShown world.state.head.name (moments ++ moment ∷ []) world.state.transactions) (cared : AreCared world.state.head.name (moments ++ moment ∷ []) world.state.head.epoch world.state.transactions world.errands world.rows)
+      (r : Response) (note : Participant → Participant) (so : note_of a r ≡ Some note) (heard : heard_in moment ≡ Some (record { connection = c; response = r })) where
+    abbrev all : List Moment
+    all = moments ++ moment ∷ []
 
-    acknowledges : is_acknowledgement (Some a) r ≡ true → (p : Participant) → slice_get t.parts part ≡ Some p → list_all (λ pair. list_any (has_acknowledged realm id pair) all) (pair_of p.address p.id) ≡ true
-    acknowledges is p there = step p.address p.id refl refl where
-      pair_heard : (address subordinate : List ℕ) → p.address ≡ Some address → p.id ≡ Some subordinate → has_acknowledged realm id (address, subordinate) moment ≡ true
-      pair_heard address subordinate x y =
-          let test = λ (came : Came). is_acknowledgement came.connection.awaited came.response && option_map_or (is_pair address subordinate) (part_on realm id came.connection moment.world.state) false in
-          ap (λ o. option_map_or test o false) heard ∙ and_from _ _ (ap (λ o. is_acknowledgement o r) waits ∙ is) (ap (λ o. option_map_or (is_pair address subordinate) o false) (is_on p there) ∙ and_from _ _ (ap (is_text address) x ∙ bytes_eq-self address) (ap (is_text subordinate) y ∙ bytes_eq-self subordinate))
+    module _ (t : Transaction) (found : transaction_of key world.state ≡ Some t) where
+      is_on : (p : Participant) → slice_get t.parts part ≡ Some p → part_on realm (id t found) c moment.world.state ≡ Some p
+      is_on p is =
+          let known = found_by_id (id t found) world.state t (in_bounds world.state sound.bounded).spelled (found_own t found) (bytes_eq-self (id t found)) in
+          let spells : part_of realm (id t found) c.role ≡ Some part = ap (part_of realm (id t found)) on ∙ ap (λ b. cond b (Some part) None) (subst (λ k. bytes_eq (id t found) (identifier realm k) ≡ true) (sym (key_is t found)) (bytes_eq-self (id t found))) in
+          (λ i. option_and_then (λ part. option_and_then (λ (t : Transaction). slice_get t.parts part) (identified_by (id t found) (at i).state)) (spells i)) ∙ (ap (option_and_then (λ (t : Transaction). slice_get t.parts part)) known ∙ is)
 
-      step : (address subordinate : Option (List ℕ)) → p.address ≡ address → p.id ≡ subordinate → list_all (λ pair. list_any (has_acknowledged realm id pair) all) (pair_of address subordinate) ≡ true
-      step (Some address) (Some subordinate) x y = and_from _ _ (list_any-append (has_acknowledged realm id (address, subordinate)) moments (moment ∷ []) ∙ or_right (list_any (has_acknowledged realm id (address, subordinate)) moments) _ (or_left (has_acknowledged realm id (address, subordinate) moment) _ (pair_heard address subordinate x y))) refl
-      step None subordinate x y = refl
-      step (Some address) None x y = refl
+      acknowledges : is_acknowledgement (Some a) r ≡ true → (p : Participant) → slice_get t.parts part ≡ Some p → list_all (λ pair. list_any (has_acknowledged realm (id t found) pair) all) (pair_of p.address p.id) ≡ true
+      acknowledges is p there = step p.address p.id refl refl where
+        pair_heard : (address subordinate : List ℕ) → p.address ≡ Some address → p.id ≡ Some subordinate → has_acknowledged realm (id t found) (address, subordinate) moment ≡ true
+        pair_heard address subordinate x y =
+            let test = λ (came : Came). is_acknowledgement came.connection.awaited came.response && option_map_or (is_pair address subordinate) (part_on realm (id t found) came.connection moment.world.state) false in
+            ap (λ o. option_map_or test o false) heard ∙ and_from _ _ (ap (λ o. is_acknowledgement o r) waits ∙ is) (ap (λ o. option_map_or (is_pair address subordinate) o false) (is_on p there) ∙ and_from _ _ (ap (is_text address) x ∙ bytes_eq-self address) (ap (is_text subordinate) y ∙ bytes_eq-self subordinate))
 
-    -- what is noted of it is shown
-    note_shown : (b : Awaited) (s : Response) → b ≡ a → s ≡ r → note_of b s ≡ Some note → (p : Participant) → slice_get t.parts part ≡ Some p → is_shown realm all id p ≡ true → is_shown realm all id (note p) ≡ true
-    note_shown Push (responses.Pushed name) this that so p there is = subst (λ f. is_shown realm all id (f p) ≡ true) (same_Some _ note so) (or_left (not p.acknowledged) _ (unacknowledged (not p.acknowledged) (subst (λ x. not p.acknowledged || may_have_acknowledged t.phase (Awaits c.state (Some x)) p.answer ≡ true) (sym this) (fits p there).told))) where
-      never_yet : (f : Phase) (answer : Option Ballot) → may_have_acknowledged f (Awaits c.state (Some Push)) answer ≡ false
-      never_yet Committed answer = refl
-      never_yet f answer = refl
+        step : (address subordinate : Option (List ℕ)) → p.address ≡ address → p.id ≡ subordinate → list_all (λ pair. list_any (has_acknowledged realm (id t found) pair) all) (pair_of address subordinate) ≡ true
+        step (Some address) (Some subordinate) x y = and_from _ _ (list_any-append (has_acknowledged realm (id t found) (address, subordinate)) moments (moment ∷ []) ∙ or_right (list_any (has_acknowledged realm (id t found) (address, subordinate)) moments) _ (or_left (has_acknowledged realm (id t found) (address, subordinate) moment) _ (pair_heard address subordinate x y))) refl
+        step None subordinate x y = refl
+        step (Some address) None x y = refl
 
-      unacknowledged : (b : Bool) → b || may_have_acknowledged t.phase (Awaits c.state (Some Push)) p.answer ≡ true → b ≡ true
-      unacknowledged true is = refl
-      unacknowledged false is = absurd (both_ways _ (never_yet t.phase p.answer) is)
-    note_shown Push (responses.AlreadyPushed name) this that so p there is = subst (λ f. is_shown realm all id (f p) ≡ true) (same_Some _ note so) is
-    note_shown Push responses.NotPushed this that so p there is = subst (λ f. is_shown realm all id (f p) ≡ true) (same_Some _ note so) is
-    note_shown Prepare responses.Prepared this that so p there is = subst (λ f. is_shown realm all id (f p) ≡ true) (same_Some _ note so) is
-    note_shown Prepare responses.Aborted this that so p there is = subst (λ f. is_shown realm all id (f p) ≡ true) (same_Some _ note so) is
-    note_shown Prepare responses.ReadOnly this that so p there is = subst (λ f. is_shown realm all id (f p) ≡ true) (same_Some _ note so) is
-    note_shown Commit responses.Committed this that so p there is = subst (λ f. is_shown realm all id (f p) ≡ true) (same_Some _ note so) (acknowledges (λ i. is_acknowledgement (Some (sym this i)) (sym that i)) p there)
-    note_shown Reconnect responses.NotReconnected this that so p there is = subst (λ f. is_shown realm all id (f p) ≡ true) (same_Some _ note so) (acknowledges (λ i. is_acknowledgement (Some (sym this i)) (sym that i)) p there)
-    note_shown b s this that so p there is = absurd (none-some note so)
+      -- what is noted of it is shown
+      note_shown : (b : Awaited) (s : Response) → b ≡ a → s ≡ r → note_of b s ≡ Some note → (p : Participant) → slice_get t.parts part ≡ Some p → is_shown realm all (id t found) p ≡ true → is_shown realm all (id t found) (note p) ≡ true
+      note_shown Push (responses.Pushed name) this that so p there is = subst (λ f. is_shown realm all (id t found) (f p) ≡ true) (same_Some _ note so) (or_left (not p.acknowledged) _ (unacknowledged (not p.acknowledged) (subst (λ x. not p.acknowledged || may_have_acknowledged t.phase (Awaits c.state (Some x)) p.answer ≡ true) (sym this) (fits t found p there).told))) where
+        never_yet : (f : Phase) (answer : Option Ballot) → may_have_acknowledged f (Awaits c.state (Some Push)) answer ≡ false
+        never_yet Committed answer = refl
+        never_yet f answer = refl
 
-    pairs_stay : t.phase ≡ Committed → pairs (noting part note t) ≡ pairs t
-    unfolding w
-    pairs_stay committed = unchanged its.held.part.answer (subst (λ f. is_part f (Awaits c.state (Some a)) its.held.part.answer ≡ true) (ap (λ (x : Transaction). x.phase) one ∙ committed) (in_table its.transaction.phase (Awaits c.state (Some a)) its.held.part (subst (λ l. is_part_in its.transaction.phase l its.held.part ≡ true) (link_now c w whole here a side waits (noted_partly a r note so)) its.held.holds)).fits) where
-      unchanged : (answer : Option Ballot) → is_part Committed (Awaits c.state (Some a)) answer ≡ true → pairs (noting part note t) ≡ pairs t
-      unchanged answer fits = subst (λ f. pairs (noting part f t) ≡ pairs t) (sym (committed_note a r note so c.state answer fits)) (subst (λ n. pairs (noting n acknowledged t) ≡ pairs t) same_part (same_pairs_noted its.place acknowledged t (λ p. (refl, refl, refl))))
+        unacknowledged : (b : Bool) → b || may_have_acknowledged t.phase (Awaits c.state (Some Push)) p.answer ≡ true → b ≡ true
+        unacknowledged true is = refl
+        unacknowledged false is = absurd (both_ways _ (never_yet t.phase p.answer) is)
+      note_shown Push (responses.AlreadyPushed name) this that so p there is = subst (λ f. is_shown realm all (id t found) (f p) ≡ true) (same_Some _ note so) is
+      note_shown Push responses.NotPushed this that so p there is = subst (λ f. is_shown realm all (id t found) (f p) ≡ true) (same_Some _ note so) is
+      note_shown Prepare responses.Prepared this that so p there is = subst (λ f. is_shown realm all (id t found) (f p) ≡ true) (same_Some _ note so) is
+      note_shown Prepare responses.Aborted this that so p there is = subst (λ f. is_shown realm all (id t found) (f p) ≡ true) (same_Some _ note so) is
+      note_shown Prepare responses.ReadOnly this that so p there is = subst (λ f. is_shown realm all (id t found) (f p) ≡ true) (same_Some _ note so) is
+      note_shown Commit responses.Committed this that so p there is = subst (λ f. is_shown realm all (id t found) (f p) ≡ true) (same_Some _ note so) (acknowledges (λ i. is_acknowledgement (Some (sym this i)) (sym that i)) p there)
+      note_shown Reconnect responses.NotReconnected this that so p there is = subst (λ f. is_shown realm all (id t found) (f p) ≡ true) (same_Some _ note so) (acknowledges (λ i. is_acknowledgement (Some (sym this i)) (sym that i)) p there)
+      note_shown b s this that so p there is = absurd (none-some note so)
 
-  pub base_noted : Base realm all world.state.head.epoch (alter key (noting part note) (entered world.state)) world.errands world.rows
-  base_noted =
-      let base = base_entered world sound all shown cared in
-      base_altered realm all world.state.head.epoch (entered world.state) world.errands world.errands world.rows key (noting part note) (λ t. refl) (λ party is. is) base (λ t found. record {
-        own = λ p is. base.own t p (listed t found) is;
-        free = λ p is. base.free t p (listed t found) is;
-        shown = noted_all (is_shown realm all (identifier realm t.key)) part note t.parts (shown t (listed t found)) (note_shown t found a r refl refl so);
-        cared = cared t (listed t found);
-        pairs_so = pairs_stay t found;
-        phase = refl;
-      })
+      pairs_stay : t.phase ≡ Committed → pairs (noting part note t) ≡ pairs t
+      unfolding w
+      pairs_stay committed = unchanged its.held.part.answer (subst (λ f. is_part f (Awaits c.state (Some a)) its.held.part.answer ≡ true) (ap (λ (x : Transaction). x.phase) (one t found) ∙ committed) its_fits) where
+        unchanged : (answer : Option Ballot) → is_part Committed (Awaits c.state (Some a)) answer ≡ true → pairs (noting part note t) ≡ pairs t
+        unchanged answer fits = subst (λ f. pairs (noting part f t) ≡ pairs t) (sym (committed_note a r note so c.state answer fits)) (subst (λ n. pairs (noting n acknowledged t) ≡ pairs t) same_part (same_pairs_noted its.place acknowledged t (λ p. (refl, refl, refl))))
+
+    pub base_noted : Base realm all world.state.head.epoch (alter key (noting part note) (entered world.state)) world.errands world.rows
+    base_noted =
+        let base = base_entered world sound all shown cared in
+        base_altered realm all world.state.head.epoch (entered world.state) world.errands world.errands world.rows key (noting part note) (λ t. refl) (λ party is. is) base (λ t found. record {
+          own = λ p is. base.own t p (listed t found) is;
+          free = λ p is. base.free t p (listed t found) is;
+          shown = noted_all (is_shown realm all (identifier realm t.key)) part note t.parts (shown t (listed t found)) (note_shown t found a r refl refl so);
+          cared = cared t (listed t found);
+          pairs_so = pairs_stay t found;
+          phase = refl;
+        })

@@ -62,7 +62,7 @@ in_option None x is = absurd is
 in_option (Some y) x (inl same) = ap Some (sym same)
 in_option (Some y) x (inr is) = absurd is
 
-in_key : (k : Key) (ts : List Transaction) (t : Transaction) → list_any (is_same k) (keys_of ts) ≡ false → In t ts → is_same k t.key ≡ false
+pub in_key : (k : Key) (ts : List Transaction) (t : Transaction) → list_any (is_same k) (keys_of ts) ≡ false → In t ts → is_same k t.key ≡ false
 in_key k [] t none is = absurd is
 in_key k (u ∷ ts) t none (inl same) = ap (λ (x : Transaction). is_same k x.key) same ∙ (or_parts (is_same k u.key) (list_any (is_same k) (keys_of ts)) none).0
 in_key k (u ∷ ts) t none (inr is) = in_key k ts t (or_parts (is_same k u.key) (list_any (is_same k) (keys_of ts)) none).1 is

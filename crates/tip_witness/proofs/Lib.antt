@@ -12,3 +12,4 @@ pub mod Outcomes
 pub mod Walking
 pub mod Willing
 pub mod Witnessed
+pub mod Wronging

@@ -281,13 +281,16 @@ releases key w = step (transaction_of key w.state) where
   step None = walks_same w
   step (Some t) = may_end (is_spent t.place && not (list_any (is_on key) w.state.connections))
 
-pub aborts_so : (key : Key) (w : Work) → Walks w (abort key w)
+pub aborted_goes : (key : Key) (w : Work) → Walks (enter Aborted key w) (abort key w)
 unfolding abort
-aborts_so key w =
+aborted_goes key w =
     let entered = enter Aborted key w in
     let told = react aborts key entered in
     let gone = dispatch key told in
-    walks_then w gone (release key gone) (walks_then w told gone (walks_then w entered told (enters_aborted key w) (reacts aborts key entered)) (dispatches key told)) (releases key gone)
+    walks_then entered gone (release key gone) (walks_then entered told gone (reacts aborts key entered) (dispatches key told)) (releases key gone)
+
+pub aborts_so : (key : Key) (w : Work) → Walks w (abort key w)
+aborts_so key w = walks_then w (enter Aborted key w) (abort key w) (enters_aborted key w) (aborted_goes key w)
 
 pub commits_so : (key : Key) (w : Work) → IsLive key w → Walks w (commit key w)
 unfolding commit

@@ -49,7 +49,7 @@ use Rattle.tip_agreement.proofs.Owned.{key_found}
 use Rattle.tip_witness.proofs.Bases.{base_entered}
 use Rattle.tip_witness.proofs.Coming.{base_again}
 use Rattle.tip_witness.proofs.Happening.{Doubted, EndsSo, Says, ends_so, happens_so, returns_so}
-use Rattle.tip_witness.proofs.Hearing.{base_noted}
+use Rattle.tip_witness.proofs.Hearing.{base_noted, noted_partly}
 use Rattle.tip_witness.proofs.Keeping.{AreCared, AreShown, Base, Finished, are_shown_more, cares_more, ends_cared, ends_shown, in_all, removed_done, removed_spelled}
 use Rattle.tip_witness.proofs.Outcomes.{brings_so, none_refused, removed_so}
 use Rattle.tip_witness.proofs.Walking.{Asked, In}
@@ -171,7 +171,7 @@ module _ (serving : Serving) (world : World) (sound : IsSound world) (moments : 
             let w = alter noted.key (noting noted.part noted.note) (entered world.state) in
             inl (record {
               begins = w;
-              base = base_noted world sound moments moment met was.shown was.cared says.connection (seated_there says.seat world.state says.connection says.there) noted.key noted.part noted.on noted.awaited noted.waits noted.response noted.note noted.so (heard_so says is);
+              base = base_noted world sound says.connection (seated_there says.seat world.state says.connection says.there) noted.key noted.part noted.on noted.awaited noted.waits (noted_partly noted.awaited noted.response noted.note noted.so) moments moment met was.shown was.cared noted.response noted.note noted.so (heard_so says is);
               goes = ends_so w tried noted.goes;
             })
 
