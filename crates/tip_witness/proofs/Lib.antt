@@ -1,3 +1,4 @@
+pub mod Asking
 pub mod Ballots
 pub mod Bases
 pub mod Beginning

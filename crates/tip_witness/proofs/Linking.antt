@@ -42,7 +42,7 @@ use Rattle.tip_agreement.proofs.Owned.{have_parts, in_phase, key_found}
 use Rattle.tip_agreement.proofs.Spelling.{keys_told}
 use Rattle.tip_witness.proofs.Bases.{there}
 use Rattle.tip_witness.proofs.Hearing.{behind_local}
-use Rattle.tip_witness.proofs.Keeping.{in_all}
+use Rattle.tip_witness.proofs.Keeping.{in_all, in_apart}
 use Rattle.tip_witness.proofs.Walking.{In, in_found}
 
 -- Lists
@@ -65,10 +65,10 @@ module _ {X Y : Type 0} (f : X → Option Y) where
     step (Some v) here (inl same) later = inl (same_Some y v (sym at ∙ (ap f same ∙ here)))
     step (Some v) here (inr is) later = inr (later is)
 
-number_is : (n m : ℕ) → (n == m) ≡ true → n ≡ m
+pub number_is : (n m : ℕ) → (n == m) ≡ true → n ≡ m
 number_is n m is = grind (arith, nat_tests, is)
 
-number_self : (n : ℕ) → (n == n) ≡ true
+pub number_self : (n : ℕ) → (n == n) ≡ true
 number_self n = grind (arith, nat_tests)
 
 pub in_numbers : (q : ℕ) (xs : List ℕ) → list_any (λ other. q == other) xs ≡ true → In q xs
@@ -221,6 +221,33 @@ module _ (world : World) (sound : IsSound world) where
       by_part None at is none = absurd (let wrong : false ≡ true = is in cc)
       by_part (Some p) at is none = by_link p none (in_table t.phase (link (find (is_part_of t.key (suc m)) world.state.connections)) p (at_place m p at)).fits (find (is_part_of t.key (suc m)) world.state.connections) refl
 
+  -- a role is of a transaction that is here, and of a part that it has
+  pub record Placed (key : Key) (part : ℕ) : Type 0 where
+    pub transaction : Transaction
+    pub found : transaction_of key world.state ≡ Some transaction
+    pub least : nat_le 1 part ≡ true
+    pub there : is_some (slice_get transaction.parts part) ≡ true
+
+  pub placed_so : (c : Connection) → In c world.state.connections → (key : Key) (part : ℕ) → c.role ≡ Some (Subordinate key part) → Placed key part
+  placed_so c is key part role =
+      let placed = in_all (is_role_in world.state) (roles_of world.state) (Subordinate key part) (and_parts (list_all (is_role_in world.state) (roles_of world.state)) _ sound.roles).0 (mapped_in (λ (c : Connection). c.role) world.state.connections c (Subordinate key part) is role) in
+      let both = and_parts (nat_le 1 part) (option_map_or (λ (t : Transaction). nat_lt part (length t.parts)) (transaction_of key world.state) false) placed in
+      by_found (transaction_of key world.state) refl both.0 both.1 where
+        by_found : (found : Option Transaction) → transaction_of key world.state ≡ found → nat_le 1 part ≡ true → option_map_or (λ (t : Transaction). nat_lt part (length t.parts)) found false ≡ true → Placed key part
+        by_found None at least is = absurd (let wrong : false ≡ true = is in cc)
+        by_found (Some t) at least is = record { transaction = t; found = at; least = least; there = some_at part t.parts is }
+
+  -- the transaction of a connection is the one of its identifier
+  pub role_of : (t : Transaction) → In t world.state.transactions → (c : Connection) → In c world.state.connections → (key : Key) (part : ℕ) → c.role ≡ Some (Subordinate key part) → bytes_eq (identifier realm t.key) (identifier realm key) ≡ true → (key ≡ t.key) × (transaction_of key world.state ≡ Some t)
+  role_of t listed c is key part role spells =
+      let placed = placed_so c is key part role in
+      let y = placed.transaction in
+      let y_listed = in_found (has_key key) world.state.transactions y placed.found in
+      let key_is : key ≡ y.key = key_found key y world.state placed.found in
+      let same = keys_told realm t.key y.key (in_all (λ (x : Transaction). is_spelled x.key) world.state.transactions t spelled listed) (in_all (λ (x : Transaction). is_spelled x.key) world.state.transactions y spelled y_listed) (same_text (identifier realm t.key) (identifier realm key) spells ∙ ap (identifier realm) key_is) in
+      let one = in_apart world.state.transactions (sound_whole world sound).keys t y listed y_listed same in
+      (key_is ∙ sym same, placed.found ∙ ap Some (sym one))
+
   -- A PART THAT IS SEEN is one of a transaction that is here
   pub record Seen (id : List ℕ) (q : ℕ) : Type 0 where
     pub transaction : Transaction
@@ -235,18 +262,14 @@ module _ (world : World) (sound : IsSound world) where
       by_role of.0 of.1 of.0.role refl of.2 where
         by_key : (c : Connection) → In c world.state.connections → (key : Key) (part : ℕ) → c.role ≡ Some (Subordinate key part) → bytes_eq id (identifier realm key) ≡ true → part ≡ q → Seen id q
         by_key c there key part role spells same =
-            let placed = in_all (is_role_in world.state) (roles_of world.state) (Subordinate key part) (and_parts (list_all (is_role_in world.state) (roles_of world.state)) _ sound.roles).0 (mapped_in (λ (c : Connection). c.role) world.state.connections c (Subordinate key part) there role) in
-            let both = and_parts (nat_le 1 part) (option_map_or (λ (t : Transaction). nat_lt part (length t.parts)) (transaction_of key world.state) false) placed in
-            by_found key part spells same both.0 (transaction_of key world.state) refl both.1 where
-              by_found : (key : Key) (part : ℕ) → bytes_eq id (identifier realm key) ≡ true → part ≡ q → nat_le 1 part ≡ true → (found : Option Transaction) → transaction_of key world.state ≡ found → option_map_or (λ (t : Transaction). nat_lt part (length t.parts)) found false ≡ true → Seen id q
-              by_found key part spells same least None at is = absurd (let wrong : false ≡ true = is in cc)
-              by_found key part spells same least (Some t) at is = record {
-                transaction = t;
-                listed = in_found (has_key key) world.state.transactions t at;
-                named = same_text id (identifier realm key) spells ∙ ap (identifier realm) (key_found key t world.state at);
-                least = subst (λ n. nat_le 1 n ≡ true) same least;
-                there = subst (λ n. is_some (slice_get t.parts n) ≡ true) same (some_at part t.parts is);
-              }
+            let placed = placed_so c there key part role in
+            record {
+              transaction = placed.transaction;
+              listed = in_found (has_key key) world.state.transactions placed.transaction placed.found;
+              named = same_text id (identifier realm key) spells ∙ ap (identifier realm) (key_found key placed.transaction world.state placed.found);
+              least = subst (λ n. nat_le 1 n ≡ true) same placed.least;
+              there = subst (λ n. is_some (slice_get placed.transaction.parts n) ≡ true) same placed.there;
+            }
 
         by_role : (c : Connection) → In c world.state.connections → (role : Option Role) → c.role ≡ role → part_of realm id role ≡ Some q → Seen id q
         by_role c there None at is = absurd (none-some q is)
