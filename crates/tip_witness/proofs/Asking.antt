@@ -129,29 +129,40 @@ came_on_any : (move : Move) (state : State) (came : Came) → came_in move state
 came_on_any (Move.Step event outcome) state came is = let by = came_by event outcome state came is in record { seat = by.seat; there = by.there }
 came_on_any move state came is = absurd (none-some came is)
 
-pub committed_unheard : (world : World) (sound : IsSound world) (moment : Moment) → moment.world ≡ world → (t : Transaction) → In t world.state.transactions → (is_stoppable t.phase ≡ true → ⊥) → (q : ℕ) → heard_answer world.state.head.name (identifier world.state.head.name t.key) q moment ≡ None
-committed_unheard world sound moment met t listed never q = step (heard_in moment) refl where
-  by_answer : (came : Came) → CameOn world.state came → (key : Key) → came.connection.role ≡ Some (Subordinate key q) → bytes_eq (identifier world.state.head.name t.key) (identifier world.state.head.name key) ≡ true → (b : Option Ballot) → answer_by came.connection.awaited came.response ≡ b → b ≡ None
+-- of one of which no part's connection can say an answer, nothing is heard
+pub unheard_unless : (world : World) (moment : Moment) → moment.world ≡ world → (id : List ℕ) (q : ℕ) → ((came : Came) → CameOn world.state came → (key : Key) → came.connection.role ≡ Some (Subordinate key q) → bytes_eq id (identifier world.state.head.name key) ≡ true → (b : Ballot) → answer_by came.connection.awaited came.response ≡ Some b → ⊥) → heard_answer world.state.head.name id q moment ≡ None
+unheard_unless world moment met id q never = step (heard_in moment) refl where
+  by_answer : (came : Came) → CameOn world.state came → (key : Key) → came.connection.role ≡ Some (Subordinate key q) → bytes_eq id (identifier world.state.head.name key) ≡ true → (b : Option Ballot) → answer_by came.connection.awaited came.response ≡ b → b ≡ None
   by_answer came on key role spells None at = refl
-  by_answer came on key role spells (Some b) at =
-      let c = came.connection in
-      let waits = awaited_so c.awaited came.response b at in
-      let answers : answer_by (Some waits.0) came.response ≡ Some b = sym (ap (λ o. answer_by o came.response) waits.1) ∙ at in
-      let there = seated_there on.seat world.state c on.there in
-      let its = role_of world sound t listed c (in_found (has_number c.number) world.state.connections c there) key q role spells in
-      absurd (never (can_stop world sound c there key q role waits.0 waits.1 (noted_partly waits.0 came.response (answered b) (answer_noted waits.0 came.response b answers)) came.response b answers t its.1))
+  by_answer came on key role spells (Some b) at = absurd (never came on key role spells b at)
 
-  by_role : (came : Came) → CameOn world.state came → (b : Bool) → option_map_or (λ other. q == other) (part_of world.state.head.name (identifier world.state.head.name t.key) came.connection.role) false ≡ b → option_and_then (λ (x : Came). answer_by x.connection.awaited x.response) (cond b (Some came) None) ≡ None
+  by_role : (came : Came) → CameOn world.state came → (b : Bool) → option_map_or (λ other. q == other) (part_of world.state.head.name id came.connection.role) false ≡ b → option_and_then (λ (x : Came). answer_by x.connection.awaited x.response) (cond b (Some came) None) ≡ None
   by_role came on false at = refl
-  by_role came on true at = let role = part_role world.state.head.name (identifier world.state.head.name t.key) q came.connection.role at in by_answer came on role.0 role.1 role.2 (answer_by came.connection.awaited came.response) refl
+  by_role came on true at = let role = part_role world.state.head.name id q came.connection.role at in by_answer came on role.0 role.1 role.2 (answer_by came.connection.awaited came.response) refl
 
   by_refusal : (came : Came) (b : Bool) → cond b None (came_in moment.move moment.world.state) ≡ Some came → CameOn world.state came
   by_refusal came true is = absurd (none-some came is)
   by_refusal came false is = came_on_any moment.move world.state came (sym (ap (λ (w : World). came_in moment.move w.state) met) ∙ is)
 
-  step : (o : Option Came) → heard_in moment ≡ o → heard_answer world.state.head.name (identifier world.state.head.name t.key) q moment ≡ None
-  step None is = none_heard world.state.head.name (identifier world.state.head.name t.key) q moment is
-  step (Some came) is = heard_is world.state.head.name (identifier world.state.head.name t.key) q moment came is ∙ by_role came (by_refusal came (list_any is_refusal moment.shown) is) (option_map_or (λ other. q == other) (part_of world.state.head.name (identifier world.state.head.name t.key) came.connection.role) false) refl
+  step : (o : Option Came) → heard_in moment ≡ o → heard_answer world.state.head.name id q moment ≡ None
+  step None is = none_heard world.state.head.name id q moment is
+  step (Some came) is = heard_is world.state.head.name id q moment came is ∙ by_role came (by_refusal came (list_any is_refusal moment.shown) is) (option_map_or (λ other. q == other) (part_of world.state.head.name id came.connection.role) false) refl
+
+pub committed_unheard : (world : World) (sound : IsSound world) (moment : Moment) → moment.world ≡ world → (t : Transaction) → In t world.state.transactions → (is_stoppable t.phase ≡ true → ⊥) → (q : ℕ) → heard_answer world.state.head.name (identifier world.state.head.name t.key) q moment ≡ None
+committed_unheard world sound moment met t listed never q = unheard_unless world moment met (identifier world.state.head.name t.key) q (λ came on key role spells b at.
+    let c = came.connection in
+    let waits = awaited_so c.awaited came.response b at in
+    let answers : answer_by (Some waits.0) came.response ≡ Some b = sym (ap (λ o. answer_by o came.response) waits.1) ∙ at in
+    let there = seated_there on.seat world.state c on.there in
+    let its = role_of world sound t listed c (in_found (has_number c.number) world.state.connections c there) key q role spells in
+    never (can_stop world sound c there key q role waits.0 waits.1 (noted_partly waits.0 came.response (answered b) (answer_noted waits.0 came.response b answers)) came.response b answers t its.1))
+
+-- of one that is not here nothing is heard
+pub absent_unheard : (world : World) (sound : IsSound world) (moment : Moment) → moment.world ≡ world → (id : List ℕ) → ((t : Transaction) → In t world.state.transactions → id ≡ identifier world.state.head.name t.key → ⊥) → (q : ℕ) → heard_answer world.state.head.name id q moment ≡ None
+absent_unheard world sound moment met id never q = unheard_unless world moment met id q (λ came on key role spells b at.
+    let c = came.connection in
+    let placed = placed_so world sound c (in_found (has_number c.number) world.state.connections c (seated_there on.seat world.state c on.there)) key q role in
+    never placed.transaction (in_found (has_key key) world.state.transactions placed.transaction placed.found) (same_text id (identifier world.state.head.name key) spells ∙ ap (identifier world.state.head.name) (key_found key placed.transaction world.state placed.found)))
 
 pub chosen_walks : (w : Work) (a : Attempt) (outcome : Outcome) → ProceedsSo w a → Walks w (chosen a outcome)
 chosen_walks w (Attempt.Done v) outcome goes = goes

@@ -83,7 +83,7 @@ module _ (world : World) (sound : IsSound world) (moments : List Moment) where
       same_text p.id (identifier realm t.key) (and_parts (p.epoch == now) (has_id realm p.id t) (subst (λ q. is_its_own world.state t q ≡ true) here its)).1
 
   -- a party of its own that is out waits elsewhere
-  frees : (t : Transaction) (p : PartyNotes) → In t world.state.transactions → t.place ≡ Here p → (party : PartyNotes) → In party world.errands → bytes_eq (identifier realm t.key) party.id ≡ true → (party.epoch == now) ≡ true → ⊥
+  pub frees : (t : Transaction) (p : PartyNotes) → In t world.state.transactions → t.place ≡ Here p → (party : PartyNotes) → In party world.errands → bytes_eq (identifier realm t.key) party.id ≡ true → (party.epoch == now) ≡ true → ⊥
   frees t p is here party out named this =
       let due = in_all (is_due world.state) world.errands party (and_parts _ (list_all (is_due world.state) world.errands) sound.out).1 out in
       let waits = waits_for world.state party apart due this in

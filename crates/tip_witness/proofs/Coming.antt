@@ -159,28 +159,28 @@ module _ (world : World) (sound : IsSound world) (party : PartyNotes) (rest : Li
   w : Work
   w = entered world.state
 
-  found : transaction_of t.key world.state ≡ Some t
+  pub found : transaction_of t.key world.state ≡ Some t
   found = owner_found (back_of party back) world.state t (sound_whole world sound) owned
 
-  its_epoch : (party.epoch == now) ≡ true
+  pub its_epoch : (party.epoch == now) ≡ true
   its_epoch = (owns (back_of party back) world.state t owned).epoch
 
   its_id : bytes_eq party.id id ≡ true
   its_id = (owns (back_of party back) world.state t owned).id
 
-  named : bytes_eq id party.id ≡ true
+  pub named : bytes_eq id party.id ≡ true
   named = subst (λ x. bytes_eq x party.id ≡ true) (same_text party.id id its_id) (bytes_eq-self party.id)
 
-  are_out_now : are_out world.state (party ∷ rest) ≡ true
+  pub are_out_now : are_out world.state (party ∷ rest) ≡ true
   are_out_now = subst (λ ps. are_out world.state ps ≡ true) out sound.out
 
-  its_errand : party.errand ≡ e
+  pub its_errand : party.errand ≡ e
   its_errand = awaited_at party.errand e (subst (λ p. is_out_for party.errand p ≡ true) at ((due_awaited party world.state (first_due world.state party rest are_out_now)).due t owned))
 
   base : Base realm all now (entered world.state) world.errands world.rows
   base = base_entered world sound all shown cared
 
-  listed : In t world.state.transactions
+  pub listed : In t world.state.transactions
   listed = in_found (has_key t.key) world.state.transactions t found
 
   -- the others that are out are of others

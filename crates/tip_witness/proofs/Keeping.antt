@@ -341,7 +341,7 @@ module _ (realm : List ℕ) (moments : List Moment) (now : ℕ) (w : Work) (erra
       subst (λ k. list_all (is_shown realm moments (identifier realm k)) u.parts ≡ true) (sym was.key) (lasts_shown realm moments (identifier realm was.before.key) was.before.parts u.parts was.parts (base.shown was.before was.there))
 
   -- the party that goes out is of the transaction that has its identifier
-  sent_from : (v : Work) → Walks w v → (t : Transaction) → In t w.state.transactions → (party : PartyNotes) → v.answer.work ≡ Some party → bytes_eq (identifier realm t.key) party.id ≡ true → (p : PartyNotes) × (e : Errand) × (t.place ≡ Here p) × (party ≡ given p e)
+  pub sent_from : (v : Work) → Walks w v → (t : Transaction) → In t w.state.transactions → (party : PartyNotes) → v.answer.work ≡ Some party → bytes_eq (identifier realm t.key) party.id ≡ true → (p : PartyNotes) × (e : Errand) × (t.place ≡ Here p) × (party ≡ given p e)
   sent_from v walks t there party is named = elim walks.sends [
     | inl same ↦ absurd (none-some party (sym (same ∙ base.quiet) ∙ is))
     | inr sent ↦

@@ -10,6 +10,7 @@ pub mod Keeping
 pub mod Keptness
 pub mod Linking
 pub mod Outcomes
+pub mod Passing
 pub mod Walking
 pub mod Willing
 pub mod Witnessed

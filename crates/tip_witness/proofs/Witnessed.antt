@@ -78,10 +78,10 @@ record Begins (realm : List ℕ) (now : ℕ) (moments : List Moment) (errands : 
   base : Base realm moments now begins errands rows
   goes : EndsSo begins a
 
-record Stands (ts : List Transaction) (a : Attempt) (outcome : Outcome) : Type 0 where
-  transactions : (chosen a outcome).state.transactions ≡ ts
-  work : (chosen a outcome).answer.work ≡ None
-  wants : wanted a ≡ None
+pub record Stands (ts : List Transaction) (a : Attempt) (outcome : Outcome) : Type 0 where
+  pub transactions : (chosen a outcome).state.transactions ≡ ts
+  pub work : (chosen a outcome).answer.work ≡ None
+  pub wants : wanted a ≡ None
 
 module _ (realm : List ℕ) (now : ℕ) (moments : List Moment) (ts : List Transaction) (errands : List PartyNotes) (rows : List (Key × Row)) (a : Attempt) (outcome : Outcome) where
   abbrev Comes : Type 0
@@ -136,11 +136,11 @@ module _ (serving : Serving) (world : World) (sound : IsSound world) (moments : 
     abbrev done : Work
     done = ordered world.state (chosen tried outcome)
 
-    stepped_so : step_serving serving world.state event outcome ≡ done
+    pub stepped_so : step_serving serving world.state event outcome ≡ done
     stepped_so = ap (λ b. cond b done (frozen event world.state)) room
 
     -- one that is refused changes nothing
-    refused_stands : (why : Refusal) → done.answer.refusal ≡ Some why → Stands world.state.transactions tried outcome
+    pub refused_stands : (why : Refusal) → done.answer.refusal ≡ Some why → Stands world.state.transactions tried outcome
     unfolding ordered
     refused_stands why is =
         let some : IsSome (step_serving serving world.state event outcome).answer.refusal = subst IsSome (sym (ap (λ (w : Work). w.answer.refusal) stepped_so ∙ is)) refl in
@@ -151,7 +151,7 @@ module _ (serving : Serving) (world : World) (sound : IsSound world) (moments : 
         }
 
     module _ (move : moment.move ≡ Move.Step event outcome) (shows : moment.shown ≡ outputs event (wanted tried) outcome done.answer) (was : Here all) where
-      heard_so : (says : Says event (entered world.state) tried) → done.answer.refusal ≡ None → heard_in moment ≡ Some (record { connection = says.connection; response = says.noted.response })
+      pub heard_so : (says : Says event (entered world.state) tried) → done.answer.refusal ≡ None → heard_in moment ≡ Some (record { connection = says.connection; response = says.noted.response })
       heard_so says none =
           let ev : event ≡ Line says.seat (AResponse says.noted.response) = says.is ∙ ap (Line says.seat) says.noted.is in
           (λ i. cond (list_any is_refusal (shows i)) None (came_in (move i) (met i).state))

@@ -1,0 +1,179 @@
+-- Each transaction after a move is one from before it, with what its parts have answered, or a new one.
+use Rattle.std.proofs.Common.{◌≡◌, Bool, true, false, ℕ, zero, suc, ◌+◌, List, [], ◌∷◌, ◌++◌, Option, Some, None, cond, refl, ap, subst, sym, arith, ◌∙◌, ◌⊎◌, inl, inr}
+use Rattle.std.specs.Prelude.{◌&&◌, ◌||◌, ◌==◌, is_some, length, map, nat_le, not, slice_get, take}
+use Rattle.std.specs.List.{list_all, list_any}
+use Rattle.std.specs.Option.{option_map_or, option_to_list}
+use Rattle.std.specs.Str.{bytes_eq}
+use Rattle.std.proofs.lemmas.Bool.{and_from, and_parts, both_ways, cases_Bool, not-true, or_left, or_parts, or_right}
+use Rattle.std.proofs.lemmas.Bool.Decides.{nat_tests}
+use Rattle.std.proofs.lemmas.List.Folds.{list_any-append}
+use Rattle.std.proofs.lemmas.Option.{none-some, same_Some}
+use Rattle.tip_branch.specs.Members.{fresh_members}
+use Rattle.tip_branch.specs.Notes.{PartyNotes, given}
+use Rattle.tip_branch.specs.declared.branch.Badge.{Badge}
+use Rattle.tip_branch.specs.declared.member.Errand.{Errand}
+use Rattle.tip_branch.specs.declared.member.Errand.TheVariants as errand
+use Rattle.tip_line.specs.declared.refusal.Refusal.{Refusal}
+use Rattle.tip_rows.specs.Keys.{Key, is_same}
+use Rattle.tip_rows.proofs.OrderLemmas.{same_key}
+use Rattle.tip_txn.specs.Parts.{answer_at, answered, changed_at}
+use Rattle.tip_txn.specs.Transactions.{local_party}
+use Rattle.tip_txn.specs.declared.answer.Ballot.{Ballot}
+use Rattle.tip_txn.specs.declared.answer.Phase.TheVariants.{Aborted}
+use Rattle.tip_txn.specs.declared.part.Participant.{Participant}
+use Rattle.tip_machine.specs.Agreement.{is_called, is_willing, is_willing_vote, was_called}
+use Rattle.tip_machine.specs.Agreement.Traces.{Moment, came_in, heard_in, is_refusal, shown_in}
+use Rattle.tip_machine.specs.Answers.{identifier}
+use Rattle.tip_machine.specs.Changes.{alter}
+use Rattle.tip_machine.specs.Honest.{brings_no_party}
+use Rattle.tip_machine.specs.Invariants.{IsSound}
+use Rattle.tip_machine.specs.Invariants.Links.{are_distinct}
+use Rattle.tip_machine.specs.Invariants.Parties.{are_unasked, is_sent}
+use Rattle.tip_machine.specs.Moves.{Move, World}
+use Rattle.tip_machine.specs.Order.{ordered}
+use Rattle.tip_machine.specs.Outputs.{Output, calls_of, outputs}
+use Rattle.tip_machine.specs.Requests.{owner, strange}
+use Rattle.tip_machine.specs.Returns.{Back, back_of, event_of}
+use Rattle.tip_machine.specs.Served.{Serving}
+use Rattle.tip_machine.specs.Starting.{are_counted_from}
+use Rattle.tip_machine.specs.States.{Attempt, State, Work, transaction_of}
+use Rattle.tip_machine.specs.Steps.{attempt, chosen, entered, is_open, wanted}
+use Rattle.tip_machine.specs.Transactions.{begun, has_key, next_key, noting, party_answer, standing_at}
+use Rattle.tip_machine.specs.Types.{Event, PartyPlace, Transaction}
+use Rattle.tip_machine.specs.declared.event.Outcome.{Outcome}
+use Rattle.tip_machine.specs.declared.event.Outcome.TheVariants.{NoChange, Refused, Stored}
+use Rattle.tip_machine.specs.declared.transaction.PartyPlace.TheVariants.{Here, Out, Spent}
+use Rattle.tip_agreement.proofs.Apart.{all_more}
+use Rattle.tip_agreement.proofs.Events.{entered_whole}
+use Rattle.tip_agreement.proofs.Keys.{key_self, keys_changed, keys_of}
+use Rattle.tip_agreement.proofs.Moving.{due_awaited, sound_whole}
+use Rattle.tip_agreement.proofs.Errands.{first_due}
+use Rattle.tip_agreement.proofs.Around.{found_altered}
+use Rattle.tip_witness.proofs.Asking.{Answers, answers_stay, chosen_walks, none_heard, quiet_heard, says_answers, changed_some}
+use Rattle.tip_witness.proofs.Ballots.{all_agreed, covers, covers_back, covers_same, each_called, forgotten_same}
+use Rattle.tip_witness.proofs.Bases.{base_entered}
+use Rattle.tip_witness.proofs.Coming.{base_again, called_among, calls_shown, its_epoch, its_errand, named}
+use Rattle.tip_witness.proofs.Happening.{EndsSo, Made, Quietly, Says, again, ends_so, happens_so, returns_so}
+use Rattle.tip_witness.proofs.Hearing.{base_noted, noted_partly}
+use Rattle.tip_witness.proofs.Keeping.{Base, in_all, in_apart, in_append, in_key, in_option, sent_from}
+use Rattle.tip_witness.proofs.Outcomes.{brings_so}
+use Rattle.tip_witness.proofs.Walking.{In, IsOpen, Lasts, Leaves, Walks, Was, in_changed, in_found, lasts_same, open_same, open_then}
+use Rattle.tip_witness.proofs.Willing.{heard_answer, lasts_answer, lasts_some, or_else}
+use Rattle.tip_witness.proofs.Witnessed.{In_world, Stands, heard_so, refused_stands}
+use Rattle.tip_machine.proofs.Walks.{seated_there}
+
+-- THE BRANCHES OF A REALM are members of the party of each transaction that was made in this start, wherever it is
+pub record Covers (now : ℕ) (branches : List (ℕ × List ℕ)) (errands : List PartyNotes) (id : List ℕ) (place : PartyPlace) : Type 0 where
+  pub here : (party : PartyNotes) → place ≡ Here party → covers party.members branches ≡ true
+  pub out : (party : PartyNotes) → In party errands → bytes_eq id party.id ≡ true → (party.epoch == now) ≡ true → covers party.members branches ≡ true
+
+pub covers_on : (now : ℕ) (branches : List (ℕ × List ℕ)) (errands : List PartyNotes) (work : Option PartyNotes) (id : List ℕ) (old new : PartyPlace) → Covers now branches errands id old → Leaves old new → ((party : PartyNotes) → work ≡ Some party → bytes_eq id party.id ≡ true → (p : PartyNotes) × (e : Errand) × (old ≡ Here p) × (party ≡ given p e)) → Covers now branches (errands ++ option_to_list work) id new
+covers_on now branches errands work id old new was leaves sent = record { here = here leaves; out = out } where
+  here : Leaves old new → (party : PartyNotes) → new ≡ Here party → covers party.members branches ≡ true
+  here (inl same) party at = was.here party (sym same ∙ at)
+  here (inr left) party at = absurd (elim left.2 [ inl gone ↦ let wrong : Out gone.0 ≡ Here party = sym gone.1 ∙ at in cc | inr spent ↦ let wrong : Spent ≡ Here party = sym spent.0 ∙ at in cc ])
+
+  out : (party : PartyNotes) → In party (errands ++ option_to_list work) → bytes_eq id party.id ≡ true → (party.epoch == now) ≡ true → covers party.members branches ≡ true
+  out party there named this = elim (in_append errands (option_to_list work) party there) [
+    | inl before ↦ was.out party before named this
+    | inr going ↦
+        let from = sent party (in_option work party going) named in
+        subst (λ (q : PartyNotes). covers q.members branches ≡ true) (sym from.3) (covers_same from.0.members (given from.0 from.1).members branches (forgotten_same from.0.members) (was.here from.0 from.2))
+  ]
+
+pub covers_fewer : (now : ℕ) (branches : List (ℕ × List ℕ)) (errands fewer : List PartyNotes) (id : List ℕ) (place : PartyPlace) → ((party : PartyNotes) → In party fewer → In party errands) → Covers now branches errands id place → Covers now branches fewer id place
+covers_fewer now branches errands fewer id place sub was = record { here = was.here; out = λ party is. was.out party (sub party is) }
+
+-- A TRANSACTION AFTER A MOVE
+pub record Follows (realm : List ℕ) (now : ℕ) (branches : List (ℕ × List ℕ)) (Called : Transaction → Type 0) (moment : Moment) (errands : List PartyNotes) (t u : Transaction) : Type 0 where
+  pub key : u.key ≡ t.key
+  pub live : IsOpen t u
+  pub answers : (u.phase ≡ Aborted → ⊥) → Answers (Called t) realm (identifier realm t.key) moment t.parts u.parts
+  pub covered : (t.key.epoch == now) ≡ true → Covers now branches errands (identifier realm t.key) u.place
+
+pub record New (now : ℕ) (branches : List (ℕ × List ℕ)) (ts : List Transaction) (u : Transaction) : Type 0 where
+  pub absent : (t : Transaction) → In t ts → t.key ≡ u.key → ⊥
+  pub unheard : (q : ℕ) → answer_at u.parts q ≡ None
+  pub covered : (party : PartyNotes) → u.place ≡ Here party → covers party.members branches ≡ true
+  pub place : (party : PartyNotes) × (u.place ≡ Here party)
+
+pub record Passed (realm : List ℕ) (now : ℕ) (branches : List (ℕ × List ℕ)) (Called : Transaction → Type 0) (moment : Moment) (errands : List PartyNotes) (ts : List Transaction) (u : Transaction) : Type 0 where
+  pub before : Transaction
+  pub listed : In before ts
+  pub follows : Follows realm now branches Called moment errands before u
+
+-- A NEW ONE
+
+number_next : (a b : ℕ) → (a == b) ≡ true → (a == b) ≡ true
+number_next a b is = is
+
+suc_le : (a b : ℕ) → nat_le (suc a) (suc b) ≡ true → nat_le a b ≡ true
+suc_le a b is = grind (arith, nat_tests, is)
+
+fresh_cover : (start : ℕ) (branches : List (ℕ × List ℕ)) (boxes : List Badge) → are_counted_from start branches ≡ true → nat_le (length branches) (length boxes) ≡ true → covers (fresh_members start (take (length branches) boxes)) branches ≡ true
+fresh_cover start [] boxes counted room = refl
+fresh_cover start (b ∷ branches) [] counted room = absurd (never (length branches) room) where
+  never : (n : ℕ) → nat_le (suc n) 0 ≡ true → ⊥
+  never n is = grind (arith, nat_tests, is)
+fresh_cover start (b ∷ branches) (box ∷ boxes) counted room =
+    let parts = and_parts (b.0 == start) (are_counted_from (start + 1) branches) counted in
+    and_from _ _ (or_left (start == b.0) _ (turned start b.0 parts.0))
+    (all_more (λ branch. list_any (λ m. m.number == branch.0) (fresh_members (start + 1) (take (length branches) boxes))) (λ branch. list_any (λ m. m.number == branch.0) (fresh_members start (take (length (b ∷ branches)) (box ∷ boxes)))) branches (λ x is. or_right (start == x.0) _ is) (fresh_cover (start + 1) branches boxes parts.1 (suc_le (length branches) (length boxes) room))) where
+      turned : (s n : ℕ) → (n == s) ≡ true → (s == n) ≡ true
+      turned s n is = grind (arith, nat_tests, is)
+
+apart_last : (ts : List Transaction) (u : Transaction) → are_distinct is_same (keys_of (ts ++ u ∷ [])) ≡ true → (t : Transaction) → In t ts → t.key ≡ u.key → ⊥
+apart_last [] u apart t there same = there
+apart_last (x ∷ ts) u apart t there same = step there (apart_last ts u parts.1 t) where
+  parts : (not (list_any (is_same x.key) (keys_of (ts ++ u ∷ []))) ≡ true) × (are_distinct is_same (keys_of (ts ++ u ∷ [])) ≡ true)
+  parts = and_parts (not (list_any (is_same x.key) (keys_of (ts ++ u ∷ [])))) (are_distinct is_same (keys_of (ts ++ u ∷ []))) apart
+
+  last_in : (ys : List Transaction) → In u (ys ++ u ∷ [])
+  last_in [] = inl refl
+  last_in (y ∷ ys) = inr (last_in ys)
+
+  step : (t ≡ x) ⊎ In t ts → (In t ts → t.key ≡ u.key → ⊥) → ⊥
+  step (inl is) later = both_ways (is_same x.key u.key) (in_key x.key (ts ++ u ∷ []) u (not-true _ parts.0) (last_in ts)) (subst (λ k. is_same x.key k ≡ true) (ap (λ (y : Transaction). y.key) (sym is) ∙ same) (key_self x.key))
+  step (inr is) later = later is same
+
+module _ (world : World) (sound : IsSound world) (branches : List (ℕ × List ℕ)) (declared : world.state.head.branches ≡ branches) (counted : are_counted_from 1 branches ≡ true) where
+  abbrev realm : List ℕ
+  realm = world.state.head.name
+
+  abbrev now : ℕ
+  now = world.state.head.epoch
+
+  made_new : (v : Work) → Made (entered world.state) v → are_distinct is_same (keys_of v.state.transactions) ≡ true → (u : Transaction) → In u v.state.transactions → (In u world.state.transactions) ⊎ New now branches world.state.transactions u
+  made_new v made apart u there = elim (in_append world.state.transactions _ u (subst (In u) made.transactions there)) [
+    | inl old ↦ inl old
+    | inr new ↦ elim new [
+      | inl is ↦ inr (subst (New now branches world.state.transactions) (sym is) (record {
+          absent = apart_last world.state.transactions _ (subst (λ ts. are_distinct is_same (keys_of ts) ≡ true) made.transactions apart);
+          unheard = unanswered;
+          covered = λ party at. subst (λ (p : PartyNotes). covers p.members branches ≡ true) (ap (party_in party) at) (subst (λ bs. covers (fresh_members 1 (take (length bs) made.connection.boxes)) branches ≡ true) (sym declared) (fresh_cover 1 branches made.connection.boxes counted (subst (λ bs. nat_le (length bs) (length made.connection.boxes) ≡ true) declared made.room)));
+          place = (_, refl);
+        }))
+      | inr none ↦ absurd none
+    ]
+  ] where
+    party_in : PartyNotes → PartyPlace → PartyNotes
+    party_in other (Here p) = p
+    party_in other place = other
+
+    unanswered : (q : ℕ) → answer_at (local_party ∷ []) q ≡ None
+    unanswered zero = refl
+    unanswered (suc q) = refl
+
+  -- one that stays
+  module _ (Called : Transaction → Type 0) (moment : Moment) (errands : List PartyNotes) where
+    stays_follows : (u : Transaction) → In u world.state.transactions → ((q : ℕ) → heard_answer realm (identifier realm u.key) q moment ≡ None) → ((u.key.epoch == now) ≡ true → Covers now branches errands (identifier realm u.key) u.place) → Passed realm now branches Called moment errands world.state.transactions u
+    stays_follows u there none covered = record {
+      before = u;
+      listed = there;
+      follows = record {
+        key = refl;
+        live = open_same u u refl;
+        answers = λ live. record { parts = λ q least. sym (ap (λ h. or_else h (answer_at u.parts q)) (none q)); local = λ a is. inl is; more = λ q is. is };
+        covered = covered;
+      };
+    }
