@@ -1,6 +1,6 @@
 -- Each transaction after a move is one from before it, with what its parts have answered, or a new one.
 use Rattle.std.proofs.Common.{◌≡◌, Bool, true, false, ℕ, zero, suc, ◌+◌, List, [], ◌∷◌, ◌++◌, Option, Some, None, cond, refl, ap, subst, sym, arith, ◌∙◌, ◌⊎◌, inl, inr}
-use Rattle.std.specs.Prelude.{◌&&◌, ◌||◌, ◌==◌, is_some, length, map, nat_le, not, slice_get, take}
+use Rattle.std.specs.Prelude.{◌&&◌, ◌||◌, ◌==◌, is_some, length, map, nat_le, not, option_map, slice_get, take}
 use Rattle.std.specs.List.{list_all, list_any}
 use Rattle.std.specs.Option.{option_map_or, option_to_list}
 use Rattle.std.specs.Str.{bytes_eq}
@@ -31,7 +31,7 @@ use Rattle.tip_machine.specs.Invariants.Links.{are_distinct}
 use Rattle.tip_machine.specs.Invariants.Parties.{are_unasked, is_sent}
 use Rattle.tip_machine.specs.Moves.{Move, World}
 use Rattle.tip_machine.specs.Order.{ordered}
-use Rattle.tip_machine.specs.Outputs.{Output, calls_of, outputs}
+use Rattle.tip_machine.specs.Outputs.{Output, brought, calls_of, drops_of, outputs}
 use Rattle.tip_machine.specs.Requests.{owner, strange}
 use Rattle.tip_machine.specs.Returns.{Back, back_of, event_of}
 use Rattle.tip_machine.specs.Served.{Serving}
@@ -88,7 +88,7 @@ covers_fewer now branches errands fewer id place sub was = record { here = was.h
 pub record Follows (realm : List ℕ) (now : ℕ) (branches : List (ℕ × List ℕ)) (Called : Transaction → Type 0) (moment : Moment) (errands : List PartyNotes) (t u : Transaction) : Type 0 where
   pub key : u.key ≡ t.key
   pub live : IsOpen t u
-  pub answers : (u.phase ≡ Aborted → ⊥) → Answers (Called t) realm (identifier realm t.key) moment t.parts u.parts
+  pub answers : (u.phase ≡ Aborted → ⊥) → (t.key.epoch == now) ≡ true → Answers (Called t) realm (identifier realm t.key) moment t.parts u.parts
   pub covered : (t.key.epoch == now) ≡ true → Covers now branches errands (identifier realm t.key) u.place
 
 pub record New (now : ℕ) (branches : List (ℕ × List ℕ)) (ts : List Transaction) (u : Transaction) : Type 0 where
@@ -165,15 +165,112 @@ module _ (world : World) (sound : IsSound world) (branches : List (ℕ × List �
     unanswered (suc q) = refl
 
   -- one that stays
-  module _ (Called : Transaction → Type 0) (moment : Moment) (errands : List PartyNotes) where
-    stays_follows : (u : Transaction) → In u world.state.transactions → ((q : ℕ) → heard_answer realm (identifier realm u.key) q moment ≡ None) → ((u.key.epoch == now) ≡ true → Covers now branches errands (identifier realm u.key) u.place) → Passed realm now branches Called moment errands world.state.transactions u
-    stays_follows u there none covered = record {
+  module _ (Called : Transaction → Type 0) (moment : Moment) where
+    pub stays_follows : (errands : List PartyNotes) (u : Transaction) → In u world.state.transactions → ((q : ℕ) → heard_answer realm (identifier realm u.key) q moment ≡ None) → ((u.key.epoch == now) ≡ true → Covers now branches errands (identifier realm u.key) u.place) → Passed realm now branches Called moment errands world.state.transactions u
+    stays_follows errands u there none covered = record {
       before = u;
       listed = there;
       follows = record {
         key = refl;
         live = open_same u u refl;
-        answers = λ live. record { parts = λ q least. sym (ap (λ h. or_else h (answer_at u.parts q)) (none q)); local = λ a is. inl is; more = λ q is. is };
+        answers = λ live this. record { parts = λ q least. sym (ap (λ h. or_else h (answer_at u.parts q)) (none q)); local = λ a is. inl is; more = λ q is. is };
         covered = covered;
       };
     }
+
+    -- AN EVENT of its own
+    module _ (serving : Serving) (mine : List Moment) (was : In_world world (mine ++ moment ∷ [])) (met : moment.world ≡ world) where
+      abbrev all : List Moment
+      all = mine ++ moment ∷ []
+
+      ends_walk : (w : Work) (a : Attempt) (outcome : Outcome) → EndsSo w a → Walks w (chosen a outcome) ⊎ Made w (chosen a outcome)
+      ends_walk w (Attempt.Done v) outcome goes = goes
+      ends_walk w (Attempt.Asks change stored refused) Stored goes = inl goes.0
+      ends_walk w (Attempt.Asks change stored refused) Refused goes = inl goes.1
+      ends_walk w (Attempt.Asks change stored refused) NoChange goes = inl goes.1
+
+      module _ (event : Event) (outcome : Outcome) (room : is_open world.state ≡ true) (move : moment.move ≡ Move.Step event outcome) (none : brings_no_party event ≡ true) where
+        abbrev tried : Attempt
+        tried = attempt serving event (entered world.state)
+
+        abbrev v : Work
+        v = chosen tried outcome
+
+        abbrev Goes_on : Transaction → Type 0
+        Goes_on u = Passed realm now branches Called moment (world.errands ++ option_to_list v.answer.work) world.state.transactions u ⊎ New now branches world.state.transactions u
+
+        refusing : moment.shown ≡ outputs event (wanted tried) outcome (ordered world.state v).answer → (why : Refusal) → v.answer.refusal ≡ Some why → list_any is_refusal moment.shown ≡ true
+        unfolding ordered
+        refusing shows why is =
+            let rest = option_to_list (option_map Output.Opened v.answer.opened) ++ (brought event ++ (option_to_list (option_map (λ c. Output.Changed c outcome) (wanted tried)) ++ (map Output.Sent (ordered world.state v).answer.sent ++ (option_to_list (option_map (λ (party : PartyNotes). Output.Works party.id party.errand) v.answer.work) ++ option_map_or drops_of v.answer.spent [])))) in
+            ap (list_any is_refusal) shows ∙ (list_any-append is_refusal (option_to_list (option_map Output.Refused v.answer.refusal)) rest ∙ or_left (list_any is_refusal (option_to_list (option_map Output.Refused v.answer.refusal))) _ (ap (λ o. list_any is_refusal (option_to_list (option_map Output.Refused o))) is))
+
+        module _ (shows : moment.shown ≡ outputs event (wanted tried) outcome (ordered world.state v).answer) (covered : (t : Transaction) → In t world.state.transactions → (t.key.epoch == now) ≡ true → Covers now branches world.errands (identifier realm t.key) t.place)
+            (apart : are_distinct is_same (keys_of v.state.transactions) ≡ true) (well : (u : Transaction) → In u v.state.transactions → (u.phase ≡ Aborted → ⊥) → (q : ℕ) (a : Ballot) → answer_at u.parts q ≡ Some a → is_willing a ≡ true) where
+          base : Base realm all now (entered world.state) world.errands world.rows
+          base = base_entered world sound all was.shown was.cared
+
+          no_work : v.answer.work ≡ None → (t : Transaction) → In t world.state.transactions → (t.key.epoch == now) ≡ true → Covers now branches (world.errands ++ option_to_list v.answer.work) (identifier realm t.key) t.place
+          no_work idle t listed this = covers_on now branches world.errands v.answer.work (identifier realm t.key) t.place t.place (covered t listed this) (inl refl) (λ party is named. absurd (none-some party (sym idle ∙ is)))
+
+          quietly_passes : Quietly event (entered world.state) tried → (u : Transaction) → In u v.state.transactions → Goes_on u
+          quietly_passes quietly u there = elim (ends_walk (entered world.state) tried outcome quietly.goes) [
+            | inl walks ↦
+                let wasu = walks.each u there in
+                let t = wasu.before in
+                inl (record { before = t; listed = wasu.there; follows = record {
+                  key = wasu.key;
+                  live = wasu.live;
+                  answers = λ live this. answers_stay (Called t) realm (identifier realm t.key) moment t.parts u.parts (quiet_heard world sound event outcome tried moment met move quietly (refusing shows) t u wasu.there there wasu.key live) wasu.parts (well u there live);
+                  covered = λ this. covers_on now branches world.errands v.answer.work (identifier realm t.key) t.place u.place (covered t wasu.there this) wasu.place (sent_from realm all now (entered world.state) world.errands world.rows base v walks t wasu.there);
+                } })
+            | inr made ↦ elim (made_new v made apart u there) [
+              | inr new ↦ inr new
+              | inl old ↦ inl (record { before = u; listed = old; follows = record {
+                  key = refl;
+                  live = open_same u u refl;
+                  answers = λ live this. answers_stay (Called u) realm (identifier realm u.key) moment u.parts u.parts (quiet_heard world sound event outcome tried moment met move quietly (refusing shows) u u old there refl live) (lasts_same u.parts) (well u there live);
+                  covered = no_work made.work u old;
+                } })
+            ]
+          ]
+
+          heard_nothing : list_any is_refusal moment.shown ≡ true → (id : List ℕ) (q : ℕ) → heard_answer realm id q moment ≡ None
+          heard_nothing refused id q = none_heard realm id q moment (ap (λ b. cond b None (came_in moment.move moment.world.state)) refused)
+
+          stands_passes : (why : Refusal) → v.answer.refusal ≡ Some why → Stands world.state.transactions tried outcome → (u : Transaction) → In u v.state.transactions → Goes_on u
+          stands_passes why is stands u there =
+              let old = subst (In u) stands.transactions there in
+              inl (stays_follows (world.errands ++ option_to_list v.answer.work) u old (heard_nothing (refusing shows why is) (identifier realm u.key)) (no_work stands.work u old))
+
+          says_passes : (says : Says event (entered world.state) tried) → heard_in moment ≡ Some (record { connection = says.connection; response = says.noted.response }) → (u : Transaction) → In u v.state.transactions → Goes_on u
+          says_passes says heard u there =
+              let noted = says.noted in
+              let w = alter noted.key (noting noted.part noted.note) (entered world.state) in
+              let walks = chosen_walks w tried outcome noted.goes in
+              let wasu = walks.each u there in
+              let noted_base = base_noted world sound says.connection (seated_there says.seat world.state says.connection says.there) noted.key noted.part noted.on noted.awaited noted.waits (noted_partly noted.awaited noted.response noted.note noted.so) mine moment met was.shown was.cared noted.response noted.note noted.so heard in
+              let of = from_noted noted.key noted.part noted.note wasu.before wasu.there in
+              let t = of.0 in
+              let same : u.key ≡ t.key = wasu.key ∙ of.2 in
+              inl (record { before = t; listed = of.1; follows = record {
+                key = same;
+                live = open_then t wasu.before u (open_same t wasu.before of.3) wasu.live;
+                answers = λ live this. says_answers world sound event outcome tried moment met move says heard (Called t) u there (well u there live) wasu t of.1 same;
+                covered = λ this. subst (λ k. Covers now branches (world.errands ++ option_to_list v.answer.work) (identifier realm k) u.place) of.2 (covers_on now branches world.errands v.answer.work (identifier realm wasu.before.key) wasu.before.place u.place (subst (λ p. Covers now branches world.errands (identifier realm wasu.before.key) p) (sym of.4) (subst (λ k. Covers now branches world.errands (identifier realm k) t.place) (sym of.2) (covered t of.1 this))) wasu.place (sent_from realm all now w world.errands world.rows noted_base v walks wasu.before wasu.there));
+              } }) where
+                from_noted : (key : Key) (part : ℕ) (note : Participant → Participant) (b : Transaction) → In b (alter key (noting part note) (entered world.state)).state.transactions → (t : Transaction) × (In t world.state.transactions) × (b.key ≡ t.key) × (b.phase ≡ t.phase) × (b.place ≡ t.place)
+                from_noted key part note b is = elim (in_changed (has_key key) (noting part note) world.state.transactions b is) [
+                  | inl old ↦ (b, old, refl, refl, refl)
+                  | inr new ↦ (new.0, in_found (has_key key) world.state.transactions new.0 new.1, ap (λ (x : Transaction). x.key) new.2, ap (λ (x : Transaction). x.phase) new.2, ap (λ (x : Transaction). x.place) new.2)
+                ]
+
+          pub event_passes : (u : Transaction) → In u v.state.transactions → Goes_on u
+          unfolding ordered
+          event_passes u there = elim (happens_so (entered world.state) (entered_whole world.state (sound_whole world sound)) serving event none) [
+            | inl quietly ↦ quietly_passes quietly u there
+            | inr says ↦ by_refusal says v.answer.refusal refl
+          ] where
+            by_refusal : (says : Says event (entered world.state) tried) (why : Option Refusal) → v.answer.refusal ≡ why → Goes_on u
+            by_refusal says (Some why) is = stands_passes why is (refused_stands serving world sound mine moment met event outcome room why is) u there
+            by_refusal says None is = says_passes says (heard_so serving world sound mine moment met event outcome room move shows was says is) u there
