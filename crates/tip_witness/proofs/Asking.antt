@@ -72,7 +72,7 @@ pub record Answers (Called : Type 0) (realm id : List ℕ) (moment : Moment) (ol
   pub more : (q : ℕ) → is_some (slice_get old q) ≡ true → is_some (slice_get new q) ≡ true
 
 -- none was lost where all that they say is willing
-lasts_well : (ps qs : List Participant) (q : ℕ) → Lasts ps qs → ((a : Ballot) → answer_at qs q ≡ Some a → is_willing a ≡ true) → answer_at qs q ≡ answer_at ps q
+pub lasts_well : (ps qs : List Participant) (q : ℕ) → Lasts ps qs → ((a : Ballot) → answer_at qs q ≡ Some a → is_willing a ≡ true) → answer_at qs q ≡ answer_at ps q
 lasts_well ps qs q lasts well = elim (lasts_answer q ps qs lasts) [ inl same ↦ same | inr lost ↦ absurd (let wrong : false ≡ true = well answer.Lost lost in cc) ]
 
 -- nothing was heard from any of them

@@ -11,6 +11,7 @@ pub mod Keptness
 pub mod Linking
 pub mod Outcomes
 pub mod Passing
+pub mod Returning
 pub mod Walking
 pub mod Willing
 pub mod Witnessed
