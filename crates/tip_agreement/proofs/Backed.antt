@@ -66,7 +66,7 @@ use Rattle.tip_agreement.proofs.Wording.{are_said}
 
 -- who will tell a commit will tell it in each epoch
 
-will_still : (now later : ℕ) (id : List ℕ) (party : PartyNotes) → will_tell is_commit now id party ≡ true → will_tell is_commit later id party ≡ true
+pub will_still : (now later : ℕ) (id : List ℕ) (party : PartyNotes) → will_tell is_commit now id party ≡ true → will_tell is_commit later id party ≡ true
 will_still now later id party is = let parts = and_parts (bytes_eq id party.id) _ is in and_from _ _ parts.0 (step party.errand parts.1) where
   votes : (b : Bool) → option_map_or is_commit (cond b None (Some Verdict.Abort)) false ≡ true → ⊥
   votes true is = cc
@@ -111,26 +111,26 @@ module _ (w : Work) (spelled : AreSpelled w.state) (quiet : IsQuiet w) (k : Key)
 -- EACH MOVE
 
 module _ (realm : List ℕ) (now : ℕ) (k : Key) (fine : is_spelled k ≡ true) where
-  abbrev id : List ℕ
+  abbrev pub id : List ℕ
   id = identifier realm k
 
   -- a party is out to tell a commit
-  abbrev will : List PartyNotes → Bool
+  abbrev pub will : List PartyNotes → Bool
   will errands = list_any (will_tell is_commit now id) errands
 
-  abbrev are_told_commit : List Output → Bool
+  abbrev pub are_told_commit : List Output → Bool
   are_told_commit shown = are_told is_commit realm id shown
 
-  abbrev stands : List (Key × Row) → Bool
+  abbrev pub stands : List (Key × Row) → Bool
   stands rows = is_committed (row_at k rows)
 
   -- a party was out to tell it, or the committed row stood, or stands now
-  abbrev IsBacked : World → World → Type 0
+  abbrev pub IsBacked : World → World → Type 0
   IsBacked world after = (will world.errands ≡ true) ⊎ ((stands world.rows ≡ true) ⊎ (stands after.rows ≡ true))
 
-  record Backs (world : World) (went : Moved) : Type 0 where
-    told : are_told_commit went.shown ≡ true → IsBacked world went.world
-    out : will went.world.errands ≡ true → IsBacked world went.world
+  pub record Backs (world : World) (went : Moved) : Type 0 where
+    pub told : are_told_commit went.shown ≡ true → IsBacked world went.world
+    pub out : will went.world.errands ≡ true → IsBacked world went.world
 
   -- nobody is told to commit by being let go
   none_let_go : (spent : Option PartyNotes) → let_go_told is_commit realm id spent ≡ true → ⊥
@@ -266,7 +266,7 @@ module _ (realm : List ℕ) (now : ℕ) (k : Key) (fine : is_spelled k ≡ true)
   renewed_backs boxes Refused world = record { told = λ is. absurd (let wrong : false ≡ true = is in cc); out = λ is. inl is }
   renewed_backs boxes NoChange world = record { told = λ is. absurd (let wrong : false ≡ true = is in cc); out = λ is. inl is }
 
-  moved_backs : (serving : Serving) (move : Move) (world : World) → IsSound world → world.state.head.name ≡ realm → list_all is_uncalled world.errands ≡ true → is_honest serving move world ≡ true → Backs world (moved serving move world)
+  pub moved_backs : (serving : Serving) (move : Move) (world : World) → IsSound world → world.state.head.name ≡ realm → list_all is_uncalled world.errands ≡ true → is_honest serving move world ≡ true → Backs world (moved serving move world)
   moved_backs serving (Move.Step event outcome) world sound named uncalled honest = event_backs serving world sound named event outcome (and_parts (brings_no_party event) _ honest).0
   moved_backs serving (Move.Go back outcome) world sound named uncalled honest = gone_backs serving world back outcome sound named world.errands sound.out uncalled refl
   moved_backs serving Move.Lose world sound named uncalled honest = lost_backs world world.errands refl
@@ -297,7 +297,7 @@ module _ (realm : List ℕ) (now : ℕ) (k : Key) (fine : is_spelled k ≡ true)
     step true is = or_right (not (list_any is_commit (told realm id moment.shown))) _ (was is)
     step false is = or_left (not (list_any is_commit (told realm id moment.shown))) _ (ap not (any_told is_commit realm id moment.shown ∙ is))
 
-  shown_so : (before : List Moment) (moment : Moment) → shown_in before ++ moment.shown ≡ shown_in (before ++ moment ∷ [])
+  pub shown_so : (before : List Moment) (moment : Moment) → shown_in before ++ moment.shown ≡ shown_in (before ++ moment ∷ [])
   shown_so before moment = ap (λ xs. shown_in before ++ xs) (sym (append-nil moment.shown)) ∙ sym (flat_map-append (λ (m : Moment). m.shown) before (moment ∷ []))
 
   run_backed : (serving : Serving) (start world : World) (moves : List Move) (before : List Moment) → IsSound world → IsTrueTo (shown_in before) world → world.state.head.name ≡ realm → (stands world.rows ≡ true → Was start (shown_in before)) → (will world.errands ≡ true → Was start (shown_in before)) → is_run serving world moves ≡ true → at_each_behind before (is_backed realm id start) (traced serving world moves) ≡ true

@@ -56,6 +56,7 @@ use Rattle.tip_witness.proofs.Coming.{base_again, called_among, calls_shown, its
 use Rattle.tip_witness.proofs.Happening.{EndsSo, Made, Quietly, Says, again, ends_so, happens_so, returns_so}
 use Rattle.tip_witness.proofs.Hearing.{base_noted, noted_partly}
 use Rattle.tip_witness.proofs.Keeping.{Base, in_all, in_apart, in_append, in_key, in_option, sent_from}
+use Rattle.tip_witness.proofs.Linking.{number_self}
 use Rattle.tip_witness.proofs.Outcomes.{brings_so}
 use Rattle.tip_witness.proofs.Walking.{In, IsOpen, Lasts, Leaves, Walks, Was, in_changed, in_found, lasts_same, open_same, open_then}
 use Rattle.tip_witness.proofs.Willing.{heard_answer, lasts_answer, lasts_some, or_else}
@@ -96,6 +97,7 @@ pub record New (now : ℕ) (branches : List (ℕ × List ℕ)) (ts : List Transa
   pub unheard : (q : ℕ) → answer_at u.parts q ≡ None
   pub covered : (party : PartyNotes) → u.place ≡ Here party → covers party.members branches ≡ true
   pub place : (party : PartyNotes) × (u.place ≡ Here party)
+  pub epoch : (u.key.epoch == now) ≡ true
 
 pub record Passed (realm : List ℕ) (now : ℕ) (branches : List (ℕ × List ℕ)) (Called : Transaction → Type 0) (moment : Moment) (errands : List PartyNotes) (ts : List Transaction) (u : Transaction) : Type 0 where
   pub before : Transaction
@@ -103,9 +105,6 @@ pub record Passed (realm : List ℕ) (now : ℕ) (branches : List (ℕ × List �
   pub follows : Follows realm now branches Called moment errands before u
 
 -- A NEW ONE
-
-number_next : (a b : ℕ) → (a == b) ≡ true → (a == b) ≡ true
-number_next a b is = is
 
 suc_le : (a b : ℕ) → nat_le (suc a) (suc b) ≡ true → nat_le a b ≡ true
 suc_le a b is = grind (arith, nat_tests, is)
@@ -152,6 +151,7 @@ module _ (world : World) (sound : IsSound world) (branches : List (ℕ × List �
           unheard = unanswered;
           covered = λ party at. subst (λ (p : PartyNotes). covers p.members branches ≡ true) (ap (party_in party) at) (subst (λ bs. covers (fresh_members 1 (take (length bs) made.connection.boxes)) branches ≡ true) (sym declared) (fresh_cover 1 branches made.connection.boxes counted (subst (λ bs. nat_le (length bs) (length made.connection.boxes) ≡ true) declared made.room)));
           place = (_, refl);
+          epoch = number_self world.state.head.epoch;
         }))
       | inr none ↦ absurd none
     ]
