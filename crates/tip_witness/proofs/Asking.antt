@@ -1,12 +1,11 @@
 -- What each event leaves of the answers of a transaction's parts: what it heard from one, and else what they were.
-use Rattle.std.proofs.Common.{◌≡◌, Bool, true, false, ℕ, zero, suc, List, [], ◌∷◌, ◌++◌, Option, Some, None, cond, refl, ap, subst, sym, arith, ◌∙◌, ◌⊎◌, inl, inr}
-use Rattle.std.specs.Prelude.{◌&&◌, ◌||◌, ◌==◌, find, is_some, nat_le, not, option_map, slice_get}
-use Rattle.std.specs.List.{list_all, list_any}
-use Rattle.std.specs.Option.{option_and_then, option_map_or, option_to_list}
+use Rattle.std.proofs.Common.{◌≡◌, Bool, true, false, ℕ, zero, suc, List, [], ◌∷◌, Option, Some, None, cond, refl, ap, subst, sym, arith, ◌∙◌, ◌⊎◌, inl, inr}
+use Rattle.std.specs.Prelude.{◌==◌, is_some, nat_le, option_map, slice_get}
+use Rattle.std.specs.List.{list_any}
+use Rattle.std.specs.Option.{option_and_then, option_map_or}
 use Rattle.std.specs.Str.{bytes_eq}
-use Rattle.std.proofs.lemmas.Bool.{and_parts, both_ways, cases_Bool, or_left}
+use Rattle.std.proofs.lemmas.Bool.{both_ways, cases_Bool}
 use Rattle.std.proofs.lemmas.Bool.Decides.{nat_tests}
-use Rattle.std.proofs.lemmas.List.Folds.{list_any-append}
 use Rattle.std.proofs.lemmas.Option.{none-some, same_Some}
 use Rattle.tip_line.specs.declared.refusal.Refusal.{Refusal}
 use Rattle.tip_line.specs.declared.refusal.Refusal.TheVariants.{Busy}
@@ -15,24 +14,20 @@ use Rattle.tip_line.specs.declared.response.Response.TheVariants as responses
 use Rattle.tip_rows.specs.Keys.{Key, is_same}
 use Rattle.tip_rows.proofs.MemoryLemmas.{bytes_eq-self, same_text}
 use Rattle.tip_rows.proofs.OrderLemmas.{same_key}
-use Rattle.tip_table.specs.Lists.{changed}
 use Rattle.tip_txn.specs.Parts.{answer_at, answered, changed_at}
 use Rattle.tip_txn.specs.declared.answer.Ballot.{Ballot}
 use Rattle.tip_txn.specs.declared.answer.Ballot.TheVariants as answer
 use Rattle.tip_txn.specs.declared.answer.Phase.TheVariants.{Aborted}
 use Rattle.tip_txn.specs.declared.part.Participant.{Participant}
-use Rattle.tip_machine.specs.Agreement.{answer_by, heard_from, is_willing, part_of}
+use Rattle.tip_machine.specs.Agreement.{answer_by, is_willing, part_of}
 use Rattle.tip_machine.specs.Agreement.Traces.{Came, Moment, came_in, came_on, heard_in, is_refusal}
 use Rattle.tip_machine.specs.Answers.{identifier}
-use Rattle.tip_machine.specs.Changes.{alter, refuse}
-use Rattle.tip_machine.specs.Failing.{wrong}
+use Rattle.tip_machine.specs.Changes.{alter}
 use Rattle.tip_machine.specs.Invariants.{IsSound}
 use Rattle.tip_machine.specs.Invariants.Bounds.{is_spelled}
 use Rattle.tip_machine.specs.Invariants.Links.{are_distinct}
 use Rattle.tip_machine.specs.Moves.{Move, World}
-use Rattle.tip_machine.specs.Order.{ordered}
-use Rattle.tip_machine.specs.Outputs.{Output, outputs}
-use Rattle.tip_machine.specs.States.{Attempt, State, Work, connection_of, seated, transaction_of}
+use Rattle.tip_machine.specs.States.{Attempt, State, Work, seated, transaction_of}
 use Rattle.tip_machine.specs.Steps.{chosen, entered}
 use Rattle.tip_machine.specs.Transactions.{has_key, noting}
 use Rattle.tip_machine.specs.Types.{Connection, Event, Transaction}
@@ -41,22 +36,19 @@ use Rattle.tip_machine.specs.declared.connection.Awaited.TheVariants as awaited
 use Rattle.tip_machine.specs.declared.connection.Role.{Role}
 use Rattle.tip_machine.specs.declared.connection.Role.TheVariants.{Superior, Subordinate}
 use Rattle.tip_machine.specs.declared.event.Event.TheVariants.{Line}
-use Rattle.tip_machine.specs.declared.event.Heard.{Heard}
 use Rattle.tip_machine.specs.declared.event.Heard.TheVariants.{Response as AResponse}
 use Rattle.tip_machine.specs.declared.event.Outcome.{Outcome}
 use Rattle.tip_machine.specs.declared.event.Outcome.TheVariants.{NoChange, Refused, Stored}
 use Rattle.tip_machine.specs.declared.event.Seat.{Seat}
 use Rattle.tip_machine.specs.Connections.{has_number}
 use Rattle.tip_machine.proofs.Walks.{found_passes, seated_there}
-use Rattle.tip_agreement.proofs.Answering.{is_partly}
 use Rattle.tip_agreement.proofs.Around.{found_altered}
 use Rattle.tip_agreement.proofs.Bounded.{in_bounds}
 use Rattle.tip_agreement.proofs.Closing.{is_stoppable}
-use Rattle.tip_agreement.proofs.Keys.{key_self, keys_changed, keys_of}
+use Rattle.tip_agreement.proofs.Keys.{keys_changed}
 use Rattle.tip_agreement.proofs.Moving.{sound_whole}
 use Rattle.tip_agreement.proofs.Owned.{key_found}
 use Rattle.tip_agreement.proofs.Speaking.{ids_differ}
-use Rattle.tip_agreement.proofs.Spelling.{keys_told}
 use Rattle.tip_witness.proofs.Happening.{Noted, Quietly, Says, line_on, note_of}
 use Rattle.tip_witness.proofs.Hearing.{noted_partly}
 use Rattle.tip_witness.proofs.Keeping.{in_all, in_apart}

@@ -1,27 +1,26 @@
 -- A party that answers yes or read-only: each of its branches was asked, and voted so.
-use Rattle.std.proofs.Common.{◌≡◌, Bool, true, false, ℕ, List, [], ◌∷◌, Option, Some, None, cond, refl, ap, subst, sym, ◌∙◌, ◌⊎◌, inl, inr}
+use Rattle.std.proofs.Common.{◌≡◌, Bool, true, false, ℕ, List, [], ◌∷◌, Option, Some, None, cond, refl, ap, subst, sym, ◌∙◌, inl, inr}
 use Rattle.std.specs.Prelude.{◌&&◌, ◌||◌, ◌==◌, filter, is_none, is_some, map, not, option_map}
 use Rattle.std.specs.List.{list_all, list_any}
 use Rattle.std.specs.Option.{option_map_or}
-use Rattle.std.proofs.lemmas.Bool.{and_from, and_parts, both_ways, or_cases, or_left, or_parts, or_right}
+use Rattle.std.proofs.lemmas.Bool.{and_from, and_parts, or_cases, or_left, or_parts, or_right}
 use Rattle.tip_branch.specs.Members.{aborting, committing, forgetting, is_active, is_no, is_ready, voting}
 use Rattle.tip_branch.specs.Notes.{PartyNotes}
 use Rattle.tip_branch.specs.Votes.{answer_of, ballot}
 use Rattle.tip_branch.specs.declared.branch.Settled.{Settled}
 use Rattle.tip_branch.specs.declared.branch.Vote.{Vote}
 use Rattle.tip_branch.specs.declared.branch.Vote.TheVariants as vote
-use Rattle.tip_branch.specs.declared.member.Call.{Call}
 use Rattle.tip_branch.specs.declared.member.Errand.{Errand}
 use Rattle.tip_branch.specs.declared.member.Errand.TheVariants as errand
 use Rattle.tip_branch.specs.declared.member.Member.{Member}
 use Rattle.tip_txn.specs.Parts.{is_yes}
 use Rattle.tip_txn.specs.declared.answer.Ballot.{Ballot}
-use Rattle.tip_txn.specs.declared.answer.Ballot.TheVariants.{Lost, No, ReadOnly, Yes}
+use Rattle.tip_txn.specs.declared.answer.Ballot.TheVariants.{No}
 use Rattle.tip_txn.specs.declared.answer.Decision.TheVariants as decisions
 use Rattle.tip_machine.specs.Agreement.{is_willing, is_willing_vote}
 use Rattle.tip_machine.specs.Invariants.Parties.{are_unasked, is_unasked}
 use Rattle.tip_machine.specs.Returns.{Back, aborted_if_ready, back_of, called, settled_by, voted_by}
-use Rattle.tip_machine.specs.Transactions.{as_answer, decision, party_answer, refuses}
+use Rattle.tip_machine.specs.Transactions.{as_answer, party_answer, refuses}
 use Rattle.tip_agreement.proofs.Apart.{all_more}
 use Rattle.tip_witness.proofs.Coming.{called_among, is_called_so}
 

@@ -4,6 +4,7 @@ pub mod Bases
 pub mod Beginning
 pub mod Coming
 pub mod Denying
+pub mod Goings
 pub mod Happening
 pub mod Hearing
 pub mod Keeping

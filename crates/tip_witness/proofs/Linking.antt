@@ -1,10 +1,10 @@
 -- What a sound realm says of the parts of a transaction: what they may have answered, and which of them have a connection.
-use Rattle.std.proofs.Common.{◌≡◌, Bool, true, false, ℕ, zero, suc, ◌+◌, List, [], ◌∷◌, Option, Some, None, cond, refl, ap, subst, sym, arith, ◌∙◌, ◌⊎◌, inl, inr}
-use Rattle.std.specs.Prelude.{◌&&◌, ◌==◌, filter_map, find, is_some, length, nat_le, nat_lt, slice_get}
+use Rattle.std.proofs.Common.{◌≡◌, Bool, true, false, ℕ, zero, suc, List, [], ◌∷◌, Option, Some, None, cond, refl, ap, subst, sym, arith, ◌∙◌, ◌⊎◌, inl, inr}
+use Rattle.std.specs.Prelude.{◌==◌, filter_map, find, is_some, length, nat_le, nat_lt, slice_get}
 use Rattle.std.specs.List.{cons_option, list_all, list_any}
 use Rattle.std.specs.Option.{option_and_then, option_map_or}
 use Rattle.std.specs.Str.{bytes_eq}
-use Rattle.std.proofs.lemmas.Bool.{and_from, and_parts, both_ways, or_cases, or_left, or_right}
+use Rattle.std.proofs.lemmas.Bool.{and_parts, or_cases, or_left, or_right}
 use Rattle.std.proofs.lemmas.Bool.Decides.{nat_tests}
 use Rattle.std.proofs.lemmas.Option.{none-some, same_Some}
 use Rattle.tip_branch.specs.declared.member.Errand.TheVariants as errand
@@ -14,7 +14,7 @@ use Rattle.tip_rows.proofs.MemoryLemmas.{bytes_eq-self, same_text}
 use Rattle.tip_rows.proofs.OrderLemmas.{same_key}
 use Rattle.tip_txn.specs.Parts.{answer_at}
 use Rattle.tip_txn.specs.declared.answer.Ballot.{Ballot}
-use Rattle.tip_txn.specs.declared.answer.Ballot.TheVariants.{Lost, No, ReadOnly, Yes}
+use Rattle.tip_txn.specs.declared.answer.Ballot.TheVariants.{ReadOnly, Yes}
 use Rattle.tip_txn.specs.declared.answer.Phase.{Phase}
 use Rattle.tip_txn.specs.declared.answer.Phase.TheVariants.{Active, Asking, Prepared, Committed, Aborted}
 use Rattle.tip_txn.specs.declared.part.Participant.{Participant}
@@ -23,11 +23,11 @@ use Rattle.tip_machine.specs.Answers.{identifier}
 use Rattle.tip_machine.specs.Connections.{is_part_of, reaches}
 use Rattle.tip_machine.specs.Invariants.{IsSound}
 use Rattle.tip_machine.specs.Invariants.Bounds.{is_spelled}
-use Rattle.tip_machine.specs.Invariants.Links.{Link, have_roles, is_role_in, link, roles_of}
-use Rattle.tip_machine.specs.Invariants.Links.Link.{Awaits, Gone, Owes}
+use Rattle.tip_machine.specs.Invariants.Links.{Link, is_role_in, link, roles_of}
+use Rattle.tip_machine.specs.Invariants.Links.Link.{Awaits, Gone}
 use Rattle.tip_machine.specs.Invariants.Phases.{is_part, is_part_in, is_party, is_transaction}
 use Rattle.tip_machine.specs.Moves.{World}
-use Rattle.tip_machine.specs.States.{State, transaction_of}
+use Rattle.tip_machine.specs.States.{transaction_of}
 use Rattle.tip_machine.specs.Transactions.{has_key}
 use Rattle.tip_machine.specs.Types.{Connection, PartyPlace, Transaction}
 use Rattle.tip_machine.specs.declared.connection.Awaited.TheVariants as awaited

@@ -1,65 +1,57 @@
 -- Each transaction after a move is one from before it, with what its parts have answered, or a new one.
-use Rattle.std.proofs.Common.{◌≡◌, Bool, true, false, ℕ, zero, suc, ◌+◌, List, [], ◌∷◌, ◌++◌, Option, Some, None, cond, refl, ap, subst, sym, arith, ◌∙◌, ◌⊎◌, inl, inr}
-use Rattle.std.specs.Prelude.{◌&&◌, ◌||◌, ◌==◌, is_some, length, map, nat_le, not, option_map, slice_get, take}
-use Rattle.std.specs.List.{list_all, list_any}
+use Rattle.std.proofs.Common.{◌≡◌, true, ℕ, zero, suc, ◌+◌, List, [], ◌∷◌, ◌++◌, Option, Some, None, cond, refl, ap, subst, sym, arith, ◌∙◌, ◌⊎◌, inl, inr}
+use Rattle.std.specs.Prelude.{◌==◌, length, map, nat_le, not, option_map, take}
+use Rattle.std.specs.List.{list_any}
 use Rattle.std.specs.Option.{option_map_or, option_to_list}
 use Rattle.std.specs.Str.{bytes_eq}
-use Rattle.std.proofs.lemmas.Bool.{and_from, and_parts, both_ways, cases_Bool, not-true, or_left, or_parts, or_right}
+use Rattle.std.proofs.lemmas.Bool.{and_from, and_parts, both_ways, not-true, or_left, or_right}
 use Rattle.std.proofs.lemmas.Bool.Decides.{nat_tests}
 use Rattle.std.proofs.lemmas.List.Folds.{list_any-append}
-use Rattle.std.proofs.lemmas.Option.{none-some, same_Some}
+use Rattle.std.proofs.lemmas.Option.{none-some}
 use Rattle.tip_branch.specs.Members.{fresh_members}
 use Rattle.tip_branch.specs.Notes.{PartyNotes, given}
 use Rattle.tip_branch.specs.declared.branch.Badge.{Badge}
 use Rattle.tip_branch.specs.declared.member.Errand.{Errand}
-use Rattle.tip_branch.specs.declared.member.Errand.TheVariants as errand
 use Rattle.tip_line.specs.declared.refusal.Refusal.{Refusal}
 use Rattle.tip_rows.specs.Keys.{Key, is_same}
-use Rattle.tip_rows.proofs.OrderLemmas.{same_key}
-use Rattle.tip_txn.specs.Parts.{answer_at, answered, changed_at}
+use Rattle.tip_txn.specs.Parts.{answer_at}
 use Rattle.tip_txn.specs.Transactions.{local_party}
 use Rattle.tip_txn.specs.declared.answer.Ballot.{Ballot}
 use Rattle.tip_txn.specs.declared.answer.Phase.TheVariants.{Aborted}
 use Rattle.tip_txn.specs.declared.part.Participant.{Participant}
-use Rattle.tip_machine.specs.Agreement.{is_called, is_willing, is_willing_vote, was_called}
-use Rattle.tip_machine.specs.Agreement.Traces.{Moment, came_in, heard_in, is_refusal, shown_in}
+use Rattle.tip_machine.specs.Agreement.{is_willing}
+use Rattle.tip_machine.specs.Agreement.Traces.{Moment, came_in, heard_in, is_refusal}
 use Rattle.tip_machine.specs.Answers.{identifier}
 use Rattle.tip_machine.specs.Changes.{alter}
 use Rattle.tip_machine.specs.Honest.{brings_no_party}
 use Rattle.tip_machine.specs.Invariants.{IsSound}
 use Rattle.tip_machine.specs.Invariants.Links.{are_distinct}
-use Rattle.tip_machine.specs.Invariants.Parties.{are_unasked, is_sent}
 use Rattle.tip_machine.specs.Moves.{Move, World}
 use Rattle.tip_machine.specs.Order.{ordered}
-use Rattle.tip_machine.specs.Outputs.{Output, brought, calls_of, drops_of, outputs}
-use Rattle.tip_machine.specs.Requests.{owner, strange}
-use Rattle.tip_machine.specs.Returns.{Back, back_of, event_of}
+use Rattle.tip_machine.specs.Outputs.{Output, brought, drops_of, outputs}
 use Rattle.tip_machine.specs.Served.{Serving}
 use Rattle.tip_machine.specs.Starting.{are_counted_from}
-use Rattle.tip_machine.specs.States.{Attempt, State, Work, transaction_of}
+use Rattle.tip_machine.specs.States.{Attempt, Work}
 use Rattle.tip_machine.specs.Steps.{attempt, chosen, entered, is_open, wanted}
-use Rattle.tip_machine.specs.Transactions.{begun, has_key, next_key, noting, party_answer, standing_at}
+use Rattle.tip_machine.specs.Transactions.{has_key, noting}
 use Rattle.tip_machine.specs.Types.{Event, PartyPlace, Transaction}
 use Rattle.tip_machine.specs.declared.event.Outcome.{Outcome}
 use Rattle.tip_machine.specs.declared.event.Outcome.TheVariants.{NoChange, Refused, Stored}
 use Rattle.tip_machine.specs.declared.transaction.PartyPlace.TheVariants.{Here, Out, Spent}
 use Rattle.tip_agreement.proofs.Apart.{all_more}
 use Rattle.tip_agreement.proofs.Events.{entered_whole}
-use Rattle.tip_agreement.proofs.Keys.{key_self, keys_changed, keys_of}
-use Rattle.tip_agreement.proofs.Moving.{due_awaited, sound_whole}
-use Rattle.tip_agreement.proofs.Errands.{first_due}
-use Rattle.tip_agreement.proofs.Around.{found_altered}
-use Rattle.tip_witness.proofs.Asking.{Answers, answers_stay, chosen_walks, none_heard, quiet_heard, says_answers, changed_some}
-use Rattle.tip_witness.proofs.Ballots.{all_agreed, covers, covers_back, covers_same, each_called, forgotten_same}
+use Rattle.tip_agreement.proofs.Keys.{key_self, keys_of}
+use Rattle.tip_agreement.proofs.Moving.{sound_whole}
+use Rattle.tip_witness.proofs.Asking.{Answers, answers_stay, chosen_walks, none_heard, quiet_heard, says_answers}
+use Rattle.tip_witness.proofs.Ballots.{covers, covers_same, forgotten_same}
 use Rattle.tip_witness.proofs.Bases.{base_entered}
-use Rattle.tip_witness.proofs.Coming.{base_again, called_among, calls_shown, its_epoch, its_errand, named}
-use Rattle.tip_witness.proofs.Happening.{EndsSo, Made, Quietly, Says, again, ends_so, happens_so, returns_so}
+use Rattle.tip_witness.proofs.Coming.{named}
+use Rattle.tip_witness.proofs.Happening.{EndsSo, Made, Quietly, Says, happens_so}
 use Rattle.tip_witness.proofs.Hearing.{base_noted, noted_partly}
-use Rattle.tip_witness.proofs.Keeping.{Base, in_all, in_apart, in_append, in_key, in_option, sent_from}
+use Rattle.tip_witness.proofs.Keeping.{Base, in_append, in_key, in_option, sent_from}
 use Rattle.tip_witness.proofs.Linking.{number_self}
-use Rattle.tip_witness.proofs.Outcomes.{brings_so}
-use Rattle.tip_witness.proofs.Walking.{In, IsOpen, Lasts, Leaves, Walks, Was, in_changed, in_found, lasts_same, open_same, open_then}
-use Rattle.tip_witness.proofs.Willing.{heard_answer, lasts_answer, lasts_some, or_else}
+use Rattle.tip_witness.proofs.Walking.{In, IsOpen, Leaves, Walks, in_changed, in_found, lasts_same, open_same, open_then}
+use Rattle.tip_witness.proofs.Willing.{heard_answer, or_else}
 use Rattle.tip_witness.proofs.Witnessed.{In_world, Stands, heard_so, refused_stands}
 use Rattle.tip_machine.proofs.Walks.{seated_there}
 
@@ -147,12 +139,12 @@ module _ (world : World) (sound : IsSound world) (branches : List (ℕ × List �
     | inl old ↦ inl old
     | inr new ↦ elim new [
       | inl is ↦ inr (subst (New now branches world.state.transactions) (sym is) (record {
-          absent = apart_last world.state.transactions _ (subst (λ ts. are_distinct is_same (keys_of ts) ≡ true) made.transactions apart);
-          unheard = unanswered;
-          covered = λ party at. subst (λ (p : PartyNotes). covers p.members branches ≡ true) (ap (party_in party) at) (subst (λ bs. covers (fresh_members 1 (take (length bs) made.connection.boxes)) branches ≡ true) (sym declared) (fresh_cover 1 branches made.connection.boxes counted (subst (λ bs. nat_le (length bs) (length made.connection.boxes) ≡ true) declared made.room)));
-          place = (_, refl);
-          epoch = number_self world.state.head.epoch;
-        }))
+        absent = apart_last world.state.transactions _ (subst (λ ts. are_distinct is_same (keys_of ts) ≡ true) made.transactions apart);
+        unheard = unanswered;
+        covered = λ party at. subst (λ (p : PartyNotes). covers p.members branches ≡ true) (ap (party_in party) at) (subst (λ bs. covers (fresh_members 1 (take (length bs) made.connection.boxes)) branches ≡ true) (sym declared) (fresh_cover 1 branches made.connection.boxes counted (subst (λ bs. nat_le (length bs) (length made.connection.boxes) ≡ true) declared made.room)));
+        place = (_, refl);
+        epoch = number_self world.state.head.epoch;
+      }))
       | inr none ↦ absurd none
     ]
   ] where
@@ -218,20 +210,28 @@ module _ (world : World) (sound : IsSound world) (branches : List (ℕ × List �
             | inl walks ↦
                 let wasu = walks.each u there in
                 let t = wasu.before in
-                inl (record { before = t; listed = wasu.there; follows = record {
-                  key = wasu.key;
-                  live = wasu.live;
-                  answers = λ live this. answers_stay (Called t) realm (identifier realm t.key) moment t.parts u.parts (quiet_heard world sound event outcome tried moment met move quietly (refusing shows) t u wasu.there there wasu.key live) wasu.parts (well u there live);
-                  covered = λ this. covers_on now branches world.errands v.answer.work (identifier realm t.key) t.place u.place (covered t wasu.there this) wasu.place (sent_from realm all now (entered world.state) world.errands world.rows base v walks t wasu.there);
-                } })
+                inl (record {
+                  before = t;
+                  listed = wasu.there;
+                  follows = record {
+                    key = wasu.key;
+                    live = wasu.live;
+                    answers = λ live this. answers_stay (Called t) realm (identifier realm t.key) moment t.parts u.parts (quiet_heard world sound event outcome tried moment met move quietly (refusing shows) t u wasu.there there wasu.key live) wasu.parts (well u there live);
+                    covered = λ this. covers_on now branches world.errands v.answer.work (identifier realm t.key) t.place u.place (covered t wasu.there this) wasu.place (sent_from realm all now (entered world.state) world.errands world.rows base v walks t wasu.there);
+                  };
+                })
             | inr made ↦ elim (made_new v made apart u there) [
               | inr new ↦ inr new
-              | inl old ↦ inl (record { before = u; listed = old; follows = record {
+              | inl old ↦ inl (record {
+                before = u;
+                listed = old;
+                follows = record {
                   key = refl;
                   live = open_same u u refl;
                   answers = λ live this. answers_stay (Called u) realm (identifier realm u.key) moment u.parts u.parts (quiet_heard world sound event outcome tried moment met move quietly (refusing shows) u u old there refl live) (lasts_same u.parts) (well u there live);
                   covered = no_work made.work u old;
-                } })
+                };
+              })
             ]
           ]
 
@@ -253,12 +253,16 @@ module _ (world : World) (sound : IsSound world) (branches : List (ℕ × List �
               let of = from_noted noted.key noted.part noted.note wasu.before wasu.there in
               let t = of.0 in
               let same : u.key ≡ t.key = wasu.key ∙ of.2 in
-              inl (record { before = t; listed = of.1; follows = record {
-                key = same;
-                live = open_then t wasu.before u (open_same t wasu.before of.3) wasu.live;
-                answers = λ live this. says_answers world sound event outcome tried moment met move says heard (Called t) u there (well u there live) wasu t of.1 same;
-                covered = λ this. subst (λ k. Covers now branches (world.errands ++ option_to_list v.answer.work) (identifier realm k) u.place) of.2 (covers_on now branches world.errands v.answer.work (identifier realm wasu.before.key) wasu.before.place u.place (subst (λ p. Covers now branches world.errands (identifier realm wasu.before.key) p) (sym of.4) (subst (λ k. Covers now branches world.errands (identifier realm k) t.place) (sym of.2) (covered t of.1 this))) wasu.place (sent_from realm all now w world.errands world.rows noted_base v walks wasu.before wasu.there));
-              } }) where
+              inl (record {
+                before = t;
+                listed = of.1;
+                follows = record {
+                  key = same;
+                  live = open_then t wasu.before u (open_same t wasu.before of.3) wasu.live;
+                  answers = λ live this. says_answers world sound event outcome tried moment met move says heard (Called t) u there (well u there live) wasu t of.1 same;
+                  covered = λ this. subst (λ k. Covers now branches (world.errands ++ option_to_list v.answer.work) (identifier realm k) u.place) of.2 (covers_on now branches world.errands v.answer.work (identifier realm wasu.before.key) wasu.before.place u.place (subst (λ p. Covers now branches world.errands (identifier realm wasu.before.key) p) (sym of.4) (subst (λ k. Covers now branches world.errands (identifier realm k) t.place) (sym of.2) (covered t of.1 this))) wasu.place (sent_from realm all now w world.errands world.rows noted_base v walks wasu.before wasu.there));
+                };
+              }) where
                 from_noted : (key : Key) (part : ℕ) (note : Participant → Participant) (b : Transaction) → In b (alter key (noting part note) (entered world.state)).state.transactions → (t : Transaction) × (In t world.state.transactions) × (b.key ≡ t.key) × (b.phase ≡ t.phase) × (b.place ≡ t.place)
                 from_noted key part note b is = elim (in_changed (has_key key) (noting part note) world.state.transactions b is) [
                   | inl old ↦ (b, old, refl, refl, refl)

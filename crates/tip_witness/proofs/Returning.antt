@@ -1,10 +1,9 @@
 -- Each transaction passes a party's return: where it voted, each of its branches was called.
-use Rattle.std.proofs.Common.{◌≡◌, Bool, true, false, ℕ, zero, suc, List, [], ◌∷◌, ◌++◌, Option, Some, None, cond, refl, ap, subst, sym, ◌∙◌, ◌⊎◌, inl, inr}
-use Rattle.std.specs.Prelude.{◌&&◌, ◌==◌, is_some, nat_le, slice_get}
+use Rattle.std.proofs.Common.{◌≡◌, Bool, true, false, ℕ, zero, suc, List, [], ◌∷◌, ◌++◌, Some, None, cond, refl, ap, subst, sym, ◌∙◌, inl, inr}
+use Rattle.std.specs.Prelude.{◌==◌, nat_le}
 use Rattle.std.specs.List.{list_all, list_any}
 use Rattle.std.specs.Option.{option_to_list}
-use Rattle.std.specs.Str.{bytes_eq}
-use Rattle.std.proofs.lemmas.Bool.{and_parts, both_ways, cases_Bool, or_right}
+use Rattle.std.proofs.lemmas.Bool.{both_ways, cases_Bool, or_right}
 use Rattle.std.proofs.lemmas.List.{append-nil}
 use Rattle.std.proofs.lemmas.List.Concat.{flat_map-append}
 use Rattle.std.proofs.lemmas.List.Folds.{list_any-append}
@@ -12,7 +11,7 @@ use Rattle.std.proofs.lemmas.Option.{none-some, same_Some}
 use Rattle.tip_branch.specs.Notes.{PartyNotes}
 use Rattle.tip_branch.specs.declared.member.Errand.{Errand}
 use Rattle.tip_branch.specs.declared.member.Errand.TheVariants as errand
-use Rattle.tip_rows.specs.Keys.{Key, is_same}
+use Rattle.tip_rows.specs.Keys.{is_same}
 use Rattle.tip_rows.proofs.OrderLemmas.{same_key}
 use Rattle.tip_table.specs.Lists.{changed}
 use Rattle.tip_txn.specs.Parts.{answer_at, answered, changed_at}
@@ -20,14 +19,13 @@ use Rattle.tip_txn.specs.declared.answer.Ballot.{Ballot}
 use Rattle.tip_txn.specs.declared.answer.Phase.TheVariants.{Aborted}
 use Rattle.tip_txn.specs.declared.part.Participant.{Participant}
 use Rattle.tip_machine.specs.Agreement.{is_called, is_willing, is_willing_vote, was_called}
-use Rattle.tip_machine.specs.Agreement.Traces.{Came, Moment, came_in, heard_in, is_refusal, shown_in}
+use Rattle.tip_machine.specs.Agreement.Traces.{Moment, came_in, is_refusal, shown_in}
 use Rattle.tip_machine.specs.Answers.{identifier}
 use Rattle.tip_machine.specs.Changes.{alter}
 use Rattle.tip_machine.specs.Invariants.{IsSound}
 use Rattle.tip_machine.specs.Invariants.Parties.{are_unasked, is_sent}
 use Rattle.tip_machine.specs.Moves.{Move, World}
 use Rattle.tip_machine.specs.Outputs.{Output, calls_of}
-use Rattle.tip_machine.specs.Requests.{owner}
 use Rattle.tip_machine.specs.Returns.{Back, back_of, event_of}
 use Rattle.tip_machine.specs.Served.{Serving}
 use Rattle.tip_machine.specs.States.{Attempt, State, Work, transaction_of}
@@ -35,7 +33,7 @@ use Rattle.tip_machine.specs.Steps.{attempt, chosen, entered}
 use Rattle.tip_machine.specs.Transactions.{has_key, noting, party_answer, standing_at}
 use Rattle.tip_machine.specs.Types.{PartyPlace, Transaction}
 use Rattle.tip_machine.specs.declared.event.Outcome.{Outcome}
-use Rattle.tip_machine.specs.declared.transaction.PartyPlace.TheVariants.{Here, Out}
+use Rattle.tip_machine.specs.declared.transaction.PartyPlace.TheVariants.{Here}
 use Rattle.tip_machine.proofs.Walks.{found_passes}
 use Rattle.tip_agreement.proofs.Apart.{all_more}
 use Rattle.tip_agreement.proofs.Around.{found_altered}
@@ -46,8 +44,8 @@ use Rattle.tip_witness.proofs.Ballots.{all_agreed, covers, covers_back, each_cal
 use Rattle.tip_witness.proofs.Coming.{are_out_now, base_again, called_among, calls_shown, found, its_epoch, its_errand, listed, named}
 use Rattle.tip_witness.proofs.Happening.{Came as CameBack, again, returns_so}
 use Rattle.tip_witness.proofs.Keeping.{Base, in_apart, sent_from}
-use Rattle.tip_witness.proofs.Passing.{Covers, Follows, Passed, covers_fewer, covers_on}
-use Rattle.tip_witness.proofs.Walking.{In, IsOpen, Lasts, Leaves, Walks, Was, in_changed, in_found, open_same, open_then}
+use Rattle.tip_witness.proofs.Passing.{Covers, Passed, covers_fewer, covers_on}
+use Rattle.tip_witness.proofs.Walking.{In, Lasts, Walks, Was, in_changed, in_found, open_same, open_then}
 use Rattle.tip_witness.proofs.Willing.{heard_answer, lasts_some, or_else}
 use Rattle.tip_witness.proofs.Witnessed.{In_world}
 
@@ -176,9 +174,9 @@ module _ (serving : Serving) (world : World) (sound : IsSound world) (branches :
           let unasked : are_unasked party ≡ true = subst (λ x. is_sent x party ≡ true) at sent in
           let called = each_called came_back.members branches (all_agreed party back at unasked willing) (covers_back party back branches (its_cover this)) in
           all_more (called_among is_willing_vote came_back.members) (was_called realm (identifier realm t.key) is_willing_vote (made t ++ moment ∷ [])) branches (λ b is.
-            let test = is_called realm (identifier realm t.key) is_willing_vote b.0 in
-            let shown = brings test (calls_shown is_willing_vote realm (identifier realm t.key) came_back came_back.members b (named world sound party rest out mine moment back was.shown was.cared brings t came.owned e came.out) is) in
-            ap (list_any test) (flat_map-append (λ (m : Moment). m.shown) (made t) (moment ∷ [])) ∙ (list_any-append test (shown_in (made t)) (shown_in (moment ∷ [])) ∙ or_right (list_any test (shown_in (made t))) _ (ap (list_any test) (append-nil moment.shown) ∙ shown))) called
+          let test = is_called realm (identifier realm t.key) is_willing_vote b.0 in
+          let shown = brings test (calls_shown is_willing_vote realm (identifier realm t.key) came_back came_back.members b (named world sound party rest out mine moment back was.shown was.cared brings t came.owned e came.out) is) in
+          ap (list_any test) (flat_map-append (λ (m : Moment). m.shown) (made t) (moment ∷ [])) ∙ (list_any-append test (shown_in (made t)) (shown_in (moment ∷ [])) ∙ or_right (list_any test (shown_in (made t))) _ (ap (list_any test) (append-nil moment.shown) ∙ shown))) called
 
       own_answers : (u : Transaction) → In u v.state.transactions → (u.phase ≡ Aborted → ⊥) → (t.key.epoch == now) ≡ true → (x : Errand) → e ≡ x → Lasts (returned x).parts u.parts → Answers (Called t) realm (identifier realm t.key) moment t.parts u.parts
       unfolding returned
@@ -209,21 +207,29 @@ module _ (serving : Serving) (world : World) (sound : IsSound world) (branches :
             let r = returned e in
             let is : wasu.before ≡ r = in_apart w.state.transactions base.apart wasu.before r wasu.there (in_found (has_key t.key) w.state.transactions r (returned_found e)) (sym (same_key t.key wasu.before.key same) ∙ sym (returned_so e).0) in
             let key_is : wasu.before.key ≡ t.key = sym (same_key t.key wasu.before.key same) in
-            record { before = t; listed = its_listed; follows = record {
-              key = wasu.key ∙ key_is;
-              live = open_then t wasu.before u (open_same t wasu.before (ap (λ (x : Transaction). x.phase) is ∙ (returned_so e).1)) wasu.live;
-              answers = λ live this. own_answers u there live this e refl (subst (λ (x : Transaction). Lasts x.parts u.parts) is wasu.parts);
-              covered = λ this. subst (λ k. Covers now branches (rest ++ option_to_list v.answer.work) (identifier realm k) u.place) key_is (covers_on now branches rest v.answer.work (identifier realm wasu.before.key) wasu.before.place u.place (subst (λ p. Covers now branches rest (identifier realm wasu.before.key) p) (sym (ap (λ (x : Transaction). x.place) is ∙ (returned_so e).2)) (subst (λ k. Covers now branches rest (identifier realm k) (Here came_back)) (sym key_is) (cover_here this))) wasu.place (sent_from realm all now w rest world.rows base v walks wasu.before wasu.there));
-            } }
+            record {
+              before = t;
+              listed = its_listed;
+              follows = record {
+                key = wasu.key ∙ key_is;
+                live = open_then t wasu.before u (open_same t wasu.before (ap (λ (x : Transaction). x.phase) is ∙ (returned_so e).1)) wasu.live;
+                answers = λ live this. own_answers u there live this e refl (subst (λ (x : Transaction). Lasts x.parts u.parts) is wasu.parts);
+                covered = λ this. subst (λ k. Covers now branches (rest ++ option_to_list v.answer.work) (identifier realm k) u.place) key_is (covers_on now branches rest v.answer.work (identifier realm wasu.before.key) wasu.before.place u.place (subst (λ p. Covers now branches rest (identifier realm wasu.before.key) p) (sym (ap (λ (x : Transaction). x.place) is ∙ (returned_so e).2)) (subst (λ k. Covers now branches rest (identifier realm k) (Here came_back)) (sym key_is) (cover_here this))) wasu.place (sent_from realm all now w rest world.rows base v walks wasu.before wasu.there));
+              };
+            }
         | inr differ ↦
             let b = wasu.before in
             let b_listed = other e b differ wasu.there in
-            record { before = b; listed = b_listed; follows = record {
-              key = wasu.key;
-              live = wasu.live;
-              answers = λ live this. answers_stay (Called b) realm (identifier realm b.key) moment b.parts u.parts (unheard (identifier realm b.key)) wasu.parts (well u there live);
-              covered = λ this. covers_on now branches rest v.answer.work (identifier realm b.key) b.place u.place (covered_rest b b_listed this) wasu.place (sent_from realm all now w rest world.rows base v walks b wasu.there);
-            } }
+            record {
+              before = b;
+              listed = b_listed;
+              follows = record {
+                key = wasu.key;
+                live = wasu.live;
+                answers = λ live this. answers_stay (Called b) realm (identifier realm b.key) moment b.parts u.parts (unheard (identifier realm b.key)) wasu.parts (well u there live);
+                covered = λ this. covers_on now branches rest v.answer.work (identifier realm b.key) b.place u.place (covered_rest b b_listed this) wasu.place (sent_from realm all now w rest world.rows base v walks b wasu.there);
+              };
+            }
       ] where
         walks : Walks (again came.errand came_back came.transaction (entered world.state)) v
         walks = chosen_walks (again came.errand came_back came.transaction (entered world.state)) tried outcome came.goes

@@ -1,14 +1,13 @@
 -- Who was willing: of a transaction that is not aborted, what each part has answered so far is noted of it, and none was lost
 -- before it had answered.
 use Rattle.std.proofs.Common.{◌≡◌, Bool, true, false, ℕ, zero, suc, List, [], ◌∷◌, ◌++◌, Option, Some, None, cond, refl, ap, subst, sym, ◌∙◌, ◌⊎◌, inl, inr}
-use Rattle.std.specs.Prelude.{◌&&◌, ◌||◌, ◌==◌, filter_map, flat_map, is_none, is_some, map, nat_le, not, slice_get}
+use Rattle.std.specs.Prelude.{◌&&◌, filter_map, flat_map, is_none, is_some, map, nat_le, not, slice_get}
 use Rattle.std.specs.List.{cons_option, list_all, list_any}
-use Rattle.std.specs.Option.{option_and_then, option_map_or, option_to_list}
+use Rattle.std.specs.Option.{option_and_then, option_to_list}
 use Rattle.std.proofs.lemmas.Bool.{and_from, and_parts, both_ways, or_left, or_parts}
 use Rattle.std.proofs.lemmas.List.{append-nil, append_assoc}
 use Rattle.std.proofs.lemmas.List.Concat.{flat_map-append}
 use Rattle.std.proofs.lemmas.List.Folds.{list_all-append, list_any-append}
-use Rattle.std.proofs.lemmas.Option.{none-some, same_Some}
 use Rattle.tip_txn.specs.Parts.{answer_at, is_yes}
 use Rattle.tip_txn.specs.declared.answer.Ballot.{Ballot}
 use Rattle.tip_txn.specs.declared.answer.Ballot.TheVariants.{Lost}
@@ -134,8 +133,8 @@ module _ (realm id : List ℕ) where
   -- more was called
   pub called_more : (branches : List (ℕ × List ℕ)) (moments more : List Moment) → list_all (was_called realm id is_willing_vote moments) branches ≡ true → list_all (was_called realm id is_willing_vote (moments ++ more)) branches ≡ true
   called_more branches moments more = all_more (was_called realm id is_willing_vote moments) (was_called realm id is_willing_vote (moments ++ more)) branches (λ b is.
-    let test = is_called realm id is_willing_vote b.0 in
-    ap (list_any test) (flat_map-append (λ (m : Moment). m.shown) moments more) ∙ (list_any-append test (shown_in moments) (shown_in more) ∙ or_left (list_any test (shown_in moments)) _ is))
+      let test = is_called realm id is_willing_vote b.0 in
+      ap (list_any test) (flat_map-append (λ (m : Moment). m.shown) moments more) ∙ (list_any-append test (shown_in moments) (shown_in more) ∙ or_left (list_any test (shown_in moments)) _ is))
 
   seen_last : (moments : List Moment) (moment : Moment) (q : ℕ) → In q (seen_in (moments ++ moment ∷ [])) → In q (seen_in moments) ⊎ (In q (parts_in realm id moment.world) ⊎ In q (parts_in realm id moment.after))
   seen_last moments moment q is = elim (in_append (seen_in moments) (seen_in (moment ∷ [])) q (subst (In q) (flat_map-append (λ (m : Moment). parts_in realm id m.world ++ parts_in realm id m.after) moments (moment ∷ [])) is)) [
@@ -189,7 +188,7 @@ module _ (realm id : List ℕ) where
   all_willing branches moments parts was decided =
       let first = some_so (answer_at parts 0) (no_none parts 0 decided.none decided.local) in
       and_from _ _ (was.voted first.0 first.1) (all_in (was_willing realm id moments) (seen_in moments) (λ q is.
-        let at = was.seen q is in
-        let answer = some_so (answer_at parts q) (no_none parts q decided.none at.1) in
-        let good = was.good q at.0 in
-        and_from _ _ (and_from _ _ (ap not (good.heard answer.0 answer.1)) good.willing) good.kept))
+      let at = was.seen q is in
+      let answer = some_so (answer_at parts q) (no_none parts q decided.none at.1) in
+      let good = was.good q at.0 in
+      and_from _ _ (and_from _ _ (ap not (good.heard answer.0 answer.1)) good.willing) good.kept))

@@ -1,6 +1,6 @@
 -- A part whose answer is taken for a wrong line is lost: its transaction is aborted.
-use Rattle.std.proofs.Common.{◌≡◌, Bool, true, false, ℕ, List, [], ◌∷◌, Option, Some, None, cond, refl, ap, subst, sym, ◌∙◌, ◌⊎◌, inl, inr}
-use Rattle.std.specs.Prelude.{◌&&◌, find, is_some, not, slice_get}
+use Rattle.std.proofs.Common.{◌≡◌, Bool, true, false, ℕ, List, [], ◌∷◌, Option, Some, None, cond, refl, ap, subst, sym, ◌∙◌, inl, inr}
+use Rattle.std.specs.Prelude.{is_some, not, slice_get}
 use Rattle.std.specs.List.{list_any}
 use Rattle.std.specs.Option.{option_and_then}
 use Rattle.std.proofs.lemmas.Bool.{and_parts, both_ways, not-true}
@@ -27,7 +27,7 @@ use Rattle.tip_machine.specs.Invariants.Links.Link.{Awaits}
 use Rattle.tip_machine.specs.Invariants.Phases.{is_part}
 use Rattle.tip_machine.specs.Moves.{World}
 use Rattle.tip_machine.specs.Proceeding.{abort, enter}
-use Rattle.tip_machine.specs.States.{State, Work, connection_of, transaction_of}
+use Rattle.tip_machine.specs.States.{Work, connection_of, transaction_of}
 use Rattle.tip_machine.specs.Steps.{entered}
 use Rattle.tip_machine.specs.Transactions.{entering, has_key, noting}
 use Rattle.tip_machine.specs.Types.{Connection, Transaction}
@@ -35,8 +35,7 @@ use Rattle.tip_machine.specs.declared.answer.Item.TheVariants.{Close, Say}
 use Rattle.tip_machine.specs.declared.answer.Said.TheVariants as said
 use Rattle.tip_machine.specs.declared.connection.Awaited.{Awaited}
 use Rattle.tip_machine.specs.declared.connection.Awaited.TheVariants as awaited
-use Rattle.tip_machine.specs.declared.connection.Role.{Role}
-use Rattle.tip_machine.specs.declared.connection.Role.TheVariants.{Superior, Subordinate}
+use Rattle.tip_machine.specs.declared.connection.Role.TheVariants.{Subordinate}
 use Rattle.tip_agreement.proofs.Answering.{is_partly}
 use Rattle.tip_agreement.proofs.Closing.{is_stoppable}
 use Rattle.tip_agreement.proofs.Keys.{key_self, keys_changed, keys_of}
