@@ -40,7 +40,7 @@ rising_at (f ∷ rows) rising e (inr is) =
 
 -- A transaction is of a row
 
-reopened_of : (head : Head) (boxes : Key → List Badge) (rows : List (Key × Row)) (t : Transaction) → In t (map (λ (l : Loaded). reopened head l.key l.boxes l.row) (loaded boxes rows)) → (e : Key × Row) × (In e rows) × (t ≡ reopened head e.0 (boxes e.0) e.1)
+pub reopened_of : (head : Head) (boxes : Key → List Badge) (rows : List (Key × Row)) (t : Transaction) → In t (map (λ (l : Loaded). reopened head l.key l.boxes l.row) (loaded boxes rows)) → (e : Key × Row) × (In e rows) × (t ≡ reopened head e.0 (boxes e.0) e.1)
 reopened_of head boxes [] t is = absurd is
 reopened_of head boxes (e ∷ rows) t (inl same) = (e, inl refl, same)
 reopened_of head boxes (e ∷ rows) t (inr is) = let of = reopened_of head boxes rows t is in (of.0, inr of.1, of.2)
@@ -54,7 +54,7 @@ reopened_shown : (realm : List ℕ) (moments : List Moment) (id : List ℕ) (hea
 reopened_shown realm moments id head key boxes (row.Prepared address superior branches subs) = none_acknowledged realm moments id subs
 reopened_shown realm moments id head key boxes (row.Committed branches subs) = none_acknowledged realm moments id subs
 
-reopened_key : (head : Head) (key : Key) (boxes : List Badge) (r : Row) → (reopened head key boxes r).key ≡ key
+pub reopened_key : (head : Head) (key : Key) (boxes : List Badge) (r : Row) → (reopened head key boxes r).key ≡ key
 reopened_key head key boxes (row.Prepared address superior branches subs) = refl
 reopened_key head key boxes (row.Committed branches subs) = refl
 

@@ -97,7 +97,7 @@ module _ (serving : Serving) (world : World) (sound : IsSound world) (moments : 
   renewed_moves boxes Refused can = stays_moves (moment_of serving (Move.Renew boxes Refused) world) refl refl (λ party is. is) (λ id. refl)
   renewed_moves boxes NoChange can = absurd (let wrong : false ≡ true = can in cc)
 
-  moves_so : (move : Move) → is_honest serving move world ≡ true → Moves world moments (moment_of serving move world)
+  pub moves_so : (move : Move) → is_honest serving move world ≡ true → Moves world moments (moment_of serving move world)
   moves_so (Move.Step event outcome) honest = event_moves event outcome honest
   moves_so (Move.Go back outcome) honest = gone_moves back outcome honest world.errands refl (moment_of serving (Move.Go back outcome) world) refl refl refl (moved_sound serving (Move.Go back outcome) world sound honest)
   moves_so Move.Lose honest = lost_moves world.errands refl (moment_of serving Move.Lose world) refl refl
@@ -107,17 +107,17 @@ module _ (serving : Serving) (world : World) (sound : IsSound world) (moments : 
 -- A RUN
 
 -- of the moments so far, those of this start
-abbrev of_start : ℕ → List Moment → List Moment
+abbrev pub of_start : ℕ → List Moment → List Moment
 of_start epoch moments = filter (λ (m : Moment). m.world.state.head.epoch == epoch) moments
 
-filter_last : (p : Moment → Bool) (xs : List Moment) (x : Moment) → p x ≡ true → filter p (xs ++ x ∷ []) ≡ filter p xs ++ x ∷ []
+pub filter_last : (p : Moment → Bool) (xs : List Moment) (x : Moment) → p x ≡ true → filter p (xs ++ x ∷ []) ≡ filter p xs ++ x ∷ []
 filter_last p [] x is = ap (λ b. cond b (x ∷ []) []) is
 filter_last p (y ∷ xs) x is = step (p y) (filter_last p xs x is) where
   step : (b : Bool) → filter p (xs ++ x ∷ []) ≡ filter p xs ++ x ∷ [] → cond b (y ∷ filter p (xs ++ x ∷ [])) (filter p (xs ++ x ∷ [])) ≡ cond b (y ∷ filter p xs) (filter p xs) ++ x ∷ []
   step true rest = ap (λ l. y ∷ l) rest
   step false rest = rest
 
-same_number : (n : ℕ) → (n == n) ≡ true
+pub same_number : (n : ℕ) → (n == n) ≡ true
 same_number n = grind (arith, nat_tests)
 
 moment_kept : (realm id : List ℕ) (start : World) (before : List Moment) (moment : Moment) → IsDone realm id (of_this_start realm id before moment) moment → is_undenied realm id before moment ≡ true → is_kept realm id start before moment ≡ true

@@ -158,7 +158,7 @@ module _ (realm id : List ℕ) where
 
   -- WHERE ALL HAVE ANSWERED, all were willing
 
-  no_none : (parts : List Participant) (q : ℕ) → list_any is_none (map (λ (p : Participant). p.answer) parts) ≡ false → is_some (slice_get parts q) ≡ true → is_some (answer_at parts q) ≡ true
+  pub no_none : (parts : List Participant) (q : ℕ) → list_any is_none (map (λ (p : Participant). p.answer) parts) ≡ false → is_some (slice_get parts q) ≡ true → is_some (answer_at parts q) ≡ true
   no_none [] q none is = absurd (let wrong : false ≡ true = is in cc)
   no_none (p ∷ parts) zero none is = step p.answer (or_parts (is_none p.answer) (list_any is_none (map (λ (p : Participant). p.answer) parts)) none).0 where
     step : (answer : Option Ballot) → is_none answer ≡ false → is_some answer ≡ true
