@@ -1,5 +1,25 @@
 -- ASKED: of a transaction made in the run a commit is told only where each branch had voted yes or read-only, and each part had
 -- answered, none with no and none lost.
+use Rattle.tip_witness.proofs.Keptness.{filter_last, moves_so, of_start, run_kept, same_number, start_witnessed}
+use Rattle.tip_agreement.proofs.Agreeing.{run_agrees}
+use Rattle.tip_agreement.proofs.Backed.{commits_are_backed, shown_so}
+use Rattle.tip_rows.specs.Branches.{are_branches}
+use Rattle.tip_rows.specs.Labels.{is_label}
+use Rattle.std.proofs.lemmas.Bool.{or_parts}
+use Rattle.std.specs.Prelude.{length, nat_lt}
+use Rattle.tip_agreement.proofs.Agreeing.{any_of, moved_true, name_led, run_true, start_true}
+use Rattle.tip_agreement.proofs.Backing.{same_row}
+use Rattle.tip_agreement.proofs.Restarts.{start_sound}
+use Rattle.tip_agreement.proofs.Telling.{told_more}
+use Rattle.tip_agreement.proofs.Truthful.{any_verdict}
+use Rattle.tip_line.specs.Words.{is_address, is_realm}
+use Rattle.tip_machine.specs.Agreement.{IsAgreed, is_asked}
+use Rattle.tip_machine.specs.Agreement.Traces.{at_each_behind, traced}
+use Rattle.tip_machine.specs.Heads.{are_allowed, is_within}
+use Rattle.tip_machine.specs.Honest.{is_run}
+use Rattle.tip_machine.specs.Starting.{IsStart, are_declared, is_starting}
+use Rattle.tip_machine.specs.declared.head.Head.{Head}
+use Rattle.tip_rows.specs.Logs.{last_epoch}
 use Rattle.std.proofs.lemmas.Bool.{and_from, and_parts, both_ways, cases_Bool, not-true, or_cases, or_from, or_left, or_right}
 use Rattle.std.proofs.lemmas.Bool.Decides.{nat_tests}
 use Rattle.std.proofs.lemmas.Option.{none-some}
@@ -263,13 +283,13 @@ module _ (serving : Serving) (move : Move) (world : World) (sound : IsSound worl
 
   made_no : ((t : Transaction) → In t world.state.transactions ⊎ In t after.state.transactions → t.key ≡ k → (k.epoch == now) ≡ true → ⊥) → made_of realm k all ≡ made
   made_no never = filter_skip (is_made_in realm id) before moment (none_from (λ (x : Transaction). has_id realm id x && (x.key.epoch == now)) (world.state.transactions ++ after.state.transactions) (λ t is both.
-    let parts = and_parts (has_id realm id t) (t.key.epoch == now) both in
-    let where_is = in_append world.state.transactions after.state.transactions t is in
-    let same = key_either t where_is (same_text id (identifier realm t.key) parts.0) in
-    never t where_is same (subst (λ (key : Key). (key.epoch == now) ≡ true) same parts.1))) where
-      key_either : (t : Transaction) → In t world.state.transactions ⊎ In t after.state.transactions → id ≡ identifier realm t.key → t.key ≡ k
-      key_either t (inl is) = key_before t is
-      key_either t (inr is) = key_after t is
+      let parts = and_parts (has_id realm id t) (t.key.epoch == now) both in
+      let where_is = in_append world.state.transactions after.state.transactions t is in
+      let same = key_either t where_is (same_text id (identifier realm t.key) parts.0) in
+      never t where_is same (subst (λ (key : Key). (key.epoch == now) ≡ true) same parts.1))) where
+        key_either : (t : Transaction) → In t world.state.transactions ⊎ In t after.state.transactions → id ≡ identifier realm t.key → t.key ≡ k
+        key_either t (inl is) = key_before t is
+        key_either t (inr is) = key_after t is
 
   made_elsewhen : (k.epoch == now) ≡ false → made_of realm k all ≡ made
   made_elsewhen differ = made_no (λ t is same this. both_ways (k.epoch == now) differ this)
@@ -479,3 +499,123 @@ module _ (serving : Serving) (move : Move) (world : World) (sound : IsSound worl
 
   next_asks : Asks realm k start branches all after
   next_asks = elim (moves_on serving world sound branches asks.declared counted mine was (λ (t : Transaction). made_of realm t.key before) asks.covered move honest) [ inl steps ↦ steps_asks steps | inr starts ↦ starts_asks starts ]
+
+-- A RUN
+
+-- of the transaction of a key, over its moments
+module _ (k : Key) (fine : is_spelled k ≡ true) (start : World) (branches : List (ℕ × List ℕ)) (counted : are_counted_from 1 branches ≡ true) where
+  moment_asked : (realm : List ℕ) (before : List Moment) (moment : Moment) → moment.world.state.head.branches ≡ branches → (are_told is_commit realm (identifier realm k) moment.shown ≡ true → Ok realm k start branches (before ++ moment ∷ [])) → is_asked realm (identifier realm k) start before moment ≡ true
+  moment_asked realm before moment declared was = step (are_told is_commit realm (identifier realm k) moment.shown) refl where
+    by_ok : Ok realm k start branches (before ++ moment ∷ []) → is_asked realm (identifier realm k) start before moment ≡ true
+    by_ok ok = elim (or_cases (is_some (row_in realm (identifier realm k) start.rows)) (were_willing realm (identifier realm k) (made_of realm k (before ++ moment ∷ [])) branches) ok) [
+      | inl stood ↦ or_left _ _ (or_right (not (list_any is_commit (told realm (identifier realm k) moment.shown))) _ stood)
+      | inr willing ↦ or_right (not (list_any is_commit (told realm (identifier realm k) moment.shown)) || is_some (row_in realm (identifier realm k) start.rows)) _ (subst (λ bs. were_willing realm (identifier realm k) (made_of realm k (before ++ moment ∷ [])) bs ≡ true) (sym declared) willing)
+    ]
+
+    step : (b : Bool) → are_told is_commit realm (identifier realm k) moment.shown ≡ b → is_asked realm (identifier realm k) start before moment ≡ true
+    step true is = by_ok (was is)
+    step false is = or_left _ _ (or_left (not (list_any is_commit (told realm (identifier realm k) moment.shown))) _ (ap not (any_told is_commit realm (identifier realm k) moment.shown ∙ is)))
+
+  runs_asked : (serving : Serving) (realm : List ℕ) (world : World) (moves : List Move) (before : List Moment) → IsSound world → IsTrueTo (shown_in before) world → world.state.head.name ≡ realm → In_world world (of_start world.state.head.epoch before) → Asks realm k start branches before world → is_run serving world moves ≡ true → at_each_behind before (is_asked realm (identifier realm k) start) (traced serving world moves) ≡ true
+  runs_asked serving realm world [] before sound true_to named was asks honest = refl
+  runs_asked serving realm world (move ∷ moves) before sound true_to named was asks honest =
+      let parts = and_parts (is_honest serving move world) (is_run serving (moved serving move world).world moves) honest in
+      let next = (moved serving move world).world in
+      let moment = moment_of serving move world in
+      let all = before ++ moment ∷ [] in
+      let epoch = world.state.head.epoch in
+      let id = identifier realm k in
+      let went = moves_so serving world sound (of_start epoch before) was move parts.0 in
+      let mine : of_start epoch all ≡ of_start epoch before ++ moment ∷ [] = filter_last (λ (m : Moment). m.world.state.head.epoch == epoch) before moment (same_number epoch) in
+      let here : Asks world.state.head.name k start branches before world = subst (λ n. Asks n k start branches before world) (sym named) asks in
+      let then_asks : Asks realm k start branches all next = subst (λ n. Asks n k start branches all next) named (next_asks serving move world sound k fine start branches counted before (of_start epoch before) was true_to parts.0 here) in
+      let then_named : next.state.head.name ≡ realm = name_moved serving move world ∙ named in
+      let then_sound = moved_sound serving move world sound parts.0 in
+      let same = shown_so realm 0 k fine before moment in
+      let then_true : IsTrueTo (shown_in all) next = subst (λ xs. IsTrueTo xs next) same (moved_true serving move world (shown_in before) sound true_to parts.0) in
+      and_from _ _ (moment_asked realm before moment asks.declared (λ is.
+      let shown : are_told is_commit realm id (shown_in all) ≡ true = ap (are_told is_commit realm id) (sym same) ∙ (told_more is_commit realm id (shown_in before) moment.shown ∙ or_right (are_told is_commit realm id (shown_in before)) _ is) in
+      subst (λ n. Ok n k start branches all) then_named (told_ok k fine start branches all next then_sound then_true (subst (λ n. Asks n k start branches all next) (sym then_named) then_asks) (subst (λ n. Told n k all next) (sym then_named) (inl shown)))))
+      (runs_asked serving realm next moves all then_sound then_true then_named (went.witnessed (of_start next.state.head.epoch all) (λ same_epoch. ap (λ e. of_start e all) same_epoch ∙ mine)) then_asks parts.1)
+
+-- where a run begins
+start_asks : (k : Key) → is_spelled k ≡ true → (world : World) → IsStart world → Asks world.state.head.name k world world.state.head.branches [] world
+start_asks k fine world start = record {
+  declared = refl;
+  covered = λ u listed this. absurd (not_now u listed this);
+  current = λ u listed same this live. absurd (not_now u listed (subst (λ (key : Key). (key.epoch == world.state.head.epoch) ≡ true) (sym same) this));
+  earlier = λ u listed same differ. let of = row_of u listed in or_left _ _ (ap is_some (same_row world.state.head.name k fine world.rows start.rows.spelled ∙ subst (λ key. row_at key world.rows ≡ Some of.0.1) (of.2 ∙ same) (rising_at world.rows start.rows.rising of.0 of.1)));
+  gone = λ never told_it. absurd (none_told told_it);
+  unseen = λ is. refl;
+} where
+  row_of : (u : Transaction) → In u world.state.transactions → (e : Key × Row) × (In e world.rows) × (e.0 ≡ u.key)
+  row_of u listed =
+      let of = reopened_of world.state.head start.boxes world.rows u (subst (λ (s : State). In u s.transactions) start.state listed) in
+      (of.0, of.1, sym (ap (λ (x : Transaction). x.key) of.2 ∙ reopened_key world.state.head of.0.0 (start.boxes of.0.0) of.0.1))
+
+  never : (a b : ℕ) → nat_lt a b ≡ true → (a == b) ≡ true → ⊥
+  never a b less is = grind (arith, nat_tests, less, is)
+
+  not_now : (u : Transaction) → In u world.state.transactions → (u.key.epoch == world.state.head.epoch) ≡ true → ⊥
+  not_now u listed this =
+      let of = row_of u listed in
+      never u.key.epoch world.state.head.epoch (subst (λ (key : Key). nat_lt key.epoch world.state.head.epoch ≡ true) of.2 (in_all (λ (stored : Key × Row). nat_lt stored.0.epoch world.state.head.epoch) world.rows of.0 start.rows.earlier of.1)) this
+
+  none_told : Told world.state.head.name k [] world → ⊥
+  none_told (inl shown) = let wrong : false ≡ true = shown in cc
+  none_told (inr out) = let wrong : false ≡ true = sym (ap (list_any (will_tell is_commit 0 (identifier world.state.head.name k))) start.errands) ∙ out in cc
+
+-- the branches that a realm may declare are counted
+declared_counted : (head : Head) → is_starting head ≡ true → are_counted_from 1 head.branches ≡ true
+declared_counted head is =
+    let a = and_parts (is_realm head.name && is_address head.address && are_allowed head.limits && are_declared head.branches && is_within 1 last_epoch head.epoch && (head.given == 0)) (head.entries == 0) is in
+    let b = and_parts (is_realm head.name && is_address head.address && are_allowed head.limits && are_declared head.branches && is_within 1 last_epoch head.epoch) (head.given == 0) a.0 in
+    let c = and_parts (is_realm head.name && is_address head.address && are_allowed head.limits && are_declared head.branches) (is_within 1 last_epoch head.epoch) b.0 in
+    let d = and_parts (is_realm head.name && is_address head.address && are_allowed head.limits) (are_declared head.branches) c.0 in
+    let e = and_parts (is_within 1 8 (length head.branches) && are_counted_from 1 head.branches && are_branches head.branches) (list_all (λ (branch : ℕ × List ℕ). is_label branch.1) head.branches) d.1 in
+    let f = and_parts (is_within 1 8 (length head.branches) && are_counted_from 1 head.branches) (are_branches head.branches) e.0 in
+    (and_parts (is_within 1 8 (length head.branches)) (are_counted_from 1 head.branches) f.0).1
+
+-- of what nothing is told
+untold_asked : (realm id : List ℕ) (start : World) (before moments : List Moment) → list_any any_verdict (told realm id (shown_in moments)) ≡ false → at_each_behind before (is_asked realm id start) moments ≡ true
+untold_asked realm id start before [] none = refl
+untold_asked realm id start before (moment ∷ moments) none =
+    let parts = or_parts (are_told any_verdict realm id moment.shown) (are_told any_verdict realm id (shown_in moments)) (sym (told_more any_verdict realm id moment.shown (shown_in moments)) ∙ sym (any_told any_verdict realm id (moment.shown ++ shown_in moments)) ∙ none) in
+    and_from _ _ (or_left _ _ (or_left _ _ (quiet (list_any is_commit (told realm id moment.shown)) refl (any_told any_verdict realm id moment.shown ∙ parts.0)))) (untold_asked realm id start (before ++ moment ∷ []) moments (any_told any_verdict realm id (shown_in moments) ∙ parts.1)) where
+      quiet : (b : Bool) → list_any is_commit (told realm id moment.shown) ≡ b → list_any any_verdict (told realm id moment.shown) ≡ false → not b ≡ true
+      quiet false is none = refl
+      quiet true is none = absurd (let wrong : false ≡ true = sym none ∙ any_of is_commit (told realm id moment.shown) is in cc)
+
+pub run_asked : (serving : Serving) (world : World) (moves : List Move) (id : List ℕ) → IsStart world → is_run serving world moves ≡ true → at_each_behind [] (is_asked world.state.head.name id world) (traced serving world moves) ≡ true
+run_asked serving world moves id start honest = step (list_any any_verdict (told realm id (shown_in moments))) refl where
+  realm : List ℕ
+  realm = world.state.head.name
+
+  moments : List Moment
+  moments = traced serving world moves
+
+  sound : IsSound world
+  sound = start_sound world start
+
+  counted : are_counted_from 1 world.state.head.branches ≡ true
+  counted = declared_counted world.state.head start.head
+
+  of_key : (key : Key) → is_spelled key ≡ true → at_each_behind [] (is_asked realm (identifier realm key) world) moments ≡ true
+  of_key key fine = runs_asked key fine world world.state.head.branches counted serving realm world moves [] sound (start_true world start) refl (start_witnessed world start) (start_asks key fine world start) honest
+
+  step : (b : Bool) → list_any any_verdict (told realm id (shown_in moments)) ≡ b → at_each_behind [] (is_asked realm id world) moments ≡ true
+  step false none = untold_asked realm id world [] moments none
+  step true is =
+      let after = run_true serving world moves [] sound (start_true world start) honest in
+      let ours = after.ours id (or_left _ _ (subst (λ n. list_any any_verdict (told n id (shown_in moments)) ≡ true) (sym (name_led serving world moves)) is)) in
+      let same : id ≡ identifier realm ours.0 = ours.2 ∙ ap (λ n. identifier n ours.0) (name_led serving world moves) in
+      subst (λ x. at_each_behind [] (is_asked realm x world) moments ≡ true) (sym same) (of_key ours.0 ours.1)
+
+-- ALL FOUR
+pub run_is_agreed : (serving : Serving) (world : World) (moves : List Move) (id : List ℕ) → IsStart world → is_run serving world moves ≡ true → IsAgreed world (traced serving world moves) id
+run_is_agreed serving world moves id start honest = record {
+  one = run_agrees serving world moves id start honest;
+  backed = commits_are_backed serving world moves id start honest;
+  kept = run_kept serving world moves id start honest;
+  asked = run_asked serving world moves id start honest;
+}
