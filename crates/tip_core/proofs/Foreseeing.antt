@@ -59,6 +59,7 @@ use Rattle.tip_machine.specs.declared.event.Heard.{Heard}
 use Rattle.tip_machine.specs.declared.event.Heard.TheVariants.{Command, Malformed, Response}
 use Rattle.tip_machine.specs.declared.connection.Awaited.{Awaited}
 use Rattle.tip_machine.specs.declared.connection.Awaited.TheVariants as awaited
+use Rattle.tip_machine.specs.declared.connection.Purpose.{Purpose}
 use Rattle.tip_machine.specs.declared.connection.Purpose.TheVariants as purposes
 use Rattle.tip_machine.specs.declared.connection.Role.{Role}
 use Rattle.tip_machine.specs.declared.connection.Role.TheVariants.{Subordinate, Superior}
@@ -67,7 +68,7 @@ use Rattle.tip_machine.specs.declared.transaction.Origin.TheVariants as origin
 use Rattle.tip_machine.specs.declared.transaction.PartyPlace.TheVariants.{Here, Out, Spent}
 use Rattle.tip_core.proofs.Outcomes.{acknowledged_all}
 use Rattle.tip_core.proofs.Proceeding.{dispatch_some}
-use Rattle.tip_core.proofs.Responses.{hears_identified, hears_nothing, hears_part, hears_pull, hears_query, noting_nobody, noting_part_of}
+use Rattle.tip_core.proofs.Responses.{hears_identified, hears_to_ask, hears_nothing, hears_part, hears_pull, hears_query, noting_nobody, noting_part_of}
 use Rattle.tip_core.specs.Noting.{awaits_of, exists_of, identifying, note_of, noted, noting_as, part_of, pulled_of, pulling, querying, responding, version_of}
 use Rattle.tip_core.specs.declared.noting.Awaits.{Awaits}
 use Rattle.tip_core.specs.declared.noting.Awaits.TheVariants as awaits
@@ -346,9 +347,9 @@ module _ (w : Work) (c : Connection) (there : connection_of c.number w.state ≡
   pulling_wants (Some true) said = refl
   pulling_wants (Some false) said = refl
 
-  identifying_wants : (version : Option ℕ) (said : AResponse) → wanted (identifying version purposes.Plain said c w) ≡ None
-  identifying_wants None said = refl
-  identifying_wants (Some version) said = refl
+  identifying_wants : (purpose : Purpose) (version : Option ℕ) (said : AResponse) → wanted (identifying version purpose said c w) ≡ None
+  identifying_wants purpose None said = refl
+  identifying_wants purpose (Some version) said = refl
 
   querying_wants : (exists : Option Bool) (key : Key) (said : AResponse) → wanted (querying exists key said c w) ≡ query_wanted exists key c w.state
   querying_wants None key said = refl
@@ -371,8 +372,8 @@ module _ (w : Work) (c : Connection) (there : connection_of c.number w.state ≡
 
     step : (a : Option Awaited) → c.awaited ≡ a → wanted (hear today Primary (Response said) c w) ≡ said_wanted (awaits_of c.awaited) said c w.state
     step None is = unheard None is refl refl
-    step (Some (awaited.Identify purposes.Plain)) is = ap wanted (hears_identified said c w (ap awaits_of is)) ∙ identifying_wants (version_of said) said ∙ ap (λ b. said_wanted (awaits_of b) said c w.state) (sym is)
-    step (Some (awaited.Identify (purposes.Query id))) is = unheard (Some (awaited.Identify (purposes.Query id))) is refl refl
+    step (Some (awaited.Identify purposes.Plain)) is = ap wanted (hears_identified said c w (ap awaits_of is)) ∙ identifying_wants purposes.Plain (version_of said) said ∙ ap (λ b. said_wanted (awaits_of b) said c w.state) (sym is)
+    step (Some (awaited.Identify (purposes.Query id))) is = ap wanted (hears_to_ask said c w (ap awaits_of is)).1.1 ∙ identifying_wants (purposes.Query (hears_to_ask said c w (ap awaits_of is)).0) (version_of said) said ∙ ap (λ b. said_wanted (awaits_of b) said c w.state) (sym is)
     step (Some (awaited.Identify (purposes.Reconnect id place))) is = unheard (Some (awaited.Identify (purposes.Reconnect id place))) is refl refl
     step (Some awaited.Push) is = of_part (Some awaited.Push) is command.Push refl
     step (Some awaited.Pull) is = ap wanted (hears_pull said c w (ap awaits_of is)) ∙ pulling_wants (pulled_of said) said ∙ ap (λ b. said_wanted (awaits_of b) said c w.state) (sym is)
@@ -400,7 +401,7 @@ response_wants w (Some c) there said = taken_response w c (there c refl) said
 -- Parties that come back
 
 -- the first transaction of an identifier is the first of its key
-by_id : (realm id : List ℕ) (ts : List Transaction) (t : Transaction) → find (has_id realm id) ts ≡ Some t → find (has_key t.key) ts ≡ Some t
+pub by_id : (realm id : List ℕ) (ts : List Transaction) (t : Transaction) → find (has_id realm id) ts ≡ Some t → find (has_key t.key) ts ≡ Some t
 by_id realm id [] t is = absurd (none-some t is)
 by_id realm id (x ∷ xs) t is = step (has_id realm id x) refl (has_key t.key x) refl is (λ later. by_id realm id xs t later) where
   step : (named : Bool) → has_id realm id x ≡ named → (keyed : Bool) → has_key t.key x ≡ keyed → cond named (Some x) (find (has_id realm id) xs) ≡ Some t → (find (has_id realm id) xs ≡ Some t → find (has_key t.key) xs ≡ Some t) → cond keyed (Some x) (find (has_key t.key) xs) ≡ Some t
@@ -524,6 +525,7 @@ module _ (state : State) where
   said_before awaits.Nothing said c = refl
   said_before (awaits.OfPart name) said c = answer_before (note_of c.awaited said) c
   said_before awaits.Identified said c = refl
+  said_before awaits.ToAsk said c = refl
   said_before awaits.Aimed said c = refl
   said_before awaits.Pulled said c = refl
   said_before (awaits.Queried key) said c = query_before (exists_of said) key c

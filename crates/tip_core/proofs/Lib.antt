@@ -15,6 +15,7 @@ pub mod Responses
 pub mod Asking
 pub mod Dials
 pub mod Requests
+pub mod Purposes
 pub mod Needing
 pub mod Happening
 pub mod Turning

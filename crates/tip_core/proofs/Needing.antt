@@ -33,7 +33,7 @@ pub lines_there : (held : Held) (number place : ℕ) (item : Connection) → Sta
 lines_there held number place item here is lines same = same ∙ sym (ap (λ o. option_map_or (λ c. lines_as c.role (work_of held).state) o 0) (standing_number held number place item here is))
 
 -- where the transaction of a key stands, it is open
-keyed_there : (held : Held) (key : Key) (place : ℕ) → StandsAt held.transactions held.realm (is_keyed key) place → (t : Transaction) × (transaction_of key (work_of held).state ≡ Some t)
+pub keyed_there : (held : Held) (key : Key) (place : ℕ) → StandsAt held.transactions held.realm (is_keyed key) place → (t : Transaction) × (transaction_of key (work_of held).state ≡ Some t)
 keyed_there held key place here = step (find (is_keyed key) (of held.transactions held.realm)) refl where
   step : (found : Option HeldTransaction) → find (is_keyed key) (of held.transactions held.realm) ≡ found → (t : Transaction) × (transaction_of key (work_of held).state ≡ Some t)
   step None none = absurd (first_found (is_keyed key) (of held.transactions held.realm) here.at here.first none)

@@ -45,6 +45,7 @@ use Rattle.tip_core.proofs.Works.{may_idle, nothing, then, unaltered}
 use Rattle.tip_core.specs.Noting.{awaits_of, exists_of, identifying, note_of, noted, noting_as, part_of, pulled_of, pulling, querying, responding, version_of}
 use Rattle.tip_core.specs.declared.noting.Awaits.{Awaits}
 use Rattle.tip_core.specs.declared.noting.Awaits.TheVariants as awaits
+use Rattle.tip_core.specs.Pursuing.{asked_for}
 use Rattle.tip_core.specs.Works.{Does, Held, IsIdle, key_queried, lines_as, lines_at, lines_for, lines_queried, work_of}
 use Rattle.tip_core.specs.declared.noting.Note.{Note}
 use Rattle.tip_core.specs.declared.noting.Note.TheVariants as note
@@ -55,6 +56,7 @@ abbrev command_in : Awaits → Option CommandName
 command_in awaits.Nothing = None
 command_in (awaits.OfPart name) = Some name
 command_in awaits.Identified = None
+command_in awaits.ToAsk = None
 command_in awaits.Aimed = None
 command_in awaits.Pulled = None
 command_in (awaits.Queried key) = None
@@ -119,6 +121,7 @@ abbrev key_in : Awaits → Option Key
 key_in awaits.Nothing = None
 key_in (awaits.OfPart name) = None
 key_in awaits.Identified = None
+key_in awaits.ToAsk = None
 key_in awaits.Aimed = None
 key_in awaits.Pulled = None
 key_in (awaits.Queried key) = Some key
@@ -196,6 +199,21 @@ module _ (said : AResponse) (c : Connection) (w : Work) where
     step (Some (awaited.Query key)) is = absurd (let no = sym (ap awaits_of is) ∙ so in cc)
     step (Some awaited.Reconnect) is = absurd (let no = sym (ap awaits_of is) ∙ so in cc)
 
+  pub hears_to_ask : awaits_of c.awaited ≡ awaits.ToAsk → (id : List ℕ) × ((asked_for c.awaited ≡ Some id) × (hear today Primary (Response said) c w ≡ identifying (version_of said) (purposes.Query id) said c w))
+  hears_to_ask so = step c.awaited refl where
+    step : (a : Option Awaited) → c.awaited ≡ a → (id : List ℕ) × ((asked_for c.awaited ≡ Some id) × (hear today Primary (Response said) c w ≡ identifying (version_of said) (purposes.Query id) said c w))
+    step None is = absurd (let no = sym (ap awaits_of is) ∙ so in cc)
+    step (Some (awaited.Identify purposes.Plain)) is = absurd (let no = sym (ap awaits_of is) ∙ so in cc)
+    step (Some (awaited.Identify (purposes.Query id))) is = (id, (ap asked_for is, hears_at (Some (awaited.Identify (purposes.Query id))) is ∙ identifies (purposes.Query id) said c w))
+    step (Some (awaited.Identify (purposes.Reconnect id place))) is = absurd (let no = sym (ap awaits_of is) ∙ so in cc)
+    step (Some awaited.Push) is = absurd (let no = sym (ap awaits_of is) ∙ so in cc)
+    step (Some awaited.Pull) is = absurd (let no = sym (ap awaits_of is) ∙ so in cc)
+    step (Some awaited.Prepare) is = absurd (let no = sym (ap awaits_of is) ∙ so in cc)
+    step (Some awaited.Commit) is = absurd (let no = sym (ap awaits_of is) ∙ so in cc)
+    step (Some awaited.Abort) is = absurd (let no = sym (ap awaits_of is) ∙ so in cc)
+    step (Some (awaited.Query key)) is = absurd (let no = sym (ap awaits_of is) ∙ so in cc)
+    step (Some awaited.Reconnect) is = absurd (let no = sym (ap awaits_of is) ∙ so in cc)
+
   hears_unheard : (a : Option Awaited) → c.awaited ≡ a → is_heard a ≡ false → hear today Primary (Response said) c w ≡ Attempt.Done (wrong c w)
   hears_unheard a is not = hears_at a is ∙ ap (λ b. cond b (answered_by a said c w) (Attempt.Done (wrong c w))) not
 
@@ -214,6 +232,9 @@ module _ (a b : Held) (said : AResponse) (c : Connection) (outcome : Outcome) wh
 
   pub answered_identified : awaits_of c.awaited ≡ awaits.Identified → Does a b (chosen (identifying (version_of said) purposes.Plain said c (work_of a)) outcome) → Does a b (chosen (hear today Primary (Response said) c (work_of a)) outcome)
   answered_identified is does = subst (λ t. Does a b (chosen t outcome)) (sym (hears_identified said c (work_of a) is)) does
+
+  pub answered_to_ask : awaits_of c.awaited ≡ awaits.ToAsk → ((id : List ℕ) → asked_for c.awaited ≡ Some id → Does a b (chosen (identifying (version_of said) (purposes.Query id) said c (work_of a)) outcome)) → Does a b (chosen (hear today Primary (Response said) c (work_of a)) outcome)
+  answered_to_ask is does = let heard = hears_to_ask said c (work_of a) is in subst (λ t. Does a b (chosen t outcome)) (sym heard.1.1) (does heard.0 heard.1.0)
 
 -- the lines of the transaction that is asked for
 pub queried_lines : (held : Held) (number : ℕ) (c : Connection) (key : Key) → connection_of number (work_of held).state ≡ Some c → awaits_of c.awaited ≡ awaits.Queried key → lines_queried number (work_of held).state ≤ held.making.free → lines_for key (work_of held).state ≤ held.making.free

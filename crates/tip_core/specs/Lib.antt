@@ -6,6 +6,7 @@ pub mod Growing
 pub mod Reacting
 pub mod Noting
 pub mod Deciding
+pub mod Pursuing
 pub mod Wanting
 pub mod Needs
 pub mod Hosted

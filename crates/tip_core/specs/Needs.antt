@@ -16,6 +16,7 @@ use Rattle.tip_machine.specs.declared.event.Heard.{Heard}
 use Rattle.tip_machine.specs.declared.event.Heard.TheVariants.{Command}
 use Rattle.tip_machine.specs.declared.event.Outcome.{Outcome}
 use Rattle.tip_core.specs.Growing.{CanGrow}
+use Rattle.tip_core.specs.Pursuing.{word_at}
 use Rattle.tip_core.specs.Rooms.{TransactionRoom, room_for}
 use Rattle.tip_core.specs.Works.{Held, HeldTransaction, IsIdle, MayMake, lines_at, lines_of, lines_queried, peer_of, work_of}
 
@@ -89,6 +90,7 @@ ours_needed other state = None
 
 -- the identifier that goes into a question
 abbrev pub word_needed : Event → State → Option (List ℕ)
+word_needed (Line seat heard) state = word_at seat.number state
 word_needed (AskPull seat superior) state = Some superior
 word_needed other state = None
 

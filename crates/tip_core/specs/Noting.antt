@@ -45,7 +45,7 @@ part_of (Some (Subordinate key part)) = Some (key, part)
 abbrev pub awaits_of : Option Awaited → Awaits
 awaits_of None = awaits.Nothing
 awaits_of (Some (awaited.Identify purpose.Plain)) = awaits.Identified
-awaits_of (Some (awaited.Identify (purpose.Query id))) = awaits.Aimed
+awaits_of (Some (awaited.Identify (purpose.Query id))) = awaits.ToAsk
 awaits_of (Some (awaited.Identify (purpose.Reconnect id place))) = awaits.Aimed
 awaits_of (Some awaited.Push) = awaits.OfPart command.Push
 awaits_of (Some awaited.Pull) = awaits.Pulled

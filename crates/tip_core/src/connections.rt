@@ -35,6 +35,7 @@ impl Work<Connection, Transaction, Making> {
         requires { StandsAt self.old.connections self.old.realm (has_number number) place }
         ensures does { Does self.old self.new (change number (advanced command response) (work_of self.old)) }
         ensures stands { StandsAt self.new.connections self.new.realm (has_number number) place }
+        ensures rest { self.new ≡ record self.old { connections = self.new.connections } }
     {
         let connection = self.connections.item_mut(place);
         connection.go(command, response);

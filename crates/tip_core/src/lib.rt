@@ -18,6 +18,7 @@ mod outcome;
 mod outlook;
 mod presuming;
 mod pulling;
+mod pursuing;
 mod query;
 mod reaction;
 mod realms;

@@ -173,6 +173,14 @@ impl Making {
         }
     }
 
+    /// The identifier that goes into a question, if there is one.
+    pub fn take_word(&mut self) -> Option<Id>
+        ensures taken { result ≡ self.old.word }
+        ensures left { self.new ≡ record self.old { word = None } }
+    {
+        self.word.take()
+    }
+
     pub fn refuse(&mut self, why: Refusal)
         ensures { self.new ≡ record self.old { answer = record self.old.answer { refusal = Some why } } }
     {

@@ -5,9 +5,10 @@ ghost use Rattle.tip_table.specs.Kept.{of};
 ghost use Rattle.tip_machine.specs.Counts.{HasCounts};
 ghost use Rattle.tip_machine.specs.Steps.{is_open, wants};
 ghost use Rattle.tip_machine.specs.Requests.{owner};
-ghost use Rattle.tip_machine.specs.States.{State, connection_of};
+ghost use Rattle.tip_machine.specs.States.{connection_of, identified_by};
 ghost use Rattle.tip_machine.specs.Types.{seen};
 ghost use Rattle.tip_core.specs.Needs.{MayJoin, Suits, begins_on, connections_for, joined_by, lines_needed, ours_needed, peer_needed, room_needed, transactions_for, word_needed};
+ghost use Rattle.tip_core.specs.Pursuing.{asked_for, superior_in, superior_of, word_at, word_for};
 ghost use Rattle.tip_core.specs.Works.{key_queried, lines_as, lines_at, lines_for, lines_of, lines_queried, peer_of, work_of};
 
 use crate::making::{Making, Words};
@@ -18,7 +19,7 @@ use crate::work::Work;
 use std::alloc::{AllocError, Global};
 use tip_branch::HeldParty;
 use tip_line::{Address, Command, Id};
-use tip_machine::{Awaited, Change, Connection, Event, Heard, Role, Transaction};
+use tip_machine::{Awaited, Change, Connection, Event, Heard, Origin, Purpose, Role, Transaction};
 use tip_rows::Key;
 
 impl Work<Connection, Transaction, Making> {
@@ -127,8 +128,61 @@ impl Work<Connection, Transaction, Making> {
         Ok(Words {
             peer: self.peer_needed(event)?,
             ours: self.ours_needed(event)?,
-            word: word_needed(event)?,
+            word: self.word_needed(event)?,
         })
+    }
+
+    /// The identifier that goes into a question.
+    fn word_needed(&self, event: &Event) -> Result<Option<Id>, AllocError>
+        requires { self.now.realm < length self.now.heads.items }
+        ensures { IfOk result (λ word. word ≡ word_needed event.now (work_of self.now).state) }
+    {
+        match event {
+            Event::Line { seat, heard: _ } => self.word_at(seat.number),
+            Event::AskPull { seat: _, superior } => Ok(Some(superior.copy()?)),
+            Event::Open { .. }
+            | Event::Dial { .. }
+            | Event::Voted(_)
+            | Event::Settled(_)
+            | Event::Lost { .. }
+            | Event::AskPush { .. }
+            | Event::Resume { .. } => Ok(None),
+        }
+    }
+
+    /// What the superior knows the transaction by that the connection of a number was opened to ask for.
+    #[tactic(auto, using(crate::proofs::Purposes::wording))]
+    fn word_at(&self, number: u32) -> Result<Option<Id>, AllocError>
+        requires { self.now.realm < length self.now.heads.items }
+        ensures { IfOk result (λ word. word ≡ word_at number (work_of self.now).state) }
+    {
+        match self.connections.find(self.realm, &Numbered { number }) {
+            Some(place) => self.word_awaited(&self.connections.item(place).awaited),
+            None => Ok(None),
+        }
+    }
+
+    /// The same by what is awaited there.
+    fn word_awaited(&self, awaited: &Option<Awaited>) -> Result<Option<Id>, AllocError>
+        requires { self.now.realm < length self.now.heads.items }
+        ensures { IfOk result (λ word. word ≡ word_for (asked_for awaited.now) (work_of self.now).state) }
+    {
+        match awaited {
+            Some(Awaited::Identify(Purpose::Query(id))) => self.superior_word(id),
+            _ => Ok(None),
+        }
+    }
+
+    /// What the superior knows the transaction of an identifier by.
+    #[tactic(auto, using(crate::proofs::Purposes::superior_wording))]
+    fn superior_word(&self, id: &Id) -> Result<Option<Id>, AllocError>
+        requires { self.now.realm < length self.now.heads.items }
+        ensures { IfOk result (λ word. word ≡ superior_of (identified_by id.now (work_of self.now).state)) }
+    {
+        match self.identified(id) {
+            Some((key, place)) => superior_in(&self.at(key, place).origin),
+            None => Ok(None),
+        }
     }
 
     /// Where we are, for a connection that the event opens.
@@ -294,20 +348,16 @@ fn copy_of(address: &Option<Address>) -> Result<Option<Address>, AllocError>
     }
 }
 
-/// The identifier that goes into a question.
-fn word_needed(event: &Event) -> Result<Option<Id>, AllocError>
-    ensures { (state : State) → IfOk result (λ word. word ≡ word_needed event.now state) }
+/// The identifier of a transaction at its superior.
+fn superior_in(origin: &Origin) -> Result<Option<Id>, AllocError>
+    ensures { IfOk result (λ word. word ≡ superior_in origin.now) }
 {
-    match event {
-        Event::AskPull { seat: _, superior } => Ok(Some(superior.copy()?)),
-        Event::Open { .. }
-        | Event::Dial { .. }
-        | Event::Line { .. }
-        | Event::Voted(_)
-        | Event::Settled(_)
-        | Event::Lost { .. }
-        | Event::AskPush { .. }
-        | Event::Resume { .. } => Ok(None),
+    match origin {
+        Origin::Root => Ok(None),
+        Origin::Subordinate {
+            address: _,
+            superior,
+        } => Ok(Some(superior.copy()?)),
     }
 }
 

@@ -127,7 +127,9 @@ pub enum Awaits {
     OfPart(CommandName),
     /// On a connection that was opened for whatever will be asked.
     Identified,
-    /// On one that was opened for a transaction. It is not heard yet.
+    /// On one that was opened to ask a superior.
+    ToAsk,
+    /// On one that was opened to reach a subordinate again. It is not heard yet.
     Aimed,
     Pulled,
     /// For the transaction of a key.
@@ -141,7 +143,8 @@ impl Awaits {
         match awaited {
             None => Awaits::Nothing,
             Some(Awaited::Identify(Purpose::Plain)) => Awaits::Identified,
-            Some(Awaited::Identify(Purpose::Query(_) | Purpose::Reconnect(_, _))) => Awaits::Aimed,
+            Some(Awaited::Identify(Purpose::Query(_))) => Awaits::ToAsk,
+            Some(Awaited::Identify(Purpose::Reconnect(_, _))) => Awaits::Aimed,
             Some(Awaited::Push) => Awaits::OfPart(CommandName::Push),
             Some(Awaited::Pull) => Awaits::Pulled,
             Some(Awaited::Prepare) => Awaits::OfPart(CommandName::Prepare),

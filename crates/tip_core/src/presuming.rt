@@ -77,7 +77,7 @@ impl Work<Connection, Transaction, Making> {
 
     /// Whether the transaction of a key is in doubt, with nobody to tell it the outcome.
     #[tactic(auto, using(crate::proofs::Asking::doubting))]
-    fn is_in_doubt(&self, key: Key) -> bool
+    pub(crate) fn is_in_doubt(&self, key: Key) -> bool
         ensures { result ≡ option_map_or (is_in_doubt (work_of self.now).state) (transaction_of key (work_of self.now).state) false }
     {
         match self.transaction(key) {

@@ -1,5 +1,5 @@
 //! Responses that we receive as the primary of a connection (RFC 2371, section 13).
-ghost use Rattle.std.specs.Prelude.{◌≡◌, ◌≤◌, ◌+◌, Some, if◌then◌else◌};
+ghost use Rattle.std.specs.Prelude.{◌≡◌, ◌≤◌, ◌<◌, ◌+◌, length, Some, if◌then◌else◌};
 ghost use Rattle.tip_conn.specs.declared.state.Side.TheVariants.{Primary};
 ghost use Rattle.tip_table.specs.Kept.{StandsAt};
 ghost use Rattle.tip_machine.specs.Changes.{alter};
@@ -16,6 +16,7 @@ ghost use Rattle.tip_machine.specs.Transactions.{noting};
 ghost use Rattle.tip_machine.specs.Types.{Connection as AConnection};
 ghost use Rattle.tip_machine.specs.declared.event.Heard.TheVariants.{Response as AResponse};
 ghost use Rattle.tip_core.specs.Noting.{identifying, note_of, noted, noting_as, pulled_of, pulling, responding, version_of};
+ghost use Rattle.tip_core.specs.Pursuing.{word_at};
 ghost use Rattle.tip_core.specs.Works.{Does, IsIdle, lines_as, lines_at, lines_queried, work_of};
 
 use crate::making::Making;
@@ -30,9 +31,11 @@ impl Work<Connection, Transaction, Making> {
     /// A response from the secondary, by what is awaited.
     #[tactic(auto, using(crate::proofs::Responses::queried_lines))]
     pub fn respond(&mut self, number: u32, place: usize, response: Response)
+        requires here { self.old.realm < length self.old.heads.items }
         requires stands { StandsAt self.old.connections self.old.realm (has_number number) place }
         requires lines { lines_at number (work_of self.old).state + 2 ≤ self.old.making.free }
         requires queried { lines_queried number (work_of self.old).state ≤ self.old.making.free }
+        requires word { self.old.making.word ≡ word_at number (work_of self.old).state }
         requires none { IsIdle self.old.making.answer }
         ensures { (connection : AConnection) → connection_of number (work_of self.old).state ≡ Some connection → Does self.old self.new (chosen (hear today Primary (AResponse response) connection (work_of self.old)) self.old.outcome) }
     {
@@ -41,6 +44,7 @@ impl Work<Connection, Transaction, Making> {
             Awaits::Pulled => self.respond_to_pull(number, place, response),
             Awaits::Queried(key) => self.respond_to_query(number, place, key, response),
             Awaits::Identified => self.respond_to_identify(number, place, response),
+            Awaits::ToAsk => self.respond_to_ask(number, place, response),
             Awaits::Nothing | Awaits::Aimed => self.reject(number, place),
         }
     }

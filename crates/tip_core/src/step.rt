@@ -16,6 +16,7 @@ ghost use Rattle.tip_machine.specs.Types.{Connection as AConnection};
 ghost use Rattle.tip_machine.specs.declared.event.Heard.TheVariants.{Command as ACommand};
 ghost use Rattle.tip_core.specs.Growing.{CanGrow};
 ghost use Rattle.tip_core.specs.Needs.{HasNeeds, IsReady, begins, happened, joined};
+ghost use Rattle.tip_core.specs.Pursuing.{word_at};
 ghost use Rattle.tip_core.specs.Works.{Does, IsIdle, lines_at, lines_queried, MayMake, peer_of, work_of};
 
 use crate::making::Making;
@@ -82,6 +83,7 @@ impl Work<Connection, Transaction, Making> {
         requires numbered { are_numbered (work_of self.old).state ≡ true }
         requires lines { lines_at seat.number (work_of self.old).state + 2 ≤ self.old.making.free }
         requires queried { lines_queried seat.number (work_of self.old).state ≤ self.old.making.free }
+        requires word { self.old.making.word ≡ word_at seat.number (work_of self.old).state }
         requires none { IsIdle self.old.making.answer }
         ensures { Does self.old self.new (chosen (line today (seated seat (work_of self.old).state) heard (work_of self.old)) self.old.outcome) }
     {
@@ -119,9 +121,11 @@ impl Work<Connection, Transaction, Making> {
 
     /// As its primary we wait for a response; ERROR is a command too.
     fn hear_as_primary(&mut self, number: u32, place: usize, heard: Heard)
+        requires here { self.old.realm < length self.old.heads.items }
         requires stands { StandsAt self.old.connections self.old.realm (has_number number) place }
         requires lines { lines_at number (work_of self.old).state + 2 ≤ self.old.making.free }
         requires queried { lines_queried number (work_of self.old).state ≤ self.old.making.free }
+        requires word { self.old.making.word ≡ word_at number (work_of self.old).state }
         requires none { IsIdle self.old.making.answer }
         ensures { (connection : AConnection) → connection_of number (work_of self.old).state ≡ Some connection → Does self.old self.new (chosen (hear today Primary heard connection (work_of self.old)) self.old.outcome) }
     {

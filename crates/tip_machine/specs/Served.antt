@@ -14,11 +14,11 @@ pub record Serving : Type 0 where
   -- where connections are not dialled, a realm has none free to dial (Full), to push or to pull on (Busy)
   pub dials : Bool
 
--- each response, but that to IDENTIFY on a connection that was opened to ask for a transaction, or to reach a subordinate again
+-- each response, but that to IDENTIFY on a connection that was opened to reach a subordinate again
 abbrev pub is_heard : Option Awaited → Bool
 is_heard None = false
 is_heard (Some (Identify purpose.Plain)) = true
-is_heard (Some (Identify (purpose.Query id))) = false
+is_heard (Some (Identify (purpose.Query id))) = true
 is_heard (Some (Identify (purpose.Reconnect id place))) = false
 is_heard (Some Push) = true
 is_heard (Some Pull) = true

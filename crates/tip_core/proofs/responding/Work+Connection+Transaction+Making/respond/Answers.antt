@@ -1,7 +1,7 @@
 use Rattle.std.proofs.Common.{◌≡◌, ap, sym, ◌∙◌}
 use Rattle.std.proofs.lemmas.Option.{same_Some}
 use Rattle.tip_machine.specs.Types.{Connection}
-use Rattle.tip_core.proofs.Responses.{answered_identified, answered_part, answered_pull, answered_query}
+use Rattle.tip_core.proofs.Responses.{answered_identified, answered_to_ask, answered_part, answered_pull, answered_query}
 use Rattle.tip_core.specs.Noting.{awaits_of}
 use Rattle.tip_core.proofs.responding.Work+Connection+Transaction+Making.respond.Goals as goal
 
@@ -24,3 +24,8 @@ pub returns-in-Identified : goal.returns-in-Identified
 returns-in-Identified g c = λ connection found.
     let is : c.connection.result.now ≡ connection = same_Some c.connection.result.now connection (sym c.connection.ensures ∙ found) in
     answered_identified c.args.self.now c.respond_to_identify.new.self c.args.response connection c.args.self.now.outcome (sym (c.of.ensures ∙ ap (λ (d : Connection). awaits_of d.awaited) is) ∙ c.in-Identified.is) (c.respond_to_identify.ensures connection found)
+
+pub returns-in-ToAsk : goal.returns-in-ToAsk
+returns-in-ToAsk g c = λ connection found.
+    let is : c.connection.result.now ≡ connection = same_Some c.connection.result.now connection (sym c.connection.ensures ∙ found) in
+    answered_to_ask c.args.self.now c.respond_to_ask.new.self c.args.response connection c.args.self.now.outcome (sym (c.of.ensures ∙ ap (λ (d : Connection). awaits_of d.awaited) is) ∙ c.in-ToAsk.is) (λ id. c.respond_to_ask.ensures connection id found)
