@@ -516,27 +516,27 @@ module _ (k : Key) (fine : is_spelled k ≡ true) (start : World) (branches : Li
     step true is = by_ok (was is)
     step false is = or_left _ _ (or_left (not (list_any is_commit (told realm (identifier realm k) moment.shown))) _ (ap not (any_told is_commit realm (identifier realm k) moment.shown ∙ is)))
 
-  runs_asked : (serving : Serving) (realm : List ℕ) (world : World) (moves : List Move) (before : List Moment) → IsSound world → IsTrueTo (shown_in before) world → world.state.head.name ≡ realm → In_world world (of_start world.state.head.epoch before) → Asks realm k start branches before world → is_run serving world moves ≡ true → at_each_behind before (is_asked realm (identifier realm k) start) (traced serving world moves) ≡ true
-  runs_asked serving realm world [] before sound true_to named was asks honest = refl
-  runs_asked serving realm world (move ∷ moves) before sound true_to named was asks honest =
+  runs_asked : (serving : Serving) (name : List ℕ) (world : World) (moves : List Move) (before : List Moment) → IsSound world → IsTrueTo (shown_in before) world → world.state.head.name ≡ name → In_world world (of_start world.state.head.epoch before) → Asks name k start branches before world → is_run serving world moves ≡ true → at_each_behind before (is_asked name (identifier name k) start) (traced serving world moves) ≡ true
+  runs_asked serving name world [] before sound true_to named was asks honest = refl
+  runs_asked serving name world (move ∷ moves) before sound true_to named was asks honest =
       let parts = and_parts (is_honest serving move world) (is_run serving (moved serving move world).world moves) honest in
       let next = (moved serving move world).world in
       let moment = moment_of serving move world in
       let all = before ++ moment ∷ [] in
       let epoch = world.state.head.epoch in
-      let id = identifier realm k in
+      let id = identifier name k in
       let went = moves_so serving world sound (of_start epoch before) was move parts.0 in
       let mine : of_start epoch all ≡ of_start epoch before ++ moment ∷ [] = filter_last (λ (m : Moment). m.world.state.head.epoch == epoch) before moment (same_number epoch) in
       let here : Asks world.state.head.name k start branches before world = subst (λ n. Asks n k start branches before world) (sym named) asks in
-      let then_asks : Asks realm k start branches all next = subst (λ n. Asks n k start branches all next) named (next_asks serving move world sound k fine start branches counted before (of_start epoch before) was true_to parts.0 here) in
-      let then_named : next.state.head.name ≡ realm = name_moved serving move world ∙ named in
+      let then_asks : Asks name k start branches all next = subst (λ n. Asks n k start branches all next) named (next_asks serving move world sound k fine start branches counted before (of_start epoch before) was true_to parts.0 here) in
+      let then_named : next.state.head.name ≡ name = name_moved serving move world ∙ named in
       let then_sound = moved_sound serving move world sound parts.0 in
-      let same = shown_so realm 0 k fine before moment in
+      let same = shown_so name 0 k fine before moment in
       let then_true : IsTrueTo (shown_in all) next = subst (λ xs. IsTrueTo xs next) same (moved_true serving move world (shown_in before) sound true_to parts.0) in
-      and_from _ _ (moment_asked realm before moment asks.declared (λ is.
-      let shown : are_told is_commit realm id (shown_in all) ≡ true = ap (are_told is_commit realm id) (sym same) ∙ (told_more is_commit realm id (shown_in before) moment.shown ∙ or_right (are_told is_commit realm id (shown_in before)) _ is) in
+      and_from _ _ (moment_asked name before moment asks.declared (λ is.
+      let shown : are_told is_commit name id (shown_in all) ≡ true = ap (are_told is_commit name id) (sym same) ∙ (told_more is_commit name id (shown_in before) moment.shown ∙ or_right (are_told is_commit name id (shown_in before)) _ is) in
       subst (λ n. Ok n k start branches all) then_named (told_ok k fine start branches all next then_sound then_true (subst (λ n. Asks n k start branches all next) (sym then_named) then_asks) (subst (λ n. Told n k all next) (sym then_named) (inl shown)))))
-      (runs_asked serving realm next moves all then_sound then_true then_named (went.witnessed (of_start next.state.head.epoch all) (λ same_epoch. ap (λ e. of_start e all) same_epoch ∙ mine)) then_asks parts.1)
+      (runs_asked serving name next moves all then_sound then_true then_named (went.witnessed (of_start next.state.head.epoch all) (λ same_epoch. ap (λ e. of_start e all) same_epoch ∙ mine)) then_asks parts.1)
 
 -- where a run begins
 start_asks : (k : Key) → is_spelled k ≡ true → (world : World) → IsStart world → Asks world.state.head.name k world world.state.head.branches [] world

@@ -123,7 +123,7 @@ pub record Alters (realm : List ℕ) (moments : List Moment) (now : ℕ) (errand
 
 -- with fewer that are out
 cares_fewer : (realm : List ℕ) (moments : List Moment) (now : ℕ) (errands fewer : List PartyNotes) (id : List ℕ) (place : PartyPlace) (branches : List (ℕ × List ℕ)) → ((party : PartyNotes) → In party fewer → In party errands) → Cares realm moments now errands id place branches → Cares realm moments now fewer id place branches
-cares_fewer realm moments now errands fewer id place branches sub cares = record { here = cares.here; out = λ e at party there. cares.out e at party (sub party there); spent = cares.spent }
+cares_fewer name moments epoch errands fewer id place branches sub cares = record { here = cares.here; out = λ e at party there. cares.out e at party (sub party there); spent = cares.spent }
 
 pub base_altered : (realm : List ℕ) (moments : List Moment) (now : ℕ) (w : Work) (errands fewer : List PartyNotes) (rows : List (Key × Row)) (key : Key) (f : Transaction → Transaction) → ((t : Transaction) → (f t).key ≡ t.key) → ((party : PartyNotes) → In party fewer → In party errands) → Base realm moments now w errands rows → ((t : Transaction) → transaction_of key w.state ≡ Some t → Alters realm moments now fewer rows f t) → Base realm moments now (alter key f w) fewer rows
 base_altered realm moments now w errands fewer rows key f same sub base may = record {

@@ -208,13 +208,13 @@ module _ (world : World) (sound : IsSound world) (moments : List Moment) (moment
   change_is_done : (event : Event) (change : Option Change) (outcome : Outcome) (answer : Answer) → moment.shown ≡ outputs event change outcome answer → ((key : Key) → change ≡ Some (Remove key) → (is_spelled key ≡ true) × ((branches : List (ℕ × List ℕ)) (subs : List (List ℕ × List ℕ)) → row_at key world.rows ≡ Some (row.Committed branches subs) → Finished world.state.head.name moments key branches subs)) → (id : List ℕ) → IsDone world.state.head.name id moments moment
   change_is_done event change outcome answer shows finish id = step (list_any (removes world.state.head.name id) moment.shown) refl where
     finished : (key : Key) → bytes_eq id (identifier world.state.head.name key) ≡ true → is_spelled key ≡ true → ((branches : List (ℕ × List ℕ)) (subs : List (List ℕ × List ℕ)) → row_at key world.rows ≡ Some (row.Committed branches subs) → Finished world.state.head.name moments key branches subs) → (found : Option Row) → row_in world.state.head.name id world.rows ≡ found → option_map_or (all_have_done world.state.head.name id moments) found true ≡ true
-    finished key spells fine done None at = refl
-    finished key spells fine done (Some (row.Prepared address superior branches subs)) at = refl
-    finished key spells fine done (Some (row.Committed branches subs)) at =
+    finished key spells fine all_did None at = refl
+    finished key spells fine all_did (Some (row.Prepared address superior branches subs)) at = refl
+    finished key spells fine all_did (Some (row.Committed branches subs)) at =
         let name = world.state.head.name in
         let same : id ≡ identifier name key = same_text id (identifier name key) spells in
         let there : row_at key world.rows ≡ Some (row.Committed branches subs) = sym (same_row name key fine world.rows (rows_spelled world sound)) ∙ (ap (λ x. row_in name x world.rows) (sym same) ∙ at) in
-        let all = done branches subs there in
+        let all = all_did branches subs there in
         subst (λ x. all_have_done name x moments (row.Committed branches subs) ≡ true) (sym same) (and_from _ _ all.done all.heard)
 
     step : (b : Bool) → list_any (removes world.state.head.name id) moment.shown ≡ b → IsDone world.state.head.name id moments moment
