@@ -1,13 +1,9 @@
 -- What happens to one connection of a realm.
-use Rattle.std.proofs.Common.{◌≡◌, ◌≤◌, ◌∙◌, ◌++◌, ◌∷◌, [], ℕ, suc, zero, Bool, true, false, List, Option, Some, None, length, arith, refl, sym, ap, subst}
-use Rattle.std.specs.Prelude.{is_none, is_some, option_map, slice_get, slice_set}
+use Rattle.std.proofs.Common.{◌≡◌, ◌≤◌, ◌∙◌, ◌++◌, ℕ, suc, zero, true, false, List, Some, None, length, arith, refl, sym, ap, subst}
+use Rattle.std.specs.Prelude.{slice_get, slice_set}
 use Rattle.std.proofs.lemmas.List.{append_assoc, append-nil}
-use Rattle.std.proofs.lemmas.Option.{none-some, same_Some}
-use Rattle.tip_line.specs.Reading.{items_of}
-use Rattle.tip_machine.specs.declared.event.Event.TheVariants as event
-use Rattle.tip_machine.specs.declared.event.Seat.{Seat}
-use Rattle.tip_actor.specs.Acting.{Acting, Done, Reading, answer_in, feeds, forgets_on, happens, lines_of, loses, lost_on, on_connection, on_reading, reading_on}
-use Rattle.tip_actor.specs.Standing.{Actor, Acts, AreReadings, Host, IsActing, IsDone, IsReading, Owes, Tells, gives}
+use Rattle.tip_actor.specs.Acting.{Acting, Done, Reading, feeds, lines_of, on_connection, on_reading, reading_on}
+use Rattle.tip_actor.specs.Standing.{Actor, AreReadings, Host, IsActing, IsReading, Tells, gives}
 use Rattle.tip_actor.specs.declared.reader.Reader.{Reader}
 use Rattle.tip_actor.proofs.Doing.{stays}
 use Rattle.tip_actor.proofs.Hearing.{lines_behind}

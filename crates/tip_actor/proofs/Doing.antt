@@ -2,7 +2,6 @@
 use Rattle.std.proofs.Common.{◌≡◌, ◌∙◌, ◌++◌, ◌∷◌, [], ℕ, Bool, true, false, List, Option, Some, None, refl, ap, sym, subst}
 use Rattle.std.specs.Prelude.{is_some, if◌then◌else◌}
 use Rattle.std.specs.Option.{option_to_list}
-use Rattle.std.proofs.lemmas.Bool.{false≢true}
 use Rattle.std.proofs.lemmas.List.{append-nil}
 use Rattle.tip_core.specs.Hosted.{HaveNames, realm}
 use Rattle.tip_rows.specs.Logs.{IsPart, Log}
@@ -18,7 +17,7 @@ use Rattle.tip_machine.specs.States.{State}
 use Rattle.tip_machine.specs.Steps.{step, wants}
 use Rattle.tip_machine.specs.Types.{Answer, Event}
 use Rattle.tip_transcript.specs.Printing.{idle_text, shown_text}
-use Rattle.tip_actor.specs.Acting.{Acting, Done, Reading, after_sent, answer_in, drops_from, goes_for, happens, outcome_in, quiet, refuses, still_due, with_opened}
+use Rattle.tip_actor.specs.Acting.{Acting, Done, Reading, after_sent, answer_in, drops_from, goes_for, happens, outcome_in, refuses, still_due, with_opened}
 use Rattle.tip_actor.specs.Promises.{answers_of, are_foretold}
 use Rattle.tip_actor.specs.Standing.{Actor, AreReadings, Happened, Host, IsActing, IsDone, IsServed, Leaves, Serves, Tells}
 

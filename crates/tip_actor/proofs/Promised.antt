@@ -6,7 +6,6 @@ use Rattle.std.proofs.lemmas.Bool.{and_parts}
 use Rattle.tip_branch.specs.Members.{is_active, is_late, is_no, is_ready, promised_answer}
 use Rattle.tip_branch.specs.Notes.{PartyNotes}
 use Rattle.tip_branch.specs.Plans.{planned_vote}
-use Rattle.tip_branch.specs.declared.branch.Plan.{Plan}
 use Rattle.tip_branch.specs.declared.branch.Settled.{Settled}
 use Rattle.tip_branch.specs.declared.branch.Settled.TheVariants as settled
 use Rattle.tip_branch.specs.declared.branch.Vote.{Vote}

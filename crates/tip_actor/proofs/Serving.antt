@@ -4,7 +4,7 @@ use Rattle.std.specs.Prelude.{◌&&◌, is_some, if◌then◌else◌}
 use Rattle.std.specs.Str.{bytes_eq}
 use Rattle.std.proofs.lemmas.Bool.{false≢true}
 use Rattle.std.proofs.lemmas.Slice.Eq.{bytes_eq-Decides}
-use Rattle.tip_core.specs.Hosted.{HaveNames, Steps, realm}
+use Rattle.tip_core.specs.Hosted.{HaveNames, Steps}
 use Rattle.tip_host.specs.Keeping.{Keeps, is_change, log_after}
 use Rattle.tip_host.proofs.Parts.{part_after, part_stays}
 use Rattle.tip_machine.proofs.Stepping.{step-named}
@@ -20,7 +20,7 @@ use Rattle.tip_machine.specs.declared.event.Outcome.TheVariants.{NoChange, Store
 use Rattle.tip_rows.specs.Logs.{IsPart, Log}
 use Rattle.tip_rows.specs.Memory.{Memory, is_due_in, log_of}
 use Rattle.tip_actor.specs.Acting.{outcome_of, still_due}
-use Rattle.tip_actor.specs.Standing.{Happened, Host, IsServed, Leaves, Serves}
+use Rattle.tip_actor.specs.Standing.{Happened, Host, IsServed, Serves}
 
 -- a change of rows leaves the realms known, with their epochs
 epochs_stay : (name : List ℕ) (change : Option Change) (outcome : Outcome) (log : Log) → (log_after name change outcome log).epochs ≡ log.epochs

@@ -1,5 +1,5 @@
 -- Lines that are taken one after another.
-use Rattle.std.proofs.Common.{◌≡◌, ◌∙◌, ◌++◌, ◌∷◌, [], ℕ, ◌<◌, ◌≤◌, ◌+◌, suc, zero, nat_lt, Bool, true, false, not, List, Option, Some, None, length, drop, arith, refl, ap, sym, subst, inl, inr}
+use Rattle.std.proofs.Common.{◌≡◌, ◌∙◌, ◌++◌, ◌∷◌, [], ℕ, ◌<◌, ◌≤◌, ◌+◌, suc, zero, nat_lt, Bool, true, false, not, List, Some, None, length, drop, arith, refl, ap, sym, subst, inl, inr}
 use Rattle.std.specs.Prelude.{◌&&◌, slice_get, slice_set}
 use Rattle.std.specs.List.{position, position_or_len}
 use Rattle.std.proofs.lemmas.Bool.{cases_eq}
@@ -13,7 +13,7 @@ use Rattle.tip_machine.specs.Types.{Event}
 use Rattle.tip_machine.specs.declared.event.Event.TheVariants as event
 use Rattle.tip_machine.specs.declared.event.Heard.{Heard}
 use Rattle.tip_actor.specs.Acting.{Acting, Reading, happens, is_next, is_waiting, lines_of, said_by, takes_at, takes_from, takes_on}
-use Rattle.tip_actor.specs.Standing.{Actor, AreReadings, Finds, gives, GivesNext, Host, IsActing, IsReading, Owes, Says, TakesLine}
+use Rattle.tip_actor.specs.Standing.{Actor, AreReadings, Finds, gives, GivesNext, Host, IsActing, IsReading, Owes, Says}
 use Rattle.tip_actor.proofs.Lists.{partner, reading_at, readings_length, readings_set}
 use Rattle.tip_actor.specs.declared.reader.Reader.{Reader}
 

@@ -1,6 +1,6 @@
 -- What is stored of a realm: after a change of rows, and in the log in which realms start.
 use Rattle.std.proofs.Common.{◌≡◌, ◌≢◌, ℕ, zero, suc, ◌+◌, ◌<◌, ◌≤◌, Bool, true, false, cond, List, [], ◌∷◌, Option, Some, None, inl, inr, refl, ap, arith, sym, subst, ◌∙◌}
-use Rattle.std.specs.Prelude.{◌⊎◌, ◌&&◌, ◌==◌, ℤ, is_some, pos, nat_lt, option_map, slice_get, unwrap_or, if◌then◌else◌}
+use Rattle.std.specs.Prelude.{◌&&◌, ◌==◌, ℤ, is_some, pos, nat_lt, option_map, slice_get, unwrap_or}
 use Rattle.std.specs.Str.{bytes_eq}
 use Rattle.std.proofs.lemmas.Bool.{cases_lt}
 use Rattle.std.proofs.lemmas.Bool.Decides.{nat_tests}
@@ -10,12 +10,11 @@ use Rattle.tip_rows.specs.Keys.{Key, is_same}
 use Rattle.tip_rows.specs.Logs.{Log, IsPart, IsSpoiled, known, last_epoch, raised, raised_number, with_all_raised, with_at, with_known}
 use Rattle.tip_rows.specs.declared.row.Row.{Row}
 use Rattle.tip_machine.proofs.Storing.{put_at, removed_at, rising_put, rising_removed}
-use Rattle.tip_machine.specs.Moves.{row_put, rows_after}
+use Rattle.tip_machine.specs.Moves.{rows_after}
 use Rattle.tip_machine.specs.declared.event.Change.{Change}
 use Rattle.tip_machine.specs.declared.event.Change.TheVariants.{Put, Remove}
 use Rattle.tip_machine.specs.declared.event.Outcome.{Outcome}
 use Rattle.tip_machine.specs.declared.event.Outcome.TheVariants.{NoChange, Stored, Refused}
-use Rattle.tip_table.specs.Lists.{without}
 use Rattle.tip_host.specs.Keeping.{log_after}
 use Rattle.tip_host.specs.Loading.{known_all, opened}
 

@@ -1,12 +1,12 @@
 -- Lines of a script that were played one after another.
-use Rattle.std.proofs.Common.{◌≡◌, ◌≢◌, ◌≤◌, ◌+◌, ◌++◌, ◌∷◌, [], ℕ, List, Bool, length, true, false, not, Option, None, Result, Ok, Err, arith, refl, sym, ap, ◌∙◌, subst, length-append}
+use Rattle.std.proofs.Common.{◌≡◌, ◌≢◌, ◌≤◌, ◌+◌, ◌++◌, ◌∷◌, [], ℕ, List, length, true, Option, None, Result, Ok, Err, arith, refl, sym, ap, ◌∙◌, subst, length-append}
 use Rattle.std.proofs.KnownBytes.{Appends-nil, Appends-trans}
-use Rattle.std.specs.Io.KnownBytes.{Appends, Consumes}
-use Rattle.std.proofs.lemmas.List.{append_assoc, append-nil}
-use Rattle.script_lines.specs.Lines.{AreOfLine, IsTooLong, is_inner, is_line_feed, longest_line}
+use Rattle.std.specs.Io.KnownBytes.{Appends}
+use Rattle.std.proofs.lemmas.List.{append_assoc}
+use Rattle.script_lines.specs.Lines.{AreOfLine, is_inner, is_line_feed, longest_line}
 use Rattle.tip_scene.specs.Acts.{Stage, Declaring, Acted, acted, closing_of}
 use Rattle.tip_scene.specs.Stages.{AStage, IsStage}
-use Rattle.tip_play.specs.Transcripts.{Played, Reached, Fault, played, played_of, all_played, transcript, ended, unended, closing_text, IsFront, IsReadTo, Transcribes}
+use Rattle.tip_play.specs.Transcripts.{Played, Reached, Fault, played, played_of, transcript, ended, unended, closing_text, IsFront, Transcribes}
 use Rattle.tip_play.specs.Writing.{Acts, Closes}
 use Rattle.tip_play.specs.declared.fault.PlayFault.{PlayFault}
 use Rattle.tip_play.specs.declared.fault.PlayFault.TheVariants as fault

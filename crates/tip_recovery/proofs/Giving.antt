@@ -1,11 +1,10 @@
 -- Each of a list takes what stands at its place in another, one after another.
-use Rattle.std.proofs.Common.{◌≡◌, ℕ, zero, suc, ◌+◌, ◌<◌, ◌≤◌, Bool, true, false, List, [], ◌∷◌, ◌++◌, append_assoc, Option, None, Some, drop, get_or, length, map, refl, ap, arith, sym, subst, ◌∙◌}
+use Rattle.std.proofs.Common.{◌≡◌, ℕ, zero, suc, ◌+◌, ◌<◌, Bool, true, false, List, [], ◌∷◌, ◌++◌, append_assoc, Some, drop, get_or, length, map, refl, ap, arith, sym, ◌∙◌}
 use Rattle.std.specs.Prelude.{◌&&◌, slice_get, slice_set}
-use Rattle.std.proofs.lemmas.Bool.{both_ways}
 use Rattle.std.proofs.lemmas.List.{append-nil}
 use Rattle.std.proofs.lemmas.Option.{same_Some, slice_get-get_or}
 use Rattle.tip_branch.specs.declared.branch.Badge.{Badge}
-use Rattle.tip_recovery.specs.Adopting.{Unfinished, AreOf, adopted_all, fit, given, with_boxes}
+use Rattle.tip_recovery.specs.Adopting.{Unfinished, AreOf, adopted_all, fit, given}
 
 length_behind : {T : Type 0} (xs ys : List T) → length (xs ++ ys) ≡ length xs + length ys
 length_behind [] ys = grind (arith)

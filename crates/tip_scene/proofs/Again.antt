@@ -1,6 +1,6 @@
 -- Realms that start again over their rows.
-use Rattle.std.proofs.Common.{◌≡◌, ◌+◌, ◌++◌, ◌==◌, ℕ, zero, suc, Bool, true, false, List, [], ◌∷◌, Option, Some, None, append-nil, append_assoc, length, map, option_map, refl, sym, ap, arith, subst, ◌∙◌}
-use Rattle.std.specs.Prelude.{Ok, ◌||◌, slice_get}
+use Rattle.std.proofs.Common.{◌≡◌, ◌+◌, ◌++◌, ◌==◌, ℕ, zero, suc, true, false, List, [], ◌∷◌, Option, Some, None, append-nil, append_assoc, length, map, option_map, refl, sym, ap, arith, subst, ◌∙◌}
+use Rattle.std.specs.Prelude.{◌||◌, slice_get}
 use Rattle.std.specs.List.{flat_map, list_any}
 use Rattle.std.specs.Option.{option_map_or}
 use Rattle.std.proofs.lemmas.Bool.{or_parts}
@@ -19,14 +19,13 @@ use Rattle.tip_machine.specs.States.{State, started}
 use Rattle.tip_machine.specs.declared.head.Head.{Head}
 use Rattle.tip_recovery.specs.Adopting.{Recovery, Unfinished, adopted_all, given, loaded, unadopted, with_boxes}
 use Rattle.tip_rows.specs.Keys.{Key}
-use Rattle.tip_rows.specs.Logs.{IsPart, is_rising, last_epoch, raised_number, row_at}
+use Rattle.tip_rows.specs.Logs.{IsPart, is_rising, last_epoch, raised_number}
 use Rattle.tip_rows.specs.Memory.{Memory, is_due_in, log_of}
 use Rattle.tip_rows.specs.declared.row.Row.{Row}
 use Rattle.tip_actor.proofs.Lists.{partner}
 use Rattle.tip_actor.specs.Acting.{Acting, boxes_in, is_at_end, restarts, willing_boxes}
 use Rattle.tip_actor.specs.Standing.{Actor, Host as AHost, IsActing}
 use Rattle.tip_scene.proofs.Loaded.{IsLoaded, LoadsRows, beyond, loaded_at}
-use Rattle.tip_scene.proofs.Begun.{new_count}
 use Rattle.tip_scene.specs.Rising.{AreAnew, AreNew, AreRising, IsAnew, IsNew, IsRising}
 use Rattle.tip_scene.specs.Scenes as Scenes
 use Rattle.tip_scene.specs.Scenes.{Scene}

@@ -10,8 +10,7 @@ use Rattle.tip_branch.specs.declared.branch.Badge.{Badge}
 use Rattle.tip_core.specs.Hosted.{HaveNames, realm}
 use Rattle.tip_host.specs.Recovering.{Recovering, recovered}
 use Rattle.tip_machine.specs.Answers.{identifier}
-use Rattle.tip_machine.specs.States.{State, started}
-use Rattle.tip_recovery.specs.Adopting.{Recovery, Unfinished, given, loaded, unadopted, with_boxes}
+use Rattle.tip_recovery.specs.Adopting.{Recovery, Unfinished, given, unadopted, with_boxes}
 use Rattle.tip_rows.specs.Keys.{Key}
 use Rattle.tip_rows.specs.Rows.{branches_of}
 use Rattle.tip_rows.specs.Memory.{Memory, is_due_in, log_of}

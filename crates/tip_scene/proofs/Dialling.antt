@@ -1,7 +1,7 @@
 -- A connection that we open, if what is said of it are words.
-use Rattle.std.proofs.Common.{◌≡◌, ℕ, Bool, true, false, List, Option, None, Some, subst}
+use Rattle.std.proofs.Common.{◌≡◌, ℕ, Bool, true, false, List, None, Some, subst}
 use Rattle.std.specs.Prelude.{if◌then◌else◌}
-use Rattle.std.proofs.lemmas.Option.{none-some, same_Some}
+use Rattle.std.proofs.lemmas.Option.{same_Some}
 use Rattle.tip_machine.specs.Types.{Event}
 use Rattle.tip_actor.specs.Acting.{Acting, happens}
 use Rattle.tip_actor.specs.Standing.{Actor, Host, IsDone, Tells}

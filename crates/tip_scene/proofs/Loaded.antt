@@ -1,6 +1,6 @@
 -- Realms that were loaded, each at its place.
-use Rattle.std.proofs.Common.{◌≡◌, ℕ, zero, suc, true, List, [], ◌∷◌, Option, Some, None, map, option_map, refl, sym, ap, subst, ◌∙◌}
-use Rattle.std.specs.Prelude.{ℤ, Ok, is_some, pos, slice_get}
+use Rattle.std.proofs.Common.{◌≡◌, ℕ, zero, suc, true, List, [], ◌∷◌, Some, None, map, option_map, refl, sym, ap, subst, ◌∙◌}
+use Rattle.std.specs.Prelude.{Ok, is_some, pos, slice_get}
 use Rattle.std.proofs.lemmas.Option.{none-some, same_Some}
 use Rattle.tip_core.specs.Hosted.{realm}
 use Rattle.tip_host.proofs.Parts.{opened_known, opened_part}
@@ -10,7 +10,6 @@ use Rattle.tip_host.specs.declared.realm_spec.RealmSpec.{RealmSpec}
 use Rattle.tip_machine.proofs.Storing.{same_rows}
 use Rattle.tip_machine.specs.Heads.{starting}
 use Rattle.tip_machine.specs.States.{started}
-use Rattle.tip_machine.specs.declared.head.Start.{Start}
 use Rattle.tip_recovery.specs.Adopting.{Recovery, unadopted}
 use Rattle.tip_rows.specs.Keys.{Key}
 use Rattle.tip_rows.specs.Logs.{IsPart, Log, raised_number}

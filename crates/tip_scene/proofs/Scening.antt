@@ -1,6 +1,6 @@
 -- The realms of a scene, and the code's values that stand for them.
 use Rattle.std.proofs.Common.{◌≡◌, ◌≢◌, ◌+◌, ◌++◌, ◌∷◌, [], ℕ, suc, zero, List, Bool, true, false, not, ◌==◌, Option, Some, None, length, arith, refl, sym, ap, ◌∙◌, subst}
-use Rattle.std.specs.Prelude.{slice_get, slice_set, if◌then◌else◌, is_some, Result, Ok, Err}
+use Rattle.std.specs.Prelude.{slice_get, slice_set, if◌then◌else◌, is_some, Ok, Err}
 use Rattle.std.specs.List.{position_or_len}
 use Rattle.std.specs.Str.{bytes_eq}
 use Rattle.std.specs.Cmp.{unsigned_Decides}
@@ -16,7 +16,7 @@ use Rattle.tip_core.specs.Hosted.{HaveNames, realm}
 use Rattle.tip_rows.specs.Logs.{IsPart, Log}
 use Rattle.tip_rows.specs.Memory as Rows
 use Rattle.tip_script.specs.Scripts.{Move}
-use Rattle.tip_scene.specs.Scenes.{Scene, Moved, does, elsewhere, is_named, moved_at, moved_in, place_of, with_done, with_text}
+use Rattle.tip_scene.specs.Scenes.{Scene, does, elsewhere, is_named, moved_at, moved_in, place_of, with_done, with_text}
 use Rattle.tip_scene.specs.Stages.{APlaying, Moves, Prints}
 use Rattle.tip_scene.specs.Standing.{IsScene, IsMoved, has_name}
 use Rattle.tip_scene.specs.declared.fault.LineFault.{LineFault}

@@ -1,5 +1,5 @@
 -- Declared realms, and what a line makes of a stage.
-use Rattle.std.proofs.Common.{◌≡◌, ◌≢◌, ◌<◌, ◌++◌, ◌∷◌, [], ℕ, List, true, false, ◌==◌, nat_lt, Some, None, option_map, length, arith, refl, sym, ap, ◌∙◌}
+use Rattle.std.proofs.Common.{◌≡◌, ◌≢◌, ◌<◌, ◌++◌, ◌∷◌, [], ℕ, List, true, false, ◌==◌, nat_lt, Some, option_map, length, arith, refl, sym, ap, ◌∙◌}
 use Rattle.std.specs.Prelude.{Err, Option, Result}
 use Rattle.std.specs.List.{list_all}
 use Rattle.std.proofs.lemmas.Bool.{false≢true}
@@ -14,7 +14,7 @@ use Rattle.tip_script.specs.declared.instruction.Instruction.{Instruction}
 use Rattle.tip_script.specs.declared.instruction.Instruction.TheVariants as instruction
 use Rattle.tip_scene.specs.Acts.{Stage, Declaring, Playing, Acted, acted, acted_by, acts, acts_if, declaration_of, declared, is_count, is_other, scene_of, starts_text}
 use Rattle.tip_scene.specs.Scenes.{Scene, moved}
-use Rattle.tip_scene.specs.Stages.{APlaying, AStage, ActsSo, Declared, Declares, IsDeclared, IsStage, Moves}
+use Rattle.tip_scene.specs.Stages.{APlaying, AStage, ActsSo, Declared, Declares, IsDeclared, IsStage}
 use Rattle.tip_scene.specs.Standing.{IsScene, IsMoved}
 use Rattle.tip_scene.specs.declared.declared.Declaration.{Declaration}
 use Rattle.tip_scene.specs.declared.fault.LineFault.{LineFault}

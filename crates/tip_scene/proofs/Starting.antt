@@ -1,6 +1,6 @@
 -- Realms that start over a store that is empty.
-use Rattle.std.proofs.Common.{◌≡◌, ℕ, zero, suc, false, true, List, [], ◌∷◌, Option, Some, None, map, refl, sym, ap, subst, inl, inr, ◌∙◌}
-use Rattle.std.specs.Prelude.{◌⊎◌, slice_get}
+use Rattle.std.proofs.Common.{◌≡◌, ℕ, zero, suc, false, List, [], ◌∷◌, Some, None, map, refl, sym, ap, subst, inl, inr, ◌∙◌}
+use Rattle.std.specs.Prelude.{slice_get}
 use Rattle.std.proofs.lemmas.Option.{none-some, same_Some}
 use Rattle.tip_host.specs.Loading as Host
 use Rattle.tip_host.specs.Recovering.{Recovering}
@@ -9,7 +9,7 @@ use Rattle.tip_machine.specs.Heads.{starting}
 use Rattle.tip_machine.specs.Recovery.{restarted}
 use Rattle.tip_machine.specs.States.{started}
 use Rattle.tip_recovery.specs.Adopting.{loaded}
-use Rattle.tip_rows.specs.Logs.{IsPart, IsSpoiled, Log, empty_log}
+use Rattle.tip_rows.specs.Logs.{IsPart, IsSpoiled, empty_log}
 use Rattle.tip_rows.specs.Memory.{Memory, is_due_in, log_of}
 use Rattle.tip_actor.specs.Acting.{Acting}
 use Rattle.tip_scene.proofs.Loaded.{IsLoaded, LoadsRows, beyond, loaded_at}

@@ -1,10 +1,10 @@
 -- Realms that have started, before they are at work.
-use Rattle.std.specs.Prelude.{◌≡◌, ℕ, List, [], ◌∷◌, map, true, Option, Some, None, is_some, slice_get}
+use Rattle.std.specs.Prelude.{◌≡◌, ℕ, List, [], ◌∷◌, map, true, Some, None, is_some, slice_get}
 use Rattle.tip_branch.specs.declared.branch.Badge.{Badge}
 use Rattle.tip_core.specs.Hosted.{realm}
 use Rattle.tip_machine.specs.Recovery.{restarted}
 use Rattle.tip_machine.specs.States.{started}
-use Rattle.tip_recovery.specs.Adopting.{Recovery, Unfinished, given, loaded, unadopted, with_boxes}
+use Rattle.tip_recovery.specs.Adopting.{Recovery, given, loaded, unadopted, with_boxes}
 use Rattle.tip_rows.specs.Logs.{IsPart}
 use Rattle.tip_rows.specs.Memory.{Memory, is_due_in, log_of}
 use Rattle.tip_host.specs.Recovering.{Recovering}

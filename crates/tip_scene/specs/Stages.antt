@@ -1,5 +1,5 @@
 -- How the code's stage stands for the script's.
-use Rattle.std.specs.Prelude.{◌≡◌, ℕ, List, [], ◌∷◌, ◌++◌, true, false, Option, Some, None, Result, Ok, Err, is_some, slice_get}
+use Rattle.std.specs.Prelude.{◌≡◌, ℕ, List, ◌++◌, Option, Some, None, Result, Ok, Err}
 use Rattle.tip_actor.specs.Acting.{boxes_of}
 use Rattle.tip_actor.specs.Standing.{Actor, Host}
 use Rattle.tip_core.specs.Hosted.{Hosted}

@@ -1,5 +1,5 @@
 -- How the code's values stand for the realms of a script at work.
-use Rattle.std.specs.Prelude.{◌≡◌, ℕ, List, ◌++◌, length, Bool, Option, Some, None, slice_get}
+use Rattle.std.specs.Prelude.{◌≡◌, ℕ, List, ◌++◌, length, Bool, Some, None, slice_get}
 use Rattle.std.specs.Str.{bytes_eq}
 use Rattle.tip_actor.specs.Acting.{Acting}
 use Rattle.tip_actor.specs.Standing.{Actor, Host, IsActing}

@@ -81,12 +81,7 @@ impl Declared<Core> {
     }
 
     /// The branches of a realm's transactions have these labels, by number; spaces stand between them.
-    pub fn label(
-        mut self,
-        alloc: Global,
-        name: &str,
-        labels: &[u8],
-    ) -> Result<Declared, LineFault>
+    pub fn label(mut self, alloc: Global, name: &str, labels: &[u8]) -> Result<Declared, LineFault>
         requires { Always }
         ensures { (declarations : List Declaration) → IsDeclared self declarations → Declares (labelled name.now (fields_of 32 labels.now) declarations) result }
     {
@@ -212,10 +207,7 @@ fn actors_of(alloc: Global, declarations: &[Declaration]) -> Result<Vec<Actor>, 
 }
 
 /// Each realm as it is to be hosted.
-fn specs_of(
-    alloc: Global,
-    declarations: Vec<Declaration>,
-) -> Result<Vec<RealmSpec>, AllocError>
+fn specs_of(alloc: Global, declarations: Vec<Declaration>) -> Result<Vec<RealmSpec>, AllocError>
     ensures { IfOk result (λ specs. specs.items ≡ map spec_of declarations.items) }
 {
     let mut specs = Vec::with_capacity(alloc, declarations.len())?;

@@ -71,7 +71,15 @@ impl Playing<Host<MemRows>, Actor> {
             print_elsewhere(printed, instruction)?;
             return Ok(self);
         };
-        if !obey(actor, alloc, &mut self.host, place, instruction, boxes, printed)? {
+        if !obey(
+            actor,
+            alloc,
+            &mut self.host,
+            place,
+            instruction,
+            boxes,
+            printed,
+        )? {
             return Err(LineFault::NotUnderstood);
         }
         actor.settle(alloc, &mut self.host, place, printed)?;

@@ -1,5 +1,5 @@
 -- The fields that are names and numbers are text.
-use Rattle.std.proofs.Common.{◌≡◌, ◌+◌, ◌-◌, ◌^◌, ◌<◌, take, drop, ◌∙◌, ℕ, suc, zero, lit<, List, [], ◌∷◌, Bool, true, false, ◌&&◌, nat_lt, nat_le, length, None, refl, ap, subst, arith}
+use Rattle.std.proofs.Common.{◌≡◌, ◌^◌, ◌<◌, ℕ, suc, zero, lit<, List, [], ◌∷◌, Bool, true, false, ◌&&◌, nat_lt, nat_le, length, None, refl, subst, arith}
 use Rattle.std.specs.Fmt.{decimal}
 use Rattle.std.specs.List.{list_all}
 use Rattle.std.specs.Str.{IsUtf8, IsAscii, bytes_eq}

@@ -16,7 +16,7 @@ use Rattle.tip_machine.specs.declared.answer.Sent.{Sent}
 use Rattle.tip_machine.specs.declared.event.Change.{Change}
 use Rattle.tip_machine.specs.declared.event.Outcome.{Outcome}
 use Rattle.tip_machine.specs.declared.event.Seat.{Seat}
-use Rattle.tip_transcript.specs.Printing.{call_text, change_text, drop_text, left_text, member_text, opened_text, output_text, refusal_text, sent_text, shown_text, work_text}
+use Rattle.tip_transcript.specs.Printing.{change_text, left_text, member_text, opened_text, output_text, refusal_text, sent_text, shown_text, work_text}
 
 module _ (realm : List ℕ) where
   one : (output : Output) → shown_text realm (output ∷ []) ≡ output_text realm output

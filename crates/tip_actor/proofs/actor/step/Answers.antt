@@ -1,5 +1,4 @@
 -- What the host has done is what its realm does, with a store that refuses where that is due alone.
-use Rattle.std.proofs.Common.{sym}
 use Rattle.tip_actor.proofs.Serving.{serves}
 use Rattle.tip_actor.proofs.actor.step.Goals as goal
 

@@ -1,5 +1,5 @@
 -- The first line that waits on a connection.
-use Rattle.std.proofs.Common.{◌∙◌, refl, subst}
+use Rattle.std.proofs.Common.{refl, subst}
 use Rattle.tip_machine.specs.declared.event.Event.TheVariants as event
 use Rattle.tip_actor.specs.Standing.{Says}
 use Rattle.tip_actor.proofs.Taking.{says_one}

@@ -1,11 +1,9 @@
-use Rattle.std.proofs.Common.{◌≡◌, ◌∙◌, List, arith, rules, subst, sym, true}
+use Rattle.std.proofs.Common.{◌≡◌, ◌∙◌, arith, rules, subst, sym, true}
 use Rattle.std.proofs.lemmas.Grind.{common_steps}
 use Rattle.std.proofs.lemmas.List.{nil_from_length}
-use Rattle.tip_branch.specs.declared.branch.Badge.{Badge}
-use Rattle.tip_core.specs.Hosted.{Hosted}
 use Rattle.tip_recovery.specs.Adopting.{Recovery, adopted_all, are_for_all}
 use Rattle.tip_recovery.proofs.Giving.{Giving, ends, fails, fit-map, given-map, goes_on, within}
-use Rattle.tip_host.proofs.TakingUp.{IsLike, fits_it, still_begun_with, with_its}
+use Rattle.tip_host.proofs.TakingUp.{fits_it, still_begun_with, with_its}
 use Rattle.tip_host.proofs.recovering.adopt_each.Goals as goal
 
 pub index_mut-requires : goal.index_mut-requires

@@ -1,8 +1,4 @@
-use Rattle.std.proofs.Common.{List}
-use Rattle.std.specs.Global.{Vec}
-use Rattle.tip_branch.specs.declared.branch.Badge.{Badge}
 use Rattle.tip_core.specs.Hosted.{Hosted}
-use Rattle.tip_recovery.specs.Adopting.{Recovery}
 use Rattle.tip_recovery.proofs.Giving.{Giving}
 use Rattle.tip_host.specs.Recovering.{HaveBegun}
 use Rattle.tip_host.proofs.TakingUp.{fits_it, with_its}

@@ -1,5 +1,5 @@
 -- Lines that are read and played, one after another.
-use Rattle.std.proofs.Common.{◌≡◌, Ok, refl, subst, sym}
+use Rattle.std.proofs.Common.{Ok, refl, subst, sym}
 use Rattle.std.proofs.lemmas.Result.{err_from_is_err_and}
 use Rattle.script_lines.specs.Lines.{Reads}
 use Rattle.tip_scene.specs.Stages.{IsStage}

@@ -1,9 +1,9 @@
-use Rattle.std.proofs.Common.{◌≡◌, ◌∙◌, ℕ, true, List, ap, arith, length, rules, subst, sym}
+use Rattle.std.proofs.Common.{◌≡◌, ◌∙◌, true, List, ap, arith, length, rules, subst, sym}
 use Rattle.std.specs.Prelude.{slice_set}
 use Rattle.std.proofs.lemmas.List.{length-set}
 use Rattle.tip_branch.specs.declared.branch.Badge.{Badge}
 use Rattle.tip_recovery.specs.Adopting.{AreOf, Unfinished, are_for, given, with_boxes}
-use Rattle.tip_recovery.proofs.Giving.{Giving, adopted_all_of, fails, goes_on, length-given, set_of, within}
+use Rattle.tip_recovery.proofs.Giving.{adopted_all_of, fails, goes_on, length-given, set_of, within}
 use Rattle.tip_recovery.proofs.recovery.adopt_each.Goals as goal
 
 pub index_mut-requires : goal.index_mut-requires

@@ -1,7 +1,7 @@
 -- Boxes that are looked at one after another.
-use Rattle.std.proofs.Common.{◌<◌, ◌≤◌, ◌∙◌, Some, length, arith, ap, sym, subst}
+use Rattle.std.proofs.Common.{◌<◌, ◌∙◌, Some, length, arith, ap, sym}
 use Rattle.std.proofs.lemmas.Option.{slice_get-get_or}
-use Rattle.tip_scene.proofs.Looking.{all_known, none_yet, one_more, AreSoFar}
+use Rattle.tip_scene.proofs.Looking.{all_known, none_yet, one_more}
 use Rattle.tip_scene.proofs.boxes.are_of.Goals as goal
 
 pub loop-index-init : goal.loop-index-init

@@ -1,10 +1,8 @@
 -- One realm more at its start.
-use Rattle.std.proofs.Common.{◌≡◌, ◌+◌, ◌++◌, ◌∷◌, ◌∙◌, [], List, ap, map, refl, subst, sym, take}
+use Rattle.std.proofs.Common.{◌≡◌, ◌+◌, ◌++◌, ◌∷◌, ◌∙◌, [], ap, refl, subst, sym, take}
 use Rattle.std.proofs.lemmas.List.{map-append, take_more}
-
 use Rattle.tip_scene.specs.Acts.{acting_of, scene_of}
 use Rattle.tip_scene.specs.Rising.{AreNew, IsNew}
-use Rattle.tip_scene.specs.declared.declared.Declaration.{Declaration}
 use Rattle.tip_scene.proofs.Begun.{new_push}
 use Rattle.tip_scene.proofs.declared.actors_of.Goals as goal
 
@@ -22,6 +20,6 @@ loop-declaration-preserved g c =
       due = c.new-in-loop-declaration.ensures.due;
     } in
     let more : scene_of (take (i + 1) declarations) ≡ scene_of (take i declarations) ++ acting_of declaration ∷ [] =
-        ap scene_of (take_more declarations i declaration c.loop-declaration-test.true ∙ ap (λ d. take i declarations ++ d ∷ []) (sym c.declaration-item.is)) ∙ map-append acting_of (take i declarations) (declaration ∷ []) in
+    ap scene_of (take_more declarations i declaration c.loop-declaration-test.true ∙ ap (λ d. take i declarations ++ d ∷ []) (sym c.declaration-item.is)) ∙ map-append acting_of (take i declarations) (declaration ∷ []) in
     subst (λ actors. AreNew actors (scene_of (take (i + 1) declarations))) (sym c.in_ok-push.ensures.items)
     (subst (AreNew (c.loop-declaration.actors.items ++ c.new-in-loop-declaration.result ∷ [])) (sym more) (new_push c.loop-declaration.actors.items (scene_of (take i declarations)) c.new-in-loop-declaration.result (acting_of declaration) c.loop-declaration.invariant new))

@@ -1,10 +1,10 @@
 -- Not where an epoch is the last one; else all start again.
-use Rattle.std.proofs.Common.{◌≡◌, ◌∙◌, Bool, List, ap, false, map, rules, string_bytes, subst, sym, true}
+use Rattle.std.proofs.Common.{◌≡◌, ◌∙◌, List, ap, false, map, rules, string_bytes, subst, sym, true}
 use Rattle.std.specs.List.{list_any}
 use Rattle.tip_branch.specs.declared.branch.Badge.{Badge}
-use Rattle.tip_host.specs.Recovering.{Recovering, adopted_each}
+use Rattle.tip_host.specs.Recovering.{adopted_each}
 use Rattle.tip_actor.specs.Acting.{is_at_end}
-use Rattle.tip_scene.specs.Rising.{AreNew, AreRising}
+use Rattle.tip_scene.specs.Rising.{AreRising}
 use Rattle.tip_scene.specs.Standing.{IsScene}
 use Rattle.tip_scene.proofs.Again.{after, any_at_end, boxes_of_recovery, new_again, rise_again, starts_again, stays_put}
 use Rattle.tip_scene.proofs.restarting.restart.Goals as goal

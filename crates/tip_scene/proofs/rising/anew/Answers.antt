@@ -1,5 +1,5 @@
 -- One realm more, to which nothing has come.
-use Rattle.std.proofs.Common.{◌++◌, ◌∷◌, ◌∙◌, [], List, ap, arith, append_assoc, subst, sym}
+use Rattle.std.proofs.Common.{◌++◌, ◌∷◌, ◌∙◌, [], List, ap, append_assoc, subst, sym}
 use Rattle.tip_actor.specs.Standing.{Actor}
 use Rattle.tip_scene.specs.Rising.{AreAnew}
 use Rattle.tip_scene.proofs.Begun.{anew_push}

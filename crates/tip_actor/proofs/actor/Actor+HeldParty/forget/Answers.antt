@@ -1,4 +1,4 @@
-use Rattle.std.proofs.Common.{arith, sym}
+use Rattle.std.proofs.Common.{arith}
 use Rattle.tip_actor.proofs.Lists.{forgets, forgets_nothing, some_at}
 use Rattle.tip_actor.proofs.actor.Actor+HeldParty.forget.Goals as goal
 

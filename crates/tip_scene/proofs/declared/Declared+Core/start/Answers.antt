@@ -1,5 +1,5 @@
 -- The realms start over a store that has nothing.
-use Rattle.std.proofs.Common.{◌∙◌, ap, map, subst, sym}
+use Rattle.std.proofs.Common.{◌∙◌, ap, map, subst}
 use Rattle.tip_scene.specs.Acts.{scene_of}
 use Rattle.tip_scene.specs.Rising.{AreNew}
 use Rattle.tip_scene.specs.Stages.{spec_of}

@@ -1,5 +1,5 @@
 -- A line of a realm, and one of a realm that is not there.
-use Rattle.std.proofs.Common.{true, false, string_bytes, subst}
+use Rattle.std.proofs.Common.{string_bytes, subst}
 use Rattle.std.proofs.lemmas.Result.{err_from_is_err_and}
 use Rattle.tip_actor.proofs.Lists.{none_at, some_at}
 use Rattle.tip_actor.specs.Standing.{Tells}

@@ -1,7 +1,6 @@
 -- The place of the first realm of that name, or the one behind all.
 use Rattle.std.proofs.Common.{◌≡◌, ◌∙◌, Some, false, true, sym, ap}
 use Rattle.std.specs.List.{position_or_len}
-use Rattle.std.specs.Prelude.{slice_get}
 use Rattle.std.specs.Str.{bytes_eq}
 use Rattle.std.proofs.lemmas.Option.{slice_get-get_or}
 use Rattle.tip_scene.specs.Standing.{has_name}

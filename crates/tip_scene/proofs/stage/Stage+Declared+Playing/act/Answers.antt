@@ -1,5 +1,5 @@
 -- A line that says something.
-use Rattle.std.proofs.Common.{Some, ◌∙◌, sym, ap, subst, string_bytes, option_map}
+use Rattle.std.proofs.Common.{◌∙◌, sym, ap, subst, string_bytes, option_map}
 use Rattle.tip_script.specs.Moves.{move_by}
 use Rattle.tip_scene.specs.Stages.{ActsSo}
 use Rattle.tip_scene.proofs.Staging.{acts_as_said}
