@@ -1,0 +1,10 @@
+-- What one read adds.
+use Rattle.std.proofs.Common.{◌≤◌, length, take, arith}
+use Rattle.tip_client.proofs.Listening.{offered}
+use Rattle.tip_client.proofs.hearing.Hearing.read_more.Goals as goal
+
+pub returns-in-Ok-clause-adds : goal.returns-in-Ok-clause-adds
+returns-in-Ok-clause-adds g c =
+    let piece = take c.in-Ok.len c.read.new.buf in
+    let short : length piece ≤ 1024 = let bound = c.in-Ok.ensures.bound in let all = c.read.auto.buf in omega arith in
+    (piece, c.in-Ok.ensures.bytes.0, offered c.args.self.now.lines piece c.offer.new.self c.offer.result c.requires short c.offer.ensures.bound c.offer.ensures.fits c.offer.ensures.taken)

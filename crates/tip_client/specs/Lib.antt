@@ -1,0 +1,4 @@
+pub mod Answers
+pub mod Dialogues
+pub mod Faults
+pub mod Hearing
