@@ -12,7 +12,6 @@ use Rattle.tip_machine.proofs.Stepping.{step-epoch, step-named}
 use Rattle.tip_machine.specs.Moves.{rows_after, stepped}
 use Rattle.tip_machine.specs.Outputs.{drops_of, outputs}
 use Rattle.tip_machine.specs.Returns.{event_of}
-use Rattle.tip_machine.specs.Served.{today}
 use Rattle.tip_machine.specs.States.{State}
 use Rattle.tip_machine.specs.Steps.{step, wants}
 use Rattle.tip_machine.specs.Types.{Answer, Event}
@@ -35,27 +34,27 @@ leaves_on first second third place name before then_ = record {
 
 -- One event
 
-shown_is : (event : Event) (acting : Acting) → (stepped today event (outcome_in acting event) acting.world).shown ≡ outputs event (wants acting.world.state event) (outcome_in acting event) (answer_in acting event)
+shown_is : (event : Event) (acting : Acting) → (stepped event (outcome_in acting event) acting.world).shown ≡ outputs event (wants acting.world.state event) (outcome_in acting event) (answer_in acting event)
 unfolding stepped
 shown_is event acting = refl
 
-state_is : (event : Event) (acting : Acting) → (stepped today event (outcome_in acting event) acting.world).world.state ≡ (step acting.world.state event (outcome_in acting event)).state
+state_is : (event : Event) (acting : Acting) → (stepped event (outcome_in acting event) acting.world).world.state ≡ (step acting.world.state event (outcome_in acting event)).state
 unfolding stepped
 state_is event acting = refl
 
-errands_are : (event : Event) (acting : Acting) → (stepped today event (outcome_in acting event) acting.world).world.errands ≡ acting.world.errands ++ option_to_list (answer_in acting event).work
+errands_are : (event : Event) (acting : Acting) → (stepped event (outcome_in acting event) acting.world).world.errands ≡ acting.world.errands ++ option_to_list (answer_in acting event).work
 unfolding stepped
 errands_are event acting = refl
 
-rows_are : (event : Event) (acting : Acting) → (stepped today event (outcome_in acting event) acting.world).world.rows ≡ rows_after (wants acting.world.state event) (outcome_in acting event) acting.world.rows
+rows_are : (event : Event) (acting : Acting) → (stepped event (outcome_in acting event) acting.world).world.rows ≡ rows_after (wants acting.world.state event) (outcome_in acting event) acting.world.rows
 unfolding stepped
 rows_are event acting = refl
 
 -- what is stored of the realm after an event is what its world says
 rows_then : (log : Log) (event : Event) (acting : Acting) → IsPart log acting.world.state.head.name acting.world.state.head.epoch (rows_after (wants acting.world.state event) (outcome_in acting event) acting.world.rows) → IsPart log (happens event acting).acting.world.state.head.name (happens event acting).acting.world.state.head.epoch (happens event acting).acting.world.rows
 rows_then log event acting part =
-    let name = ap (λ (s : State). s.head.name) (state_is event acting) ∙ step-named today acting.world.state event (outcome_in acting event) in
-    let epoch = ap (λ (s : State). s.head.epoch) (state_is event acting) ∙ step-epoch today acting.world.state event (outcome_in acting event) in
+    let name = ap (λ (s : State). s.head.name) (state_is event acting) ∙ step-named acting.world.state event (outcome_in acting event) in
+    let epoch = ap (λ (s : State). s.head.epoch) (state_is event acting) ∙ step-epoch acting.world.state event (outcome_in acting event) in
     subst (λ n. IsPart log n (happens event acting).acting.world.state.head.epoch (happens event acting).acting.world.rows) (sym name)
     (subst (λ e. IsPart log acting.world.state.head.name e (happens event acting).acting.world.rows) (sym epoch)
     (subst (λ r. IsPart log acting.world.state.head.name acting.world.state.head.epoch r) (sym (rows_are event acting)) part))
@@ -73,7 +72,7 @@ has_happened host host' place actor actor' event happened printed printed' actin
       own = record {
         served = subst (λ s. IsServed host' place s (still_due acting.due (wants acting.world.state event))) (sym (state_is event acting)) went.served;
         rows = rows_then (log_of host'.store) event acting (went.rows acting.world.state.head.epoch acting.world.rows is.rows);
-        named = ap (λ (s : _). s.head.name) (state_is event acting) ∙ step-named today acting.world.state event (outcome_in acting event) ∙ is.named;
+        named = ap (λ (s : _). s.head.name) (state_is event acting) ∙ step-named acting.world.state event (outcome_in acting event) ∙ is.named;
         name = name ∙ is.name;
         errands = errands ∙ ap (λ l. l ++ option_to_list happened.answer.work) is.errands ∙ ap (λ (a : Answer). acting.world.errands ++ option_to_list a.work) went.answer ∙ sym (errands_are event acting);
         due = due ∙ ap (λ d. still_due d happened.change) is.due ∙ ap (still_due acting.due) went.change;

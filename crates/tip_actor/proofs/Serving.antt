@@ -9,7 +9,6 @@ use Rattle.tip_host.specs.Keeping.{Keeps, is_change, log_after}
 use Rattle.tip_host.proofs.Parts.{part_after, part_stays}
 use Rattle.tip_machine.proofs.Stepping.{step-named}
 use Rattle.tip_machine.specs.Moves.{rows_after}
-use Rattle.tip_machine.specs.Served.{today}
 use Rattle.tip_machine.specs.States.{State}
 use Rattle.tip_machine.specs.Steps.{fits, step, wants}
 use Rattle.tip_machine.specs.Types.{Event}
@@ -61,7 +60,7 @@ serves old new place state due event happened served steps change fit names keep
     let outcome : happened.outcome ≡ outcome_of due happened.change = outcome_is due happened.change happened.outcome fit (λ is. keeps.due (served.due_is ∙ is)) alone in
     let outcome_now : happened.outcome ≡ outcome_of due (wants state event) = outcome ∙ ap (outcome_of due) change in
     let went = steps.own state served.state_is in
-    let same_name = step-named today state event (outcome_of due (wants state event)) in
+    let same_name = step-named state event (outcome_of due (wants state event)) in
     let log : log_of new.store ≡ log_after state.head.name happened.change happened.outcome (log_of old.store) = keeps.rows (log_of old.store) refl in
     let epochs : (log_of new.store).epochs ≡ (log_of old.store).epochs = ap (λ (l : Log). l.epochs) log ∙ epochs_stay state.head.name happened.change happened.outcome (log_of old.store) in
     record {

@@ -13,7 +13,6 @@ use Rattle.tip_machine.specs.Events.{heard_of}
 use Rattle.tip_machine.specs.Moves.{World, Restart, moved, stepped}
 use Rattle.tip_machine.specs.Outputs.{drops_of}
 use Rattle.tip_machine.specs.Returns.{event_of}
-use Rattle.tip_machine.specs.Served.{today}
 use Rattle.tip_machine.specs.States.{State, seated}
 use Rattle.tip_machine.specs.Steps.{step, wants}
 use Rattle.tip_machine.specs.Types.{Answer, Event}
@@ -107,9 +106,9 @@ answer_in acting event = (step acting.world.state event (outcome_in acting event
 -- what an event shows, and the realm then
 abbrev pub happens : Event → Acting → Done
 happens event acting = record {
-  printed = shown_text acting.name (stepped today event (outcome_in acting event) acting.world).shown;
+  printed = shown_text acting.name (stepped event (outcome_in acting event) acting.world).shown;
   acting = record acting {
-    world = (stepped today event (outcome_in acting event) acting.world).world;
+    world = (stepped event (outcome_in acting event) acting.world).world;
     due = still_due acting.due (wants acting.world.state event);
     readings = with_opened (answer_in acting event).opened (after_sent (answer_in acting event).sent acting.readings);
   };
@@ -245,7 +244,7 @@ boxes_in rows key = option_map_or willing_boxes (row_at key rows) []
 -- the process starts again: of what it was only the rows stay, and a refusal that is due
 abbrev pub restarts : Acting → Done
 restarts acting =
-    let again = moved today (Restart (boxes_in acting.world.rows)) acting.world in
+    let again = moved (Restart (boxes_in acting.world.rows)) acting.world in
     record { printed = shown_text acting.name again.shown; acting = record acting { world = again.world; readings = [] } }
 
 -- after the last epoch there is none

@@ -21,10 +21,9 @@ use Rattle.tip_machine.specs.Invariants.Parties.{are_out}
 use Rattle.tip_machine.specs.Moves.{Move, World, drops_here, gone_for, led_to, lost_from, moved, renewed, restarted_from, stepped}
 use Rattle.tip_machine.specs.Outputs.{Output, drops_of}
 use Rattle.tip_machine.specs.Returns.{Back, event_of}
-use Rattle.tip_machine.specs.Served.{Serving}
 use Rattle.tip_machine.specs.Starting.{IsStart}
 use Rattle.tip_machine.specs.States.{State, transaction_of}
-use Rattle.tip_machine.specs.Steps.{frozen, is_open, step_serving}
+use Rattle.tip_machine.specs.Steps.{frozen, is_open, step}
 use Rattle.tip_machine.specs.Types.{Event, Transaction}
 use Rattle.tip_machine.specs.declared.event.Outcome.{Outcome}
 use Rattle.tip_machine.specs.declared.event.Outcome.TheVariants.{NoChange, Refused, Stored}
@@ -69,18 +68,18 @@ start_true world start = subst (λ ps. IsTrueTo [] (record { state = world.state
 
 -- EACH MOVE
 
-gone_true : (serving : Serving) (back : Back) (outcome : Outcome) (world : World) (errands : List PartyNotes) (shown : List Output) → IsSound world → are_out world.state errands ≡ true → IsTrueTo shown (record { state = world.state; rows = world.rows; errands = errands }) → world.errands ≡ errands → IsTrueTo (shown ++ (gone_for errands serving back outcome world).shown) (gone_for errands serving back outcome world).world
-gone_true serving back outcome world [] shown sound out true_to same = subst (λ xs. IsTrueTo xs world) (sym (append-nil shown)) (subst (λ ps. IsTrueTo shown (record { state = world.state; rows = world.rows; errands = ps })) (sym same) true_to)
-gone_true serving back outcome world (party ∷ errands) shown sound out true_to same = back_true serving world sound party errands out (first_due world.state party errands out) shown true_to back outcome
+gone_true : (back : Back) (outcome : Outcome) (world : World) (errands : List PartyNotes) (shown : List Output) → IsSound world → are_out world.state errands ≡ true → IsTrueTo shown (record { state = world.state; rows = world.rows; errands = errands }) → world.errands ≡ errands → IsTrueTo (shown ++ (gone_for errands back outcome world).shown) (gone_for errands back outcome world).world
+gone_true back outcome world [] shown sound out true_to same = subst (λ xs. IsTrueTo xs world) (sym (append-nil shown)) (subst (λ ps. IsTrueTo shown (record { state = world.state; rows = world.rows; errands = ps })) (sym same) true_to)
+gone_true back outcome world (party ∷ errands) shown sound out true_to same = back_true world sound party errands out (first_due world.state party errands out) shown true_to back outcome
 
-lose_true : (serving : Serving) (world : World) (errands : List PartyNotes) (shown : List Output) → IsSound world → are_out world.state errands ≡ true → IsTrueTo shown (record { state = world.state; rows = world.rows; errands = errands }) → world.errands ≡ errands → IsTrueTo (shown ++ (lost_from errands world).shown) (lost_from errands world).world
-lose_true serving world [] shown sound out true_to same = subst (λ xs. IsTrueTo xs world) (sym (append-nil shown)) (subst (λ ps. IsTrueTo shown (record { state = world.state; rows = world.rows; errands = ps })) (sym same) true_to)
-lose_true serving world (party ∷ errands) shown sound out true_to same = lost_true serving world sound party errands out (first_due world.state party errands out) shown true_to
+lose_true : (world : World) (errands : List PartyNotes) (shown : List Output) → IsSound world → are_out world.state errands ≡ true → IsTrueTo shown (record { state = world.state; rows = world.rows; errands = errands }) → world.errands ≡ errands → IsTrueTo (shown ++ (lost_from errands world).shown) (lost_from errands world).world
+lose_true world [] shown sound out true_to same = subst (λ xs. IsTrueTo xs world) (sym (append-nil shown)) (subst (λ ps. IsTrueTo shown (record { state = world.state; rows = world.rows; errands = ps })) (sym same) true_to)
+lose_true world (party ∷ errands) shown sound out true_to same = lost_true world sound party errands out (first_due world.state party errands out) shown true_to
 
 -- all that are out are lost
-all_lost_true : (serving : Serving) (world : World) (errands : List PartyNotes) (shown : List Output) → IsSound world → are_out world.state errands ≡ true → IsTrueTo shown (record { state = world.state; rows = world.rows; errands = errands }) → IsTrueTo (shown ++ flat_map drops_of errands) (record { state = world.state; rows = world.rows; errands = [] })
-all_lost_true serving world [] shown sound out true_to = subst (λ xs. IsTrueTo xs (record { state = world.state; rows = world.rows; errands = [] })) (sym (append-nil shown)) true_to
-all_lost_true serving world (party ∷ errands) shown sound out true_to = subst (λ xs. IsTrueTo xs (record { state = world.state; rows = world.rows; errands = [] })) (append_assoc shown (drops_of party) (flat_map drops_of errands)) (all_lost_true serving world errands (shown ++ drops_of party) sound (out_behind world.state party errands out) (lost_true serving world sound party errands out (first_due world.state party errands out) shown true_to))
+all_lost_true : (world : World) (errands : List PartyNotes) (shown : List Output) → IsSound world → are_out world.state errands ≡ true → IsTrueTo shown (record { state = world.state; rows = world.rows; errands = errands }) → IsTrueTo (shown ++ flat_map drops_of errands) (record { state = world.state; rows = world.rows; errands = [] })
+all_lost_true world [] shown sound out true_to = subst (λ xs. IsTrueTo xs (record { state = world.state; rows = world.rows; errands = [] })) (sym (append-nil shown)) true_to
+all_lost_true world (party ∷ errands) shown sound out true_to = subst (λ xs. IsTrueTo xs (record { state = world.state; rows = world.rows; errands = [] })) (append_assoc shown (drops_of party) (flat_map drops_of errands)) (all_lost_true world errands (shown ++ drops_of party) sound (out_behind world.state party errands out) (lost_true world sound party errands out (first_due world.state party errands out) shown true_to))
 
 -- nobody is out
 alone_sound : (world : World) → IsSound world → IsSound (record world { errands = [] })
@@ -96,39 +95,39 @@ alone_sound world sound = record {
   stored = sound.stored;
 }
 
-renew_true : (boxes : Key → List Badge) (outcome : Outcome) (world : World) (serving : Serving) (shown : List Output) → IsSound world → IsTrueTo shown world → is_honest serving (Move.Renew boxes outcome) world ≡ true → IsTrueTo (shown ++ (renewed boxes outcome world).shown) (renewed boxes outcome world).world
-renew_true boxes Stored world serving shown sound true_to can = renewed_true boxes world sound can shown true_to
-renew_true boxes Refused world serving shown sound true_to can = still_true world.state world.rows world.rows world.errands shown (shown ++ Output.Refused refusal.Refused ∷ []) true_to (λ test id is. elim (told_either test world.state.head.name id shown (Output.Refused refusal.Refused ∷ []) is) [ inl before ↦ before | inr now ↦ absurd (let wrong : false ≡ true = now in cc) ])
-renew_true boxes NoChange world serving shown sound true_to can = absurd (cc)
+renew_true : (boxes : Key → List Badge) (outcome : Outcome) (world : World) (shown : List Output) → IsSound world → IsTrueTo shown world → is_honest (Move.Renew boxes outcome) world ≡ true → IsTrueTo (shown ++ (renewed boxes outcome world).shown) (renewed boxes outcome world).world
+renew_true boxes Stored world shown sound true_to can = renewed_true boxes world sound can shown true_to
+renew_true boxes Refused world shown sound true_to can = still_true world.state world.rows world.rows world.errands shown (shown ++ Output.Refused refusal.Refused ∷ []) true_to (λ test id is. elim (told_either test world.state.head.name id shown (Output.Refused refusal.Refused ∷ []) is) [ inl before ↦ before | inr now ↦ absurd (let wrong : false ≡ true = now in cc) ])
+renew_true boxes NoChange world shown sound true_to can = absurd (cc)
 
-pub moved_true : (serving : Serving) (move : Move) (world : World) (shown : List Output) → IsSound world → IsTrueTo shown world → is_honest serving move world ≡ true → IsTrueTo (shown ++ (moved serving move world).shown) (moved serving move world).world
-moved_true serving (Move.Step event outcome) world shown sound true_to honest = event_true serving world sound event outcome shown true_to (and_parts (brings_no_party event) _ honest).0
-moved_true serving (Move.Go back outcome) world shown sound true_to honest = gone_true serving back outcome world world.errands shown sound sound.out true_to refl
-moved_true serving Move.Lose world shown sound true_to honest = lose_true serving world world.errands shown sound sound.out true_to refl
-moved_true serving (Move.Restart boxes) world shown sound true_to honest =
-    let lost = all_lost_true serving world world.errands shown sound sound.out true_to in
+pub moved_true : (move : Move) (world : World) (shown : List Output) → IsSound world → IsTrueTo shown world → is_honest move world ≡ true → IsTrueTo (shown ++ (moved move world).shown) (moved move world).world
+moved_true (Move.Step event outcome) world shown sound true_to honest = event_true world sound event outcome shown true_to (and_parts (brings_no_party event) _ honest).0
+moved_true (Move.Go back outcome) world shown sound true_to honest = gone_true back outcome world world.errands shown sound sound.out true_to refl
+moved_true Move.Lose world shown sound true_to honest = lose_true world world.errands shown sound sound.out true_to refl
+moved_true (Move.Restart boxes) world shown sound true_to honest =
+    let lost = all_lost_true world world.errands shown sound sound.out true_to in
     subst (λ xs. IsTrueTo xs (record { state = restarted_from boxes world; rows = world.rows; errands = [] })) (append_assoc shown (flat_map drops_of world.errands) (drops_here world.state))
     (renewed_true boxes (record world { errands = [] }) (alone_sound world sound) honest (shown ++ flat_map drops_of world.errands) lost)
-moved_true serving (Move.Renew boxes outcome) world shown sound true_to honest = renew_true boxes outcome world serving shown sound true_to honest
+moved_true (Move.Renew boxes outcome) world shown sound true_to honest = renew_true boxes outcome world shown sound true_to honest
 
 -- A RUN
-pub run_true : (serving : Serving) (world : World) (moves : List Move) (shown : List Output) → IsSound world → IsTrueTo shown world → is_run serving world moves ≡ true → IsTrueTo (shown ++ shown_in (traced serving world moves)) (led_to serving world moves)
-run_true serving world [] shown sound true_to honest = subst (λ xs. IsTrueTo xs world) (sym (append-nil shown)) true_to
-run_true serving world (move ∷ moves) shown sound true_to honest =
-    let parts = and_parts (is_honest serving move world) (is_run serving (moved serving move world).world moves) honest in
-    let next = (moved serving move world).world in
-    subst (λ xs. IsTrueTo xs (led_to serving next moves)) (append_assoc shown (moved serving move world).shown (shown_in (traced serving next moves)))
-    (run_true serving next moves (shown ++ (moved serving move world).shown) (moved_sound serving move world sound parts.0) (moved_true serving move world shown sound true_to parts.0) parts.1)
+pub run_true : (world : World) (moves : List Move) (shown : List Output) → IsSound world → IsTrueTo shown world → is_run world moves ≡ true → IsTrueTo (shown ++ shown_in (traced world moves)) (led_to world moves)
+run_true world [] shown sound true_to honest = subst (λ xs. IsTrueTo xs world) (sym (append-nil shown)) true_to
+run_true world (move ∷ moves) shown sound true_to honest =
+    let parts = and_parts (is_honest move world) (is_run (moved move world).world moves) honest in
+    let next = (moved move world).world in
+    subst (λ xs. IsTrueTo xs (led_to next moves)) (append_assoc shown (moved move world).shown (shown_in (traced next moves)))
+    (run_true next moves (shown ++ (moved move world).shown) (moved_sound move world sound parts.0) (moved_true move world shown sound true_to parts.0) parts.1)
 
 -- The realm keeps its name
 
-name_stepped : (serving : Serving) (state : State) (event : Event) (outcome : Outcome) → (step_serving serving state event outcome).state.head.name ≡ state.head.name
-name_stepped serving state event outcome = either (λ w. w.state.head.name ≡ state.head.name) (is_open state) _ (frozen event state) (elim (step-went serving state event outcome) [ inl goes ↦ ap (λ (h : Head). h.name) goes.head | inr opens ↦ ap (λ (h : Head). h.name) opens.head ]) refl
+name_stepped : (state : State) (event : Event) (outcome : Outcome) → (step state event outcome).state.head.name ≡ state.head.name
+name_stepped state event outcome = either (λ w. w.state.head.name ≡ state.head.name) (is_open state) _ (frozen event state) (elim (step-went state event outcome) [ inl goes ↦ ap (λ (h : Head). h.name) goes.head | inr opens ↦ ap (λ (h : Head). h.name) opens.head ]) refl
 
-name_gone : (serving : Serving) (back : Back) (outcome : Outcome) (errands : List PartyNotes) (world : World) → (gone_for errands serving back outcome world).world.state.head.name ≡ world.state.head.name
+name_gone : (back : Back) (outcome : Outcome) (errands : List PartyNotes) (world : World) → (gone_for errands back outcome world).world.state.head.name ≡ world.state.head.name
 unfolding stepped
-name_gone serving back outcome [] world = refl
-name_gone serving back outcome (party ∷ errands) world = name_stepped serving world.state (event_of party back) outcome
+name_gone back outcome [] world = refl
+name_gone back outcome (party ∷ errands) world = name_stepped world.state (event_of party back) outcome
 
 name_lost : (errands : List PartyNotes) (world : World) → (lost_from errands world).world.state.head.name ≡ world.state.head.name
 name_lost [] world = refl
@@ -139,17 +138,17 @@ name_renewed boxes Stored world = refl
 name_renewed boxes Refused world = refl
 name_renewed boxes NoChange world = refl
 
-pub name_moved : (serving : Serving) (move : Move) (world : World) → (moved serving move world).world.state.head.name ≡ world.state.head.name
+pub name_moved : (move : Move) (world : World) → (moved move world).world.state.head.name ≡ world.state.head.name
 unfolding stepped
-name_moved serving (Move.Step event outcome) world = name_stepped serving world.state event outcome
-name_moved serving (Move.Go back outcome) world = name_gone serving back outcome world.errands world
-name_moved serving Move.Lose world = name_lost world.errands world
-name_moved serving (Move.Restart boxes) world = refl
-name_moved serving (Move.Renew boxes outcome) world = name_renewed boxes outcome world
+name_moved (Move.Step event outcome) world = name_stepped world.state event outcome
+name_moved (Move.Go back outcome) world = name_gone back outcome world.errands world
+name_moved Move.Lose world = name_lost world.errands world
+name_moved (Move.Restart boxes) world = refl
+name_moved (Move.Renew boxes outcome) world = name_renewed boxes outcome world
 
-pub name_led : (serving : Serving) (world : World) (moves : List Move) → (led_to serving world moves).state.head.name ≡ world.state.head.name
-name_led serving world [] = refl
-name_led serving world (move ∷ moves) = name_led serving (moved serving move world).world moves ∙ name_moved serving move world
+pub name_led : (world : World) (moves : List Move) → (led_to world moves).state.head.name ≡ world.state.head.name
+name_led world [] = refl
+name_led world (move ∷ moves) = name_led (moved move world).world moves ∙ name_moved move world
 
 -- TRUE TO ITS WORD, it tells none to commit where it tells one to abort
 pub one_word : (shown : List Output) (world : World) (key : Key) → is_spelled key ≡ true → IsTrueTo shown world → is_unanimous (told world.state.head.name (identifier world.state.head.name key) shown) ≡ true
@@ -177,7 +176,7 @@ one_told shown world id true_to = step (list_any any_verdict said) refl where
   step true is = let ours = true_to.ours id (or_left (list_any any_verdict said) _ is) in subst (λ x. is_unanimous (told world.state.head.name x shown) ≡ true) (sym ours.2) (one_word shown world ours.0 ours.1 true_to)
   step false is = not_less (list_any is_commit said && list_any is_abort said) false (λ both. sym is ∙ any_of is_commit said (and_parts (list_any is_commit said) (list_any is_abort said) both).0) refl
 
-pub run_agrees : (serving : Serving) (world : World) (moves : List Move) (id : List ℕ) → IsStart world → is_run serving world moves ≡ true → is_one world.state.head.name id (traced serving world moves) ≡ true
-run_agrees serving world moves id start honest =
-    subst (λ name. is_unanimous (told name id (shown_in (traced serving world moves))) ≡ true) (name_led serving world moves)
-    (one_told (shown_in (traced serving world moves)) (led_to serving world moves) id (run_true serving world moves [] (start_sound world start) (start_true world start) honest))
+pub run_agrees : (world : World) (moves : List Move) (id : List ℕ) → IsStart world → is_run world moves ≡ true → is_one world.state.head.name id (traced world moves) ≡ true
+run_agrees world moves id start honest =
+    subst (λ name. is_unanimous (told name id (shown_in (traced world moves))) ≡ true) (name_led world moves)
+    (one_told (shown_in (traced world moves)) (led_to world moves) id (run_true world moves [] (start_sound world start) (start_true world start) honest))

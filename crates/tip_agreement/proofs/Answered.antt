@@ -242,13 +242,13 @@ module _ (c : Connection) (w : Work) (whole : Whole w.state) where
   pulls_if spelled None superior is = pulls_new spelled superior is
   pulls_if spelled (Some t) superior is = aside c w whole (refuse Known w) refl refl refl refl refl (silent w.answer.sent)
 
-  pub ask_push_goes : (serves : Bool) (id : List ℕ) → EndsGo w (Attempt.Done (ask_push serves (Some c) id w))
+  pub ask_push_goes : (id : List ℕ) → EndsGo w (Attempt.Done (ask_push (Some c) id w))
   unfolding ask_push
-  ask_push_goes serves id = either_goes w (serves && is_free c) (push_part (identified_by id w.state) c.peer c.number w) (refuse Busy w) (pushes_to (identified_by id w.state) c.peer (λ t is. found_by (has_id w.state.head.name id) w.state t whole is)) (aside c w whole (refuse Busy w) refl refl refl refl refl (silent w.answer.sent))
+  ask_push_goes id = either_goes w (is_free c) (push_part (identified_by id w.state) c.peer c.number w) (refuse Busy w) (pushes_to (identified_by id w.state) c.peer (λ t is. found_by (has_id w.state.head.name id) w.state t whole is)) (aside c w whole (refuse Busy w) refl refl refl refl refl (silent w.answer.sent))
 
-  pub ask_pull_goes : is_spelled (next_key w.state.head c) ≡ true → (serves : Bool) (superior : List ℕ) → EndsGo w (Attempt.Done (ask_pull serves (Some c) superior w))
+  pub ask_pull_goes : is_spelled (next_key w.state.head c) ≡ true → (superior : List ℕ) → EndsGo w (Attempt.Done (ask_pull (Some c) superior w))
   unfolding ask_pull
-  ask_pull_goes spelled serves superior = either_goes w (serves && is_free c) (pull_if (find (is_known c.peer superior) w.state.transactions) superior c w) (refuse Busy w) (pulls_if spelled (find (is_known c.peer superior) w.state.transactions) superior refl) (aside c w whole (refuse Busy w) refl refl refl refl refl (silent w.answer.sent))
+  ask_pull_goes spelled superior = either_goes w (is_free c) (pull_if (find (is_known c.peer superior) w.state.transactions) superior c w) (refuse Busy w) (pulls_if spelled (find (is_known c.peer superior) w.state.transactions) superior refl) (aside c w whole (refuse Busy w) refl refl refl refl refl (silent w.answer.sent))
 
 -- A committed transaction is resumed
 

@@ -29,7 +29,6 @@ use Rattle.tip_machine.specs.Order.{ordered, turn}
 use Rattle.tip_machine.specs.Outputs.{Output, brought, drops_of, outputs}
 use Rattle.tip_machine.specs.Requests.{strange}
 use Rattle.tip_machine.specs.Returns.{Back, back_of, event_of}
-use Rattle.tip_machine.specs.Served.{Serving}
 use Rattle.tip_machine.specs.Starting.{IsStart}
 use Rattle.tip_machine.specs.States.{Attempt, State, Work, transaction_of}
 use Rattle.tip_machine.specs.Steps.{attempt, chosen, entered, frozen, is_open, wanted}
@@ -164,13 +163,13 @@ module _ (realm : List ℕ) (now : ℕ) (k : Key) (fine : is_spelled k ≡ true)
   in_order s v is = commits_still v (ordered s v) refl refl refl (ordered_quiet (turn s) v.answer.sent) k is
 
   -- An event of its own
-  module _ (serving : Serving) (world : World) (sound : IsSound world) (named : world.state.head.name ≡ realm) where
+  module _ (world : World) (sound : IsSound world) (named : world.state.head.name ≡ realm) where
     rows_said : (is_rising world.rows ≡ true) × Says world.state world.rows
     rows_said = to_says world.state world.rows sound.stored
 
     module _ (event : Event) (outcome : Outcome) where
       abbrev tried : Attempt
-      tried = attempt serving event (entered world.state)
+      tried = attempt event (entered world.state)
 
       abbrev done : Work
       done = ordered world.state (chosen tried outcome)
@@ -178,7 +177,7 @@ module _ (realm : List ℕ) (now : ℕ) (k : Key) (fine : is_spelled k ≡ true)
       begins : IsQuiet (entered world.state)
       begins = record { sent = refl; work = refl; spent = refl }
 
-      event_backs : brings_no_party event ≡ true → Backs world (stepped serving event outcome world)
+      event_backs : brings_no_party event ≡ true → Backs world (stepped event outcome world)
       unfolding stepped
       event_backs none = step (is_open world.state) refl where
         from : (change : Option Change) (v : Work) → v.state.head.name ≡ realm → (tells_commit k v ≡ true → IsBacked world (record { state = v.state; rows = rows_after change outcome world.rows; errands = world.errands ++ option_to_list v.answer.work })) → Backs world (record { shown = outputs event change outcome v.answer; world = record { state = v.state; rows = rows_after change outcome world.rows; errands = world.errands ++ option_to_list v.answer.work } })
@@ -189,7 +188,7 @@ module _ (realm : List ℕ) (now : ℕ) (k : Key) (fine : is_spelled k ≡ true)
 
         step : (b : Bool) → is_open world.state ≡ b → Backs world (record { shown = outputs event (cond b (wanted tried) None) outcome (cond b done (frozen event world.state)).answer; world = record { state = (cond b done (frozen event world.state)).state; rows = rows_after (cond b (wanted tried) None) outcome world.rows; errands = world.errands ++ option_to_list (cond b done (frozen event world.state)).answer.work } })
         step true room =
-            let ends = event_goes (entered world.state) (entered_whole world.state (sound_whole world sound)) (next_fits world sound room) serving event none in
+            let ends = event_goes (entered world.state) (entered_whole world.state (sound_whole world sound)) (next_fits world sound room) event none in
             let spelled = (in_bounds world.state sound.bounded).spelled in
             let spoke = spoke_ordered world.state (entered world.state) (chosen tried outcome) (spoke_ends (entered world.state) spelled begins tried outcome ends) in
             from (wanted tried) done (spoke.name ∙ named) (λ is. inr (ends_backed (entered world.state) spelled begins k fine tried outcome ends world.rows rows_said.0 (rows_said.1 k) (in_order world.state (chosen tried outcome) is)))
@@ -203,7 +202,7 @@ module _ (realm : List ℕ) (now : ℕ) (k : Key) (fine : is_spelled k ≡ true)
       abbrev met : World
       met = record { state = world.state; rows = world.rows; errands = party ∷ rest }
 
-      back_backs : Backs met (stepped serving event outcome (record world { errands = rest }))
+      back_backs : Backs met (stepped event outcome (record world { errands = rest }))
       unfolding stepped ordered
       back_backs = step (is_open world.state) refl where
         from : (change : Option Change) (v : Work) → v.state.head.name ≡ realm → (tells_commit k v ≡ true → IsBacked met (record { state = v.state; rows = rows_after change outcome world.rows; errands = rest ++ option_to_list v.answer.work })) → Backs met (record { shown = outputs event change outcome v.answer; world = record { state = v.state; rows = rows_after change outcome world.rows; errands = rest ++ option_to_list v.answer.work } })
@@ -224,8 +223,8 @@ module _ (realm : List ℕ) (now : ℕ) (k : Key) (fine : is_spelled k ≡ true)
             let spoke = spoke_ordered world.state here (chosen a outcome) (spoke_ends here spelled quiet a outcome home.goes) in
             from (wanted a) (ordered world.state (chosen a outcome)) (spoke.name ∙ named) (λ is. inr (ends_backed here spelled quiet k fine a outcome home.goes world.rows rows_said.0 (placed_says t (Here (back_of party back)) (entered world.state).state home.found world.rows rows_said.1 k) (in_order world.state (chosen a outcome) is)))
 
-        step : (b : Bool) → is_open world.state ≡ b → Backs met (record { shown = outputs event (cond b (wanted (attempt serving event (entered world.state))) None) outcome (cond b (ordered world.state (chosen (attempt serving event (entered world.state)) outcome)) (frozen event world.state)).answer; world = record { state = (cond b (ordered world.state (chosen (attempt serving event (entered world.state)) outcome)) (frozen event world.state)).state; rows = rows_after (cond b (wanted (attempt serving event (entered world.state))) None) outcome world.rows; errands = rest ++ option_to_list (cond b (ordered world.state (chosen (attempt serving event (entered world.state)) outcome)) (frozen event world.state)).answer.work } })
-        step true room = came (attempt serving event (entered world.state)) (back_goes (entered world.state) (entered_whole world.state (sound_whole world sound)) (next_fits world sound room) serving party back (let known = due_awaited party world.state due in record { sent = known.sent; due = known.due }))
+        step : (b : Bool) → is_open world.state ≡ b → Backs met (record { shown = outputs event (cond b (wanted (attempt event (entered world.state))) None) outcome (cond b (ordered world.state (chosen (attempt event (entered world.state)) outcome)) (frozen event world.state)).answer; world = record { state = (cond b (ordered world.state (chosen (attempt event (entered world.state)) outcome)) (frozen event world.state)).state; rows = rows_after (cond b (wanted (attempt event (entered world.state))) None) outcome world.rows; errands = rest ++ option_to_list (cond b (ordered world.state (chosen (attempt event (entered world.state)) outcome)) (frozen event world.state)).answer.work } })
+        step true room = came (attempt event (entered world.state)) (back_goes (entered world.state) (entered_whole world.state (sound_whole world sound)) (next_fits world sound room) party back (let known = due_awaited party world.state due in record { sent = known.sent; due = known.due }))
         step false full = let silent = returned-silent Frozen event in from None (frozen event world.state) named (λ is. absurd (quiet_says (frozen event world.state) silent.0 silent.1 is))
 
   -- Who is rolled back is told to abort
@@ -248,11 +247,11 @@ module _ (realm : List ℕ) (now : ℕ) (k : Key) (fine : is_spelled k ≡ true)
 
   -- Each move
 
-  gone_backs : (serving : Serving) (world : World) (back : Back) (outcome : Outcome) → IsSound world → world.state.head.name ≡ realm → (errands : List PartyNotes) → are_out world.state errands ≡ true → list_all is_uncalled errands ≡ true → world.errands ≡ errands → Backs world (gone_for errands serving back outcome world)
-  gone_backs serving world back outcome sound named [] is_out uncalled same = record { told = λ is. absurd (let wrong : false ≡ true = is in cc); out = λ is. inl is }
-  gone_backs serving world back outcome sound named (party ∷ rest) is_out uncalled same =
-      let backs = back_backs serving world sound named party rest is_out (first_due world.state party rest is_out) (and_parts (is_uncalled party) (list_all is_uncalled rest) uncalled).0 back outcome in
-      subst (λ ps. Backs (record { state = world.state; rows = world.rows; errands = ps }) (stepped serving (event_of party back) outcome (record world { errands = rest }))) (sym same) backs
+  gone_backs : (world : World) (back : Back) (outcome : Outcome) → IsSound world → world.state.head.name ≡ realm → (errands : List PartyNotes) → are_out world.state errands ≡ true → list_all is_uncalled errands ≡ true → world.errands ≡ errands → Backs world (gone_for errands back outcome world)
+  gone_backs world back outcome sound named [] is_out uncalled same = record { told = λ is. absurd (let wrong : false ≡ true = is in cc); out = λ is. inl is }
+  gone_backs world back outcome sound named (party ∷ rest) is_out uncalled same =
+      let backs = back_backs world sound named party rest is_out (first_due world.state party rest is_out) (and_parts (is_uncalled party) (list_all is_uncalled rest) uncalled).0 back outcome in
+      subst (λ ps. Backs (record { state = world.state; rows = world.rows; errands = ps }) (stepped (event_of party back) outcome (record world { errands = rest }))) (sym same) backs
 
   lost_backs : (world : World) (errands : List PartyNotes) → world.errands ≡ errands → Backs world (lost_from errands world)
   lost_backs world [] same = record { told = λ is. absurd (let wrong : false ≡ true = is in cc); out = λ is. inl is }
@@ -266,15 +265,15 @@ module _ (realm : List ℕ) (now : ℕ) (k : Key) (fine : is_spelled k ≡ true)
   renewed_backs boxes Refused world = record { told = λ is. absurd (let wrong : false ≡ true = is in cc); out = λ is. inl is }
   renewed_backs boxes NoChange world = record { told = λ is. absurd (let wrong : false ≡ true = is in cc); out = λ is. inl is }
 
-  pub moved_backs : (serving : Serving) (move : Move) (world : World) → IsSound world → world.state.head.name ≡ realm → list_all is_uncalled world.errands ≡ true → is_honest serving move world ≡ true → Backs world (moved serving move world)
-  moved_backs serving (Move.Step event outcome) world sound named uncalled honest = event_backs serving world sound named event outcome (and_parts (brings_no_party event) _ honest).0
-  moved_backs serving (Move.Go back outcome) world sound named uncalled honest = gone_backs serving world back outcome sound named world.errands sound.out uncalled refl
-  moved_backs serving Move.Lose world sound named uncalled honest = lost_backs world world.errands refl
-  moved_backs serving (Move.Restart boxes) world sound named uncalled honest = record {
+  pub moved_backs : (move : Move) (world : World) → IsSound world → world.state.head.name ≡ realm → list_all is_uncalled world.errands ≡ true → is_honest move world ≡ true → Backs world (moved move world)
+  moved_backs (Move.Step event outcome) world sound named uncalled honest = event_backs world sound named event outcome (and_parts (brings_no_party event) _ honest).0
+  moved_backs (Move.Go back outcome) world sound named uncalled honest = gone_backs world back outcome sound named world.errands sound.out uncalled refl
+  moved_backs Move.Lose world sound named uncalled honest = lost_backs world world.errands refl
+  moved_backs (Move.Restart boxes) world sound named uncalled honest = record {
     told = λ is. absurd (elim (told_either is_commit realm id (flat_map drops_of world.errands) (drops_here world.state) is) [ inl first ↦ none_lost world.errands first | inr later ↦ none_here world.state.transactions later ]);
     out = λ is. absurd (let wrong : false ≡ true = is in cc);
   }
-  moved_backs serving (Move.Renew boxes outcome) world sound named uncalled honest = renewed_backs boxes outcome world
+  moved_backs (Move.Renew boxes outcome) world sound named uncalled honest = renewed_backs boxes outcome world
 
   -- A RUN
 
@@ -283,12 +282,12 @@ module _ (realm : List ℕ) (now : ℕ) (k : Key) (fine : is_spelled k ≡ true)
   Was start shown = was_committed realm id start shown ≡ true
 
   module _ (start world : World) (shown : List Output) (was : stands world.rows ≡ true → Was start shown) (was_out : will world.errands ≡ true → Was start shown) where
-    was_then : (serving : Serving) (move : Move) → is_rising world.rows ≡ true → IsBacked world (moved serving move world).world → Was start (shown ++ (moved serving move world).shown)
-    was_then serving move rising (inl out) = more_shown realm k fine start shown (moved serving move world).shown (was_out out)
-    was_then serving move rising (inr (inl stood)) = more_shown realm k fine start shown (moved serving move world).shown (was stood)
-    was_then serving move rising (inr (inr now)) = elim (moved_by realm k fine serving move world rising now) [
-      | inl stood ↦ more_shown realm k fine start shown (moved serving move world).shown (was stood)
-      | inr new ↦ now_shown realm k fine start shown (moved serving move world).shown new
+    was_then : (move : Move) → is_rising world.rows ≡ true → IsBacked world (moved move world).world → Was start (shown ++ (moved move world).shown)
+    was_then move rising (inl out) = more_shown realm k fine start shown (moved move world).shown (was_out out)
+    was_then move rising (inr (inl stood)) = more_shown realm k fine start shown (moved move world).shown (was stood)
+    was_then move rising (inr (inr now)) = elim (moved_by realm k fine move world rising now) [
+      | inl stood ↦ more_shown realm k fine start shown (moved move world).shown (was stood)
+      | inr new ↦ now_shown realm k fine start shown (moved move world).shown new
     ]
 
   moment_backed : (start : World) (before : List Moment) (moment : Moment) → (are_told_commit moment.shown ≡ true → Was start (shown_in before ++ moment.shown)) → is_backed realm id start before moment ≡ true
@@ -300,18 +299,18 @@ module _ (realm : List ℕ) (now : ℕ) (k : Key) (fine : is_spelled k ≡ true)
   pub shown_so : (before : List Moment) (moment : Moment) → shown_in before ++ moment.shown ≡ shown_in (before ++ moment ∷ [])
   shown_so before moment = ap (λ xs. shown_in before ++ xs) (sym (append-nil moment.shown)) ∙ sym (flat_map-append (λ (m : Moment). m.shown) before (moment ∷ []))
 
-  run_backed : (serving : Serving) (start world : World) (moves : List Move) (before : List Moment) → IsSound world → IsTrueTo (shown_in before) world → world.state.head.name ≡ realm → (stands world.rows ≡ true → Was start (shown_in before)) → (will world.errands ≡ true → Was start (shown_in before)) → is_run serving world moves ≡ true → at_each_behind before (is_backed realm id start) (traced serving world moves) ≡ true
-  run_backed serving start world [] before sound true_to named was was_out honest = refl
-  run_backed serving start world (move ∷ moves) before sound true_to named was was_out honest =
-      let parts = and_parts (is_honest serving move world) (is_run serving (moved serving move world).world moves) honest in
-      let went = moved serving move world in
+  run_backed : (start world : World) (moves : List Move) (before : List Moment) → IsSound world → IsTrueTo (shown_in before) world → world.state.head.name ≡ realm → (stands world.rows ≡ true → Was start (shown_in before)) → (will world.errands ≡ true → Was start (shown_in before)) → is_run world moves ≡ true → at_each_behind before (is_backed realm id start) (traced world moves) ≡ true
+  run_backed start world [] before sound true_to named was was_out honest = refl
+  run_backed start world (move ∷ moves) before sound true_to named was was_out honest =
+      let parts = and_parts (is_honest move world) (is_run (moved move world).world moves) honest in
+      let went = moved move world in
       let moment : Moment = record { world = world; move = move; shown = went.shown; after = went.world } in
-      let backs = moved_backs serving move world sound named true_to.uncalled parts.0 in
+      let backs = moved_backs move world sound named true_to.uncalled parts.0 in
       let rising = (to_says world.state world.rows sound.stored).0 in
-      let goes = was_then start world (shown_in before) was was_out serving move rising in
+      let goes = was_then start world (shown_in before) was was_out move rising in
       let same = shown_so before moment in
       and_from _ _ (moment_backed start before moment (λ is. goes (backs.told is)))
-      (run_backed serving start went.world moves (before ++ moment ∷ []) (moved_sound serving move world sound parts.0) (subst (λ xs. IsTrueTo xs went.world) same (moved_true serving move world (shown_in before) sound true_to parts.0)) (name_moved serving move world ∙ named) (λ is. subst (Was start) same (goes (inr (inr is)))) (λ is. subst (Was start) same (goes (backs.out is))) parts.1)
+      (run_backed start went.world moves (before ++ moment ∷ []) (moved_sound move world sound parts.0) (subst (λ xs. IsTrueTo xs went.world) same (moved_true move world (shown_in before) sound true_to parts.0)) (name_moved move world ∙ named) (λ is. subst (Was start) same (goes (inr (inr is)))) (λ is. subst (Was start) same (goes (backs.out is))) parts.1)
 
 -- of what nothing is told
 untold_backed : (realm id : List ℕ) (start : World) (before moments : List Moment) → list_any any_verdict (told realm id (shown_in moments)) ≡ false → at_each_behind before (is_backed realm id start) moments ≡ true
@@ -323,26 +322,26 @@ untold_backed realm id start before (moment ∷ moments) none =
       quiet false is none = refl
       quiet true is none = absurd (let wrong : false ≡ true = sym none ∙ any_of is_commit (told realm id moment.shown) is in cc)
 
-pub commits_are_backed : (serving : Serving) (world : World) (moves : List Move) (id : List ℕ) → IsStart world → is_run serving world moves ≡ true → at_each_behind [] (is_backed world.state.head.name id world) (traced serving world moves) ≡ true
-commits_are_backed serving world moves id start honest = step (list_any any_verdict (told realm id (shown_in moments))) refl where
+pub commits_are_backed : (world : World) (moves : List Move) (id : List ℕ) → IsStart world → is_run world moves ≡ true → at_each_behind [] (is_backed world.state.head.name id world) (traced world moves) ≡ true
+commits_are_backed world moves id start honest = step (list_any any_verdict (told realm id (shown_in moments))) refl where
   realm : List ℕ
   realm = world.state.head.name
 
   moments : List Moment
-  moments = traced serving world moves
+  moments = traced world moves
 
   sound : IsSound world
   sound = start_sound world start
 
   of_key : (key : Key) → is_spelled key ≡ true → at_each_behind [] (is_backed realm (identifier realm key) world) moments ≡ true
-  of_key key fine = run_backed realm 0 key fine serving world world moves [] sound (start_true world start) refl
+  of_key key fine = run_backed realm 0 key fine world world moves [] sound (start_true world start) refl
       (λ stands. or_left _ false (ap is_committed (same_row realm key fine world.rows start.rows.spelled) ∙ stands))
       (λ out. absurd (let wrong : false ≡ true = sym (ap (list_any (will_tell is_commit 0 (identifier realm key))) start.errands) ∙ out in cc)) honest
 
   step : (b : Bool) → list_any any_verdict (told realm id (shown_in moments)) ≡ b → at_each_behind [] (is_backed realm id world) moments ≡ true
   step false none = untold_backed realm id world [] moments none
   step true is =
-      let after = run_true serving world moves [] sound (start_true world start) honest in
-      let ours = after.ours id (or_left _ _ (subst (λ n. list_any any_verdict (told n id (shown_in moments)) ≡ true) (sym (name_led serving world moves)) is)) in
-      let same : id ≡ identifier realm ours.0 = ours.2 ∙ ap (λ n. identifier n ours.0) (name_led serving world moves) in
+      let after = run_true world moves [] sound (start_true world start) honest in
+      let ours = after.ours id (or_left _ _ (subst (λ n. list_any any_verdict (told n id (shown_in moments)) ≡ true) (sym (name_led world moves)) is)) in
+      let same : id ≡ identifier realm ours.0 = ours.2 ∙ ap (λ n. identifier n ours.0) (name_led world moves) in
       subst (λ x. at_each_behind [] (is_backed realm x world) moments ≡ true) (sym same) (of_key ours.0 ours.1)

@@ -23,9 +23,8 @@ use Rattle.tip_machine.specs.Invariants.Bounds.{is_spelled}
 use Rattle.tip_machine.specs.Moves.{Move, World, gone_for, led_to, lost_from, moved, renewed, rows_after, stepped}
 use Rattle.tip_machine.specs.Outputs.{Output, brought, drops_of, outputs}
 use Rattle.tip_machine.specs.Returns.{Back, event_of}
-use Rattle.tip_machine.specs.Served.{Serving}
 use Rattle.tip_machine.specs.Starting.{IsStart}
-use Rattle.tip_machine.specs.Steps.{step_serving, wants_serving}
+use Rattle.tip_machine.specs.Steps.{step, wants}
 use Rattle.tip_machine.specs.Types.{Answer, Event, Transaction}
 use Rattle.tip_machine.specs.declared.event.Change.{Change}
 use Rattle.tip_machine.specs.declared.event.Change.TheVariants.{Put, Remove}
@@ -104,16 +103,16 @@ module _ (realm : List ℕ) (k : Key) (fine : is_spelled k ≡ true) where
   abbrev StoredBy : World → List Output → List (Key × Row) → Type 0
   StoredBy world shown rows = is_committed_at rows ≡ true → (is_committed_at world.rows ≡ true) ⊎ (list_any (stores_commit realm id) shown ≡ true)
 
-  stepped_by : (serving : Serving) (event : Event) (outcome : Outcome) (world : World) → is_rising world.rows ≡ true → StoredBy world (stepped serving event outcome world).shown (stepped serving event outcome world).world.rows
+  stepped_by : (event : Event) (outcome : Outcome) (world : World) → is_rising world.rows ≡ true → StoredBy world (stepped event outcome world).shown (stepped event outcome world).world.rows
   unfolding stepped
-  stepped_by serving event outcome world rising is = elim (change_shown (wants_serving serving world.state event) outcome world.rows rising is) [
+  stepped_by event outcome world rising is = elim (change_shown (wants world.state event) outcome world.rows rising is) [
     | inl old ↦ inl old
-    | inr new ↦ inr (among_outputs event (wants_serving serving world.state event) outcome (step_serving serving world.state event outcome).answer new)
+    | inr new ↦ inr (among_outputs event (wants world.state event) outcome (step world.state event outcome).answer new)
   ]
 
-  gone_by : (serving : Serving) (back : Back) (outcome : Outcome) (errands : List PartyNotes) (world : World) → is_rising world.rows ≡ true → StoredBy world (gone_for errands serving back outcome world).shown (gone_for errands serving back outcome world).world.rows
-  gone_by serving back outcome [] world rising is = inl is
-  gone_by serving back outcome (party ∷ errands) world rising is = stepped_by serving (event_of party back) outcome (record world { errands = errands }) rising is
+  gone_by : (back : Back) (outcome : Outcome) (errands : List PartyNotes) (world : World) → is_rising world.rows ≡ true → StoredBy world (gone_for errands back outcome world).shown (gone_for errands back outcome world).world.rows
+  gone_by back outcome [] world rising is = inl is
+  gone_by back outcome (party ∷ errands) world rising is = stepped_by (event_of party back) outcome (record world { errands = errands }) rising is
 
   lost_by : (errands : List PartyNotes) (world : World) → StoredBy world (lost_from errands world).shown (lost_from errands world).world.rows
   lost_by [] world is = inl is
@@ -124,12 +123,12 @@ module _ (realm : List ℕ) (k : Key) (fine : is_spelled k ≡ true) where
   renewed_by boxes Refused world is = inl is
   renewed_by boxes NoChange world is = inl is
 
-  pub moved_by : (serving : Serving) (move : Move) (world : World) → is_rising world.rows ≡ true → StoredBy world (moved serving move world).shown (moved serving move world).world.rows
-  moved_by serving (Move.Step event outcome) world rising is = stepped_by serving event outcome world rising is
-  moved_by serving (Move.Go back outcome) world rising is = gone_by serving back outcome world.errands world rising is
-  moved_by serving Move.Lose world rising is = lost_by world.errands world is
-  moved_by serving (Move.Restart boxes) world rising is = inl is
-  moved_by serving (Move.Renew boxes outcome) world rising is = renewed_by boxes outcome world is
+  pub moved_by : (move : Move) (world : World) → is_rising world.rows ≡ true → StoredBy world (moved move world).shown (moved move world).world.rows
+  moved_by (Move.Step event outcome) world rising is = stepped_by event outcome world rising is
+  moved_by (Move.Go back outcome) world rising is = gone_by back outcome world.errands world rising is
+  moved_by Move.Lose world rising is = lost_by world.errands world is
+  moved_by (Move.Restart boxes) world rising is = inl is
+  moved_by (Move.Renew boxes outcome) world rising is = renewed_by boxes outcome world is
 
   -- A RUN
 
@@ -142,23 +141,23 @@ module _ (realm : List ℕ) (k : Key) (fine : is_spelled k ≡ true) where
   pub now_shown : (start : World) (shown more : List Output) → list_any (stores_commit realm id) more ≡ true → was_committed realm id start (shown ++ more) ≡ true
   now_shown start shown more is = or_right (option_map_or is_committed_row (row_in realm id start.rows) false) _ (list_any-append (stores_commit realm id) shown more ∙ or_right (list_any (stores_commit realm id) shown) _ is)
 
-  run_stored : (serving : Serving) (start world : World) (moves : List Move) (shown : List Output) → IsSound world → (is_committed_at world.rows ≡ true → was_committed realm id start shown ≡ true) → is_run serving world moves ≡ true → is_committed_at (led_to serving world moves).rows ≡ true → was_committed realm id start (shown ++ shown_in (traced serving world moves)) ≡ true
-  run_stored serving start world [] shown sound was honest is = subst (λ xs. was_committed realm id start xs ≡ true) (sym (append-nil shown)) (was is)
-  run_stored serving start world (move ∷ moves) shown sound was honest is =
-      let parts = and_parts (is_honest serving move world) (is_run serving (moved serving move world).world moves) honest in
-      let next = (moved serving move world).world in
-      subst (λ xs. was_committed realm id start xs ≡ true) (append_assoc shown (moved serving move world).shown (shown_in (traced serving next moves)))
-      (run_stored serving start next moves (shown ++ (moved serving move world).shown) (moved_sound serving move world sound parts.0) (λ now. elim (moved_by serving move world (to_says world.state world.rows sound.stored).0 now) [
-        | inl old ↦ more_shown start shown (moved serving move world).shown (was old)
-        | inr new ↦ now_shown start shown (moved serving move world).shown new
+  run_stored : (start world : World) (moves : List Move) (shown : List Output) → IsSound world → (is_committed_at world.rows ≡ true → was_committed realm id start shown ≡ true) → is_run world moves ≡ true → is_committed_at (led_to world moves).rows ≡ true → was_committed realm id start (shown ++ shown_in (traced world moves)) ≡ true
+  run_stored start world [] shown sound was honest is = subst (λ xs. was_committed realm id start xs ≡ true) (sym (append-nil shown)) (was is)
+  run_stored start world (move ∷ moves) shown sound was honest is =
+      let parts = and_parts (is_honest move world) (is_run (moved move world).world moves) honest in
+      let next = (moved move world).world in
+      subst (λ xs. was_committed realm id start xs ≡ true) (append_assoc shown (moved move world).shown (shown_in (traced next moves)))
+      (run_stored start next moves (shown ++ (moved move world).shown) (moved_sound move world sound parts.0) (λ now. elim (moved_by move world (to_says world.state world.rows sound.stored).0 now) [
+        | inl old ↦ more_shown start shown (moved move world).shown (was old)
+        | inr new ↦ now_shown start shown (moved move world).shown new
       ]) parts.1 is)
 
-pub row_was_stored : (serving : Serving) (world : World) (moves : List Move) (key : Key) → IsStart world → is_run serving world moves ≡ true → is_spelled key ≡ true → has_committed_row key (led_to serving world moves) ≡ true → was_committed world.state.head.name (identifier world.state.head.name key) world (shown_in (traced serving world moves)) ≡ true
-row_was_stored serving world moves key start honest fine is = run_stored world.state.head.name key fine serving world world moves [] (start_sound world start) (λ stands. or_left _ false (ap (λ r. option_map_or is_committed_row r false) (same_row world.state.head.name key fine world.rows start.rows.spelled) ∙ stands)) honest is
+pub row_was_stored : (world : World) (moves : List Move) (key : Key) → IsStart world → is_run world moves ≡ true → is_spelled key ≡ true → has_committed_row key (led_to world moves) ≡ true → was_committed world.state.head.name (identifier world.state.head.name key) world (shown_in (traced world moves)) ≡ true
+row_was_stored world moves key start honest fine is = run_stored world.state.head.name key fine world world moves [] (start_sound world start) (λ stands. or_left _ false (ap (λ r. option_map_or is_committed_row r false) (same_row world.state.head.name key fine world.rows start.rows.spelled) ∙ stands)) honest is
 
-pub committed_was_stored : (serving : Serving) (world : World) (moves : List Move) (key : Key) (t : Transaction) → IsStart world → is_run serving world moves ≡ true → is_spelled key ≡ true → transaction_of key (led_to serving world moves).state ≡ Some t → t.phase ≡ Committed → was_committed world.state.head.name (identifier world.state.head.name key) world (shown_in (traced serving world moves)) ≡ true
-committed_was_stored serving world moves key t start honest fine found committed =
-    let last = led_to serving world moves in
-    let stored = (to_says last.state last.rows (reached_sound serving world moves start honest).stored).1 key in
+pub committed_was_stored : (world : World) (moves : List Move) (key : Key) (t : Transaction) → IsStart world → is_run world moves ≡ true → is_spelled key ≡ true → transaction_of key (led_to world moves).state ≡ Some t → t.phase ≡ Committed → was_committed world.state.head.name (identifier world.state.head.name key) world (shown_in (traced world moves)) ≡ true
+committed_was_stored world moves key t start honest fine found committed =
+    let last = led_to world moves in
+    let stored = (to_says last.state last.rows (reached_sound world moves start honest).stored).1 key in
     let its : is_stored_as t.phase t (row_at key last.rows) ≡ true = subst (λ o. says o (row_at key last.rows) ≡ true) found stored in
-    row_was_stored serving world moves key start honest fine (committed_row t (row_at key last.rows) (subst (λ f. is_stored_as f t (row_at key last.rows) ≡ true) committed its))
+    row_was_stored world moves key start honest fine (committed_row t (row_at key last.rows) (subst (λ f. is_stored_as f t (row_at key last.rows) ≡ true) committed its))

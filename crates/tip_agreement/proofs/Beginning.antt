@@ -205,18 +205,18 @@ module _ (c : Connection) (w : Work) (whole : Whole w.state) (given : are_given 
   pulled_if None superior = pulled_new superior
   pulled_if (Some t) superior = whole
 
-pub ask_push_whole : (serves : Bool) (found : Option Connection) (id : List ℕ) (w : Work) → Whole w.state → are_given w.state w.state.transactions ≡ true → ((c : Connection) → found ≡ Some c → connection_of c.number w.state ≡ Some c) → Whole (ask_push serves found id w).state
+pub ask_push_whole : (found : Option Connection) (id : List ℕ) (w : Work) → Whole w.state → are_given w.state w.state.transactions ≡ true → ((c : Connection) → found ≡ Some c → connection_of c.number w.state ≡ Some c) → Whole (ask_push found id w).state
 unfolding ask_push
-ask_push_whole serves None id w whole given there = whole
-ask_push_whole serves (Some c) id w whole given there = step (serves && is_free c) refl where
-  step : (b : Bool) → (serves && is_free c) ≡ b → Whole (cond b (push_part (identified_by id w.state) c.peer c.number w) (refuse Busy w)).state
-  step true may = pushed_to c w whole given (there c refl) (and_parts serves (is_free c) may).1 (identified_by id w.state) c.peer (λ t is. found_by (has_id w.state.head.name id) w.state t whole is)
+ask_push_whole None id w whole given there = whole
+ask_push_whole (Some c) id w whole given there = step (is_free c) refl where
+  step : (b : Bool) → is_free c ≡ b → Whole (cond b (push_part (identified_by id w.state) c.peer c.number w) (refuse Busy w)).state
+  step true may = pushed_to c w whole given (there c refl) may (identified_by id w.state) c.peer (λ t is. found_by (has_id w.state.head.name id) w.state t whole is)
   step false not = whole
 
-pub ask_pull_whole : (serves : Bool) (found : Option Connection) (superior : List ℕ) (w : Work) → Whole w.state → are_given w.state w.state.transactions ≡ true → ((c : Connection) → found ≡ Some c → connection_of c.number w.state ≡ Some c) → Whole (ask_pull serves found superior w).state
+pub ask_pull_whole : (found : Option Connection) (superior : List ℕ) (w : Work) → Whole w.state → are_given w.state w.state.transactions ≡ true → ((c : Connection) → found ≡ Some c → connection_of c.number w.state ≡ Some c) → Whole (ask_pull found superior w).state
 unfolding ask_pull
-ask_pull_whole serves None superior w whole given there = whole
-ask_pull_whole serves (Some c) superior w whole given there = step (serves && is_free c) refl where
-  step : (b : Bool) → (serves && is_free c) ≡ b → Whole (cond b (pull_if (find (is_known c.peer superior) w.state.transactions) superior c w) (refuse Busy w)).state
-  step true may = pulled_if c w whole given (there c refl) (and_parts serves (is_free c) may).1 (find (is_known c.peer superior) w.state.transactions) superior
+ask_pull_whole None superior w whole given there = whole
+ask_pull_whole (Some c) superior w whole given there = step (is_free c) refl where
+  step : (b : Bool) → is_free c ≡ b → Whole (cond b (pull_if (find (is_known c.peer superior) w.state.transactions) superior c w) (refuse Busy w)).state
+  step true may = pulled_if c w whole given (there c refl) may (find (is_known c.peer superior) w.state.transactions) superior
   step false not = whole

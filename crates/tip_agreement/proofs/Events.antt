@@ -1,6 +1,6 @@
 -- Events that leave a realm whole.
 use Rattle.std.proofs.Common.{◌≡◌, Bool, true, false, ℕ, ◌+◌, List, [], ◌∷◌, ◌++◌, Option, Some, None, refl, ap, ◌∙◌}
-use Rattle.std.specs.Prelude.{◌&&◌, ◌||◌, find, length}
+use Rattle.std.specs.Prelude.{◌||◌, find, length}
 use Rattle.std.specs.List.{list_any}
 use Rattle.std.proofs.lemmas.Bool.{or_from}
 use Rattle.tip_branch.specs.declared.branch.Badge.{Badge}
@@ -10,9 +10,8 @@ use Rattle.tip_machine.specs.Connections.{accepted, asks_for, dialled, is_on, is
 use Rattle.tip_machine.specs.Changes.{refuse}
 use Rattle.tip_machine.specs.Order.{ordered}
 use Rattle.tip_machine.specs.Requests.{added, dial, hand_back, lost, opened}
-use Rattle.tip_machine.specs.Served.{Serving}
 use Rattle.tip_machine.specs.States.{State, Work, connection_of, has_place}
-use Rattle.tip_machine.specs.Steps.{attempt, chosen, entered, frozen, is_open, step_serving}
+use Rattle.tip_machine.specs.Steps.{attempt, chosen, entered, frozen, is_open, step}
 use Rattle.tip_machine.specs.Types.{Connection, Event}
 use Rattle.tip_machine.specs.declared.connection.Purpose.{Purpose}
 use Rattle.tip_machine.specs.declared.connection.Role.{Role}
@@ -84,9 +83,9 @@ pub opened_whole : (boxes : List Badge) (s : State) → WholeFrom s (opened boxe
 unfolding opened
 opened_whole boxes s = either (WholeFrom s) (has_place (length boxes) (entered s).state) (added (accepted boxes) (entered s)) (hand_back boxes (refuse Full (entered s))) (added_whole (accepted boxes) s (λ n. refl) (λ n. refl)) (entered_whole s)
 
-pub dial_whole : (serves : Bool) (address : List ℕ) (purpose : Purpose) (boxes : List Badge) (s : State) → WholeFrom s (dial serves address purpose boxes (entered s))
+pub dial_whole : (address : List ℕ) (purpose : Purpose) (boxes : List Badge) (s : State) → WholeFrom s (dial address purpose boxes (entered s))
 unfolding dial
-dial_whole serves address purpose boxes s = either (WholeFrom s) (serves && has_place (length boxes) (entered s).state) _ (hand_back boxes (refuse Full (entered s))) (added_whole (dialled address purpose boxes) s (λ n. refl) (λ n. refl)) (entered_whole s)
+dial_whole address purpose boxes s = either (WholeFrom s) (has_place (length boxes) (entered s).state) _ (hand_back boxes (refuse Full (entered s))) (added_whole (dialled address purpose boxes) s (λ n. refl) (λ n. refl)) (entered_whole s)
 
 pub lost_whole : (found : Option Connection) (s : State) → ((c : Connection) → found ≡ Some c → connection_of c.number (entered s).state ≡ Some c) → WholeFrom s (lost found (entered s))
 unfolding lost
@@ -99,5 +98,5 @@ ordered_whole : (s : State) (v : Work) → WholeFrom s v → WholeFrom s (ordere
 unfolding ordered
 ordered_whole s v keeps whole = keeps whole
 
-pub steps_whole : (serving : Serving) (s : State) (event : Event) (outcome : Outcome) → Ends (WholeFrom s) (attempt serving event (entered s)) → WholeFrom s (step_serving serving s event outcome)
-steps_whole serving s event outcome ends = either (WholeFrom s) (is_open s) (ordered s (chosen (attempt serving event (entered s)) outcome)) (frozen event s) (ordered_whole s _ (chosen_ends (WholeFrom s) (attempt serving event (entered s)) outcome ends)) (λ whole. whole)
+pub steps_whole : (s : State) (event : Event) (outcome : Outcome) → Ends (WholeFrom s) (attempt event (entered s)) → WholeFrom s (step s event outcome)
+steps_whole s event outcome ends = either (WholeFrom s) (is_open s) (ordered s (chosen (attempt event (entered s)) outcome)) (frozen event s) (ordered_whole s _ (chosen_ends (WholeFrom s) (attempt event (entered s)) outcome ends)) (λ whole. whole)

@@ -24,9 +24,8 @@ use Rattle.tip_machine.specs.Order.{ordered}
 use Rattle.tip_machine.specs.Outputs.{Output, brought, calls_of, drops_of, outputs}
 use Rattle.tip_machine.specs.Requests.{strange}
 use Rattle.tip_machine.specs.Returns.{Back, back_from, back_of, event_of}
-use Rattle.tip_machine.specs.Served.{Serving}
 use Rattle.tip_machine.specs.States.{Attempt, State, Work, transaction_of}
-use Rattle.tip_machine.specs.Steps.{attempt, chosen, entered, frozen, is_open, returned, step_serving, wanted}
+use Rattle.tip_machine.specs.Steps.{attempt, chosen, entered, frozen, is_open, returned, step, wanted}
 use Rattle.tip_machine.specs.Transactions.{has_key, standing_at}
 use Rattle.tip_machine.specs.Types.{Event, Transaction, Answer}
 use Rattle.tip_machine.specs.declared.event.Event.TheVariants.{AskPull, AskPush, Dial, Line, Lost, Open, Resume, Settled, Voted}
@@ -102,22 +101,22 @@ no_party (Resume id) is = (refl, refl)
 no_party (Voted party) is = absurd (cc)
 no_party (Settled party) is = absurd (cc)
 
-module _ (serving : Serving) (world : World) (sound : IsSound world) (event : Event) (outcome : Outcome) where
+module _ (world : World) (sound : IsSound world) (event : Event) (outcome : Outcome) where
   abbrev tried : Attempt
-  tried = attempt serving event (entered world.state)
+  tried = attempt event (entered world.state)
 
-  step_keys : StepKeys world.state (step_serving serving world.state event outcome).state
+  step_keys : StepKeys world.state (step world.state event outcome).state
   step_keys = record {
-    given_new = given_in (step_serving serving world.state event outcome).state (keys_kept serving world.state event outcome sound.numbered sound.keyed);
-    stays = given_stays serving world.state event outcome;
-    fresh = new_was_not_given serving world.state event outcome;
+    given_new = given_in (step world.state event outcome).state (keys_kept world.state event outcome sound.numbered sound.keyed);
+    stays = given_stays world.state event outcome;
+    fresh = new_was_not_given world.state event outcome;
   }
 
   open_keys : is_open world.state ≡ true → StepKeys world.state (ordered world.state (chosen tried outcome)).state
   open_keys room = subst (StepKeys world.state) (ap (λ b. (cond b (ordered world.state (chosen tried outcome)) (frozen event world.state)).state) room) step_keys
 
   -- AN EVENT OF ITS OWN
-  pub event_true : (shown : List Output) → IsTrueTo shown world → brings_no_party event ≡ true → IsTrueTo (shown ++ (stepped serving event outcome world).shown) (stepped serving event outcome world).world
+  pub event_true : (shown : List Output) → IsTrueTo shown world → brings_no_party event ≡ true → IsTrueTo (shown ++ (stepped event outcome world).shown) (stepped event outcome world).world
   unfolding stepped
   event_true shown true_to none = step (is_open world.state) refl where
     quiet : IsQuiet (entered world.state)
@@ -128,7 +127,7 @@ module _ (serving : Serving) (world : World) (sound : IsSound world) (event : Ev
         let keys = open_keys room in
         let v = ordered world.state (chosen tried outcome) in
         let whole = sound_whole world sound in
-        let ends = event_goes (entered world.state) (entered_whole world.state whole) (next_fits world sound room) serving event none in
+        let ends = event_goes (entered world.state) (entered_whole world.state whole) (next_fits world sound room) event none in
         let later = shown ++ outputs event (wanted tried) outcome v.answer in
         true_after (rows_after (wanted tried) outcome world.rows) world.errands shown later (entered world.state) v (record {
           quiet = quiet;
@@ -184,7 +183,7 @@ spent_back party back = step party.errand where
   step errand.Abort = refl
   step errand.Idle = refl
 
-module _ (serving : Serving) (world : World) (sound : IsSound world) (party : PartyNotes) (rest : List PartyNotes) (is_out : are_out world.state (party ∷ rest) ≡ true) (due : is_due world.state party ≡ true)
+module _ (world : World) (sound : IsSound world) (party : PartyNotes) (rest : List PartyNotes) (is_out : are_out world.state (party ∷ rest) ≡ true) (due : is_due world.state party ≡ true)
     (shown : List Output) (true_to : IsTrueTo shown (record { state = world.state; rows = world.rows; errands = party ∷ rest })) where
   sent : is_sent party.errand party ≡ true
   sent = (due_awaited party world.state due).sent
@@ -217,7 +216,7 @@ module _ (serving : Serving) (world : World) (sound : IsSound world) (party : Pa
     let_go_true change answer silent spent = true_without world sound shown (shown ++ outputs event change outcome answer) party rest is_out (heard_letting change answer silent spent) true_to
 
     -- it is here again
-    module _ (home : CameHome party (back_of party back) (entered world.state) (attempt serving event (entered world.state))) (keys : StepKeys world.state (ordered world.state (chosen (attempt serving event (entered world.state)) outcome)).state) where
+    module _ (home : CameHome party (back_of party back) (entered world.state) (attempt event (entered world.state))) (keys : StepKeys world.state (ordered world.state (chosen (attempt event (entered world.state)) outcome)).state) where
       abbrev t : Transaction
       t = home.transaction
 
@@ -225,10 +224,10 @@ module _ (serving : Serving) (world : World) (sound : IsSound world) (party : Pa
       here = alter t.key (standing_at (Here (back_of party back))) (entered world.state)
 
       abbrev now_work : Work
-      now_work = ordered world.state (chosen (attempt serving event (entered world.state)) outcome)
+      now_work = ordered world.state (chosen (attempt event (entered world.state)) outcome)
 
       abbrev told_now : List Output
-      told_now = shown ++ outputs event (wanted (attempt serving event (entered world.state))) outcome now_work.answer
+      told_now = shown ++ outputs event (wanted (attempt event (entered world.state))) outcome now_work.answer
 
       heard_calls : (test : Verdict → Bool) (id : List ℕ) → are_told test world.state.head.name id (shown ++ brought event) ≡ true → (are_told test world.state.head.name id shown ≡ true) ⊎ (will_tell test world.state.head.epoch id party ≡ true)
       heard_calls test id is = elim (told_either test world.state.head.name id shown (brought event) is) [
@@ -251,16 +250,16 @@ module _ (serving : Serving) (world : World) (sound : IsSound world) (party : Pa
       spelled_here : AreSpelled here.state
       spelled_here = all_changed (λ (u : Transaction). is_spelled u.key) (has_key t.key) (standing_at (Here (back_of party back))) world.state.transactions (λ u is holds. holds) (in_bounds world.state sound.bounded).spelled
 
-      home_true : IsTrueTo told_now (record { state = now_work.state; rows = rows_after (wanted (attempt serving event (entered world.state))) outcome world.rows; errands = rest ++ option_to_list now_work.answer.work })
+      home_true : IsTrueTo told_now (record { state = now_work.state; rows = rows_after (wanted (attempt event (entered world.state))) outcome world.rows; errands = rest ++ option_to_list now_work.answer.work })
       home_true =
           let quiet : IsQuiet here = record { sent = refl; work = refl; spent = refl } in
           let owned : Owns party world.state t = record { epoch = home.its.epoch; id = home.its.id } in
-          true_after (rows_after (wanted (attempt serving event (entered world.state))) outcome world.rows) rest (shown ++ brought event) told_now here now_work (record {
+          true_after (rows_after (wanted (attempt event (entered world.state))) outcome world.rows) rest (shown ++ brought event) told_now here now_work (record {
             quiet = quiet;
-            spoke = spoke_ordered world.state here (chosen (attempt serving event (entered world.state)) outcome) (spoke_ends here spelled_here quiet (attempt serving event (entered world.state)) outcome home.goes);
-            heard = λ test id is. elim (told_either test world.state.head.name id shown (outputs event (wanted (attempt serving event (entered world.state))) outcome now_work.answer) is) [
+            spoke = spoke_ordered world.state here (chosen (attempt event (entered world.state)) outcome) (spoke_ends here spelled_here quiet (attempt event (entered world.state)) outcome home.goes);
+            heard = λ test id is. elim (told_either test world.state.head.name id shown (outputs event (wanted (attempt event (entered world.state))) outcome now_work.answer) is) [
               | inl before ↦ inl (told_more test world.state.head.name id shown (brought event) ∙ or_left (are_told test world.state.head.name id shown) _ before)
-              | inr now ↦ elim (event_told test world.state.head.name id event (wanted (attempt serving event (entered world.state))) outcome now_work.answer now) [
+              | inr now ↦ elim (event_told test world.state.head.name id event (wanted (attempt event (entered world.state))) outcome now_work.answer now) [
                 | inl called ↦ inl (told_more test world.state.head.name id shown (brought event) ∙ or_right (are_told test world.state.head.name id shown) _ called)
                 | inr later ↦ inr later
               ]
@@ -275,7 +274,7 @@ module _ (serving : Serving) (world : World) (sound : IsSound world) (party : Pa
             ours = ours_here world sound shown (shown ++ brought event) party (back_of party back) rest is_out heard_calls true_to t home.found owned;
           })
 
-    pub back_true : IsTrueTo (shown ++ (stepped serving event outcome (record world { errands = rest })).shown) (stepped serving event outcome (record world { errands = rest })).world
+    pub back_true : IsTrueTo (shown ++ (stepped event outcome (record world { errands = rest })).shown) (stepped event outcome (record world { errands = rest })).world
     unfolding stepped ordered
     back_true = step (is_open world.state) refl where
       -- a stranger
@@ -285,12 +284,12 @@ module _ (serving : Serving) (world : World) (sound : IsSound world) (party : Pa
           subst (λ ps. IsTrueTo (shown ++ outputs event None outcome v.answer) (record { state = v.state; rows = rows_after None outcome world.rows; errands = ps })) (sym (append-nil rest))
           (entry_true (shown ++ outputs event None outcome v.answer) world.state world.rows (rows_after None outcome world.rows) rest (let_go_true None v.answer refl refl)))
 
-      open_true : is_open world.state ≡ true → BackGoes party (back_of party back) (entered world.state) (attempt serving event (entered world.state)) → IsTrueTo (shown ++ outputs event (wanted (attempt serving event (entered world.state))) outcome (ordered world.state (chosen (attempt serving event (entered world.state)) outcome)).answer) (record { state = (ordered world.state (chosen (attempt serving event (entered world.state)) outcome)).state; rows = rows_after (wanted (attempt serving event (entered world.state))) outcome world.rows; errands = rest ++ option_to_list (ordered world.state (chosen (attempt serving event (entered world.state)) outcome)).answer.work })
-      open_true room (inl is) = strange_true (attempt serving event (entered world.state)) is
-      open_true room (inr home) = home_true home (open_keys serving world sound event outcome room)
+      open_true : is_open world.state ≡ true → BackGoes party (back_of party back) (entered world.state) (attempt event (entered world.state)) → IsTrueTo (shown ++ outputs event (wanted (attempt event (entered world.state))) outcome (ordered world.state (chosen (attempt event (entered world.state)) outcome)).answer) (record { state = (ordered world.state (chosen (attempt event (entered world.state)) outcome)).state; rows = rows_after (wanted (attempt event (entered world.state))) outcome world.rows; errands = rest ++ option_to_list (ordered world.state (chosen (attempt event (entered world.state)) outcome)).answer.work })
+      open_true room (inl is) = strange_true (attempt event (entered world.state)) is
+      open_true room (inr home) = home_true home (open_keys world sound event outcome room)
 
-      step : (b : Bool) → is_open world.state ≡ b → IsTrueTo (shown ++ outputs event (cond b (wanted (attempt serving event (entered world.state))) None) outcome (cond b (ordered world.state (chosen (attempt serving event (entered world.state)) outcome)) (frozen event world.state)).answer) (record { state = (cond b (ordered world.state (chosen (attempt serving event (entered world.state)) outcome)) (frozen event world.state)).state; rows = rows_after (cond b (wanted (attempt serving event (entered world.state))) None) outcome world.rows; errands = rest ++ option_to_list (cond b (ordered world.state (chosen (attempt serving event (entered world.state)) outcome)) (frozen event world.state)).answer.work })
-      step true room = open_true room (back_goes (entered world.state) (entered_whole world.state (sound_whole world sound)) (next_fits world sound room) serving party back (let known = due_awaited party world.state due in record { sent = known.sent; due = known.due }))
+      step : (b : Bool) → is_open world.state ≡ b → IsTrueTo (shown ++ outputs event (cond b (wanted (attempt event (entered world.state))) None) outcome (cond b (ordered world.state (chosen (attempt event (entered world.state)) outcome)) (frozen event world.state)).answer) (record { state = (cond b (ordered world.state (chosen (attempt event (entered world.state)) outcome)) (frozen event world.state)).state; rows = rows_after (cond b (wanted (attempt event (entered world.state))) None) outcome world.rows; errands = rest ++ option_to_list (cond b (ordered world.state (chosen (attempt event (entered world.state)) outcome)) (frozen event world.state)).answer.work })
+      step true room = open_true room (back_goes (entered world.state) (entered_whole world.state (sound_whole world sound)) (next_fits world sound room) party back (let known = due_awaited party world.state due in record { sent = known.sent; due = known.due }))
       step false full =
           let silent = returned-silent Frozen event in
           let answer = (frozen event world.state).answer in

@@ -1,6 +1,6 @@
 -- Numbers rise, and keys stay apart and given, at each step.
 use Rattle.std.proofs.Common.{◌≡◌, Bool, true, false, ℕ, List, [], ◌∷◌, ◌++◌, Some, cond, refl, ap, sym, subst, arith}
-use Rattle.std.specs.Prelude.{◌&&◌, not, map, length, take}
+use Rattle.std.specs.Prelude.{not, map, length, take}
 use Rattle.std.specs.List.{list_all, list_any}
 use Rattle.std.proofs.lemmas.Bool.{and_from, and_parts, not-true, not_from_false, or_from, or_parts}
 use Rattle.std.proofs.lemmas.Bool.Decides.{nat_tests}
@@ -17,9 +17,8 @@ use Rattle.tip_machine.specs.Invariants.Links.{are_distinct}
 use Rattle.tip_machine.specs.Order.{ordered}
 use Rattle.tip_machine.specs.Reactions.{react}
 use Rattle.tip_machine.specs.Requests.{added, dial, hand_back, opened}
-use Rattle.tip_machine.specs.Served.{Serving}
 use Rattle.tip_machine.specs.States.{State, Work, connection_of, has_place, seated}
-use Rattle.tip_machine.specs.Steps.{attempt, chosen, entered, frozen, is_open, step_serving}
+use Rattle.tip_machine.specs.Steps.{attempt, chosen, entered, frozen, is_open, step}
 use Rattle.tip_machine.specs.Transactions.{begun, has_key, next_key, standing_at}
 use Rattle.tip_machine.specs.Types.{Connection, Event, Transaction}
 use Rattle.tip_machine.specs.declared.event.Outcome.{Outcome}
@@ -171,33 +170,33 @@ opened-keyed : (boxes : List Badge) (state : State) → KeyedFrom state (opened 
 unfolding opened
 opened-keyed boxes state = either (KeyedFrom state) (has_place (length boxes) (entered state).state) (added (accepted boxes) (entered state)) (hand_back boxes (refuse Full (entered state))) (added-keyed (accepted boxes) state (λ n. refl)) (entered_keyed state)
 
-dial-keyed : (serves : Bool) (address : List ℕ) (purpose : Purpose) (boxes : List Badge) (state : State) → KeyedFrom state (dial serves address purpose boxes (entered state))
+dial-keyed : (address : List ℕ) (purpose : Purpose) (boxes : List Badge) (state : State) → KeyedFrom state (dial address purpose boxes (entered state))
 unfolding dial
-dial-keyed serves address purpose boxes state = either (KeyedFrom state) (serves && has_place (length boxes) (entered state).state) _ (hand_back boxes (refuse Full (entered state))) (added-keyed (dialled address purpose boxes) state (λ n. refl)) (entered_keyed state)
+dial-keyed address purpose boxes state = either (KeyedFrom state) (has_place (length boxes) (entered state).state) _ (hand_back boxes (refuse Full (entered state))) (added-keyed (dialled address purpose boxes) state (λ n. refl)) (entered_keyed state)
 
-others : (serving : Serving) (event : Event) (state : State) → is_opening event ≡ false → Ends (KeyedFrom state) (attempt serving event (entered state))
-others serving event state not =
+others : (event : Event) (state : State) → is_opening event ≡ false → Ends (KeyedFrom state) (attempt event (entered state))
+others event state not =
     attempt-goes (λ on. StaysKeyed) any closed_by_keyed (entered state) (Ends (KeyedFrom state)) (from_one (λ on. StaysKeyed) (entered state) (KeyedFrom state) (λ v keeps keyed. keeps.1 (entered_keyed state keyed)))
-    (λ why. entered_keyed state) (λ party. entered_keyed state) serving event not
+    (λ why. entered_keyed state) (λ party. entered_keyed state) event not
     (λ seat names. each (seated seat (entered state).state))
 
-attempt-keyed : (serving : Serving) (event : Event) (state : State) → Ends (KeyedFrom state) (attempt serving event (entered state))
-attempt-keyed serving event state =
-    each_event (λ event. Ends (KeyedFrom state) (attempt serving event (entered state)))
+attempt-keyed : (event : Event) (state : State) → Ends (KeyedFrom state) (attempt event (entered state))
+attempt-keyed event state =
+    each_event (λ event. Ends (KeyedFrom state) (attempt event (entered state)))
     (λ boxes. opened-keyed boxes state)
-    (λ address purpose boxes. dial-keyed serving.dials address purpose boxes state)
-    (λ event not. others serving event state not)
+    (λ address purpose boxes. dial-keyed address purpose boxes state)
+    (λ event not. others event state not)
     event
 
-went-keyed : (serving : Serving) (state : State) (event : Event) (outcome : Outcome) → KeyedFrom state (ordered state (chosen (attempt serving event (entered state)) outcome))
+went-keyed : (state : State) (event : Event) (outcome : Outcome) → KeyedFrom state (ordered state (chosen (attempt event (entered state)) outcome))
 unfolding ordered
-went-keyed serving state event outcome = chosen_ends (KeyedFrom state) (attempt serving event (entered state)) outcome (attempt-keyed serving event state)
+went-keyed state event outcome = chosen_ends (KeyedFrom state) (attempt event (entered state)) outcome (attempt-keyed event state)
 
-step-keyed : (serving : Serving) (state : State) (event : Event) (outcome : Outcome) → KeyedFrom state (step_serving serving state event outcome)
-step-keyed serving state event outcome = either (KeyedFrom state) (is_open state) _ (frozen event state) (went-keyed serving state event outcome) (λ keyed. keyed)
+step-keyed : (state : State) (event : Event) (outcome : Outcome) → KeyedFrom state (step state event outcome)
+step-keyed state event outcome = either (KeyedFrom state) (is_open state) _ (frozen event state) (went-keyed state event outcome) (λ keyed. keyed)
 
-pub keys_kept : (serving : Serving) (state : State) (event : Event) (outcome : Outcome) → are_numbered state ≡ true → are_keyed state ≡ true → are_keyed (step_serving serving state event outcome).state ≡ true
-keys_kept serving state event outcome numbered keyed =
+pub keys_kept : (state : State) (event : Event) (outcome : Outcome) → are_numbered state ≡ true → are_keyed state ≡ true → are_keyed (step state event outcome).state ≡ true
+keys_kept state event outcome numbered keyed =
     let parts = and_parts (are_distinct is_same (keys_of state.transactions)) (are_given state state.transactions) keyed in
-    let kept = step-keyed serving state event outcome (record { numbered = numbered; apart = parts.0; given = parts.1 }) in
+    let kept = step-keyed state event outcome (record { numbered = numbered; apart = parts.0; given = parts.1 }) in
     and_from _ _ kept.apart kept.given

@@ -23,9 +23,8 @@ use Rattle.tip_machine.specs.Moves.{World, rows_after, stepped}
 use Rattle.tip_machine.specs.Order.{ordered}
 use Rattle.tip_machine.specs.Requests.{strange}
 use Rattle.tip_machine.specs.Returns.{Back, back_of, event_of}
-use Rattle.tip_machine.specs.Served.{Serving}
 use Rattle.tip_machine.specs.States.{Attempt, State, Work, transaction_of}
-use Rattle.tip_machine.specs.Steps.{attempt, chosen, entered, frozen, is_open, step_serving, wanted}
+use Rattle.tip_machine.specs.Steps.{attempt, chosen, entered, frozen, is_open, step, wanted}
 use Rattle.tip_machine.specs.Transactions.{has_key, standing_at}
 use Rattle.tip_machine.specs.Types.{Event, Transaction}
 use Rattle.tip_machine.specs.declared.event.Change.{Change}
@@ -125,9 +124,9 @@ comes rows errands w (Attempt.Asks change stored refused) NoChange base whole go
 
 -- A STEP
 
-module _ (serving : Serving) (world : World) (errands : List PartyNotes) (event : Event) (outcome : Outcome) (sound : IsSound world) (whole : AllWhole (attempt serving event (entered world.state))) (out : are_out world.state errands ≡ true) where
+module _ (world : World) (errands : List PartyNotes) (event : Event) (outcome : Outcome) (sound : IsSound world) (whole : AllWhole (attempt event (entered world.state))) (out : are_out world.state errands ≡ true) where
   abbrev tried : Attempt
-  tried = attempt serving event (entered world.state)
+  tried = attempt event (entered world.state)
 
   bounds : InBounds world.state
   bounds = in_bounds world.state sound.bounded
@@ -147,19 +146,19 @@ module _ (serving : Serving) (world : World) (errands : List PartyNotes) (event 
   head_then (inr opens) = inr opens.head
 
   abbrev after : State
-  after = (step_serving serving world.state event outcome).state
+  after = (step world.state event outcome).state
 
   numbered_after : are_numbered after ≡ true
-  numbered_after = still_rising serving world.state event outcome sound.numbered
+  numbered_after = still_rising world.state event outcome sound.numbered
 
   keyed_after : are_keyed after ≡ true
-  keyed_after = keys_kept serving world.state event outcome sound.numbered sound.keyed
+  keyed_after = keys_kept world.state event outcome sound.numbered sound.keyed
 
   whole_after : Whole after
-  whole_after = steps_whole serving world.state event outcome (more_ends (λ v. Whole v.state) (WholeFrom world.state) (λ v is always. is) tried whole) (sound_whole world sound)
+  whole_after = steps_whole world.state event outcome (more_ends (λ v. Whole v.state) (WholeFrom world.state) (λ v is always. is) tried whole) (sound_whole world sound)
 
   counts_after : HasCounts after
-  counts_after = counts_stay serving world.state event outcome (counts_of world.state sound.numbered bounds)
+  counts_after = counts_stay world.state event outcome (counts_of world.state sound.numbered bounds)
 
   sound_with : (next : World) → next.state ≡ after → are_bounded next.state ≡ true → are_out next.state next.errands ≡ true → are_known_once next.state ≡ true → are_stored next.state next.rows ≡ true → IsSound next
   sound_with next same bounded out known stored =
@@ -176,14 +175,14 @@ module _ (serving : Serving) (world : World) (errands : List PartyNotes) (event 
         stored = stored;
       }
 
-  step_sound : (nat_lt world.state.head.entries world.state.head.limits.entries ≡ true → Comes (rows_after (wanted tried) outcome world.rows) errands (chosen tried outcome)) → IsSound (stepped serving event outcome (record world { errands = errands })).world
+  step_sound : (nat_lt world.state.head.entries world.state.head.limits.entries ≡ true → Comes (rows_after (wanted tried) outcome world.rows) errands (chosen tried outcome)) → IsSound (stepped event outcome (record world { errands = errands })).world
   unfolding stepped ordered
   step_sound comes = step (is_open world.state) refl where
     step : (b : Bool) → is_open world.state ≡ b → IsSound (record { state = (cond b (ordered world.state (chosen tried outcome)) (frozen event world.state)).state; rows = rows_after (cond b (wanted tried) None) outcome world.rows; errands = errands ++ option_to_list (cond b (ordered world.state (chosen tried outcome)) (frozen event world.state)).answer.work })
     step true room =
         let c = comes room in
         let same = ap (λ b. (cond b (ordered world.state (chosen tried outcome)) (frozen event world.state)).state) (sym room) in
-        sound_with (record { state = (ordered world.state (chosen tried outcome)).state; rows = rows_after (wanted tried) outcome world.rows; errands = errands ++ option_to_list (ordered world.state (chosen tried outcome)).answer.work }) same (counted (ordered world.state (chosen tried outcome)).state (head_then (step-went serving world.state event outcome)) room (subst HasCounts (sym same) counts_after) c.spelled) c.out c.known c.stored
+        sound_with (record { state = (ordered world.state (chosen tried outcome)).state; rows = rows_after (wanted tried) outcome world.rows; errands = errands ++ option_to_list (ordered world.state (chosen tried outcome)).answer.work }) same (counted (ordered world.state (chosen tried outcome)).state (head_then (step-went world.state event outcome)) room (subst HasCounts (sym same) counts_after) c.spelled) c.out c.known c.stored
     step false full =
         let same = ap (λ b. (cond b (ordered world.state (chosen tried outcome)) (frozen event world.state)).state) (sym full) in
         let silent = (returned-silent Frozen event).1 in
@@ -207,13 +206,13 @@ base_of world errands sound out =
 pub next_fits : (world : World) → IsSound world → nat_lt world.state.head.entries world.state.head.limits.entries ≡ true → IsNextSpelled (entered world.state)
 next_fits world sound room c there = next_spelled world.state c (in_bounds world.state sound.bounded) sound.numbered room there
 
-pub event_sound : (serving : Serving) (world : World) (event : Event) (outcome : Outcome) → IsSound world → brings_no_party event ≡ true → IsSound (stepped serving event outcome world).world
-event_sound serving world event outcome sound is =
+pub event_sound : (world : World) (event : Event) (outcome : Outcome) → IsSound world → brings_no_party event ≡ true → IsSound (stepped event outcome world).world
+event_sound world event outcome sound is =
     let whole = sound_whole world sound in
-    let ends = event_whole serving world.state whole (sound_given world sound) sound.numbered event is in
-    step_sound serving world world.errands event outcome sound ends sound.out (λ room.
-    comes world.rows world.errands (entered world.state) (attempt serving event (entered world.state)) outcome (base_of world world.errands sound sound.out) ends
-    (event_goes (entered world.state) (entered_whole world.state whole) (next_fits world sound room) serving event is))
+    let ends = event_whole world.state whole (sound_given world sound) sound.numbered event is in
+    step_sound world world.errands event outcome sound ends sound.out (λ room.
+    comes world.rows world.errands (entered world.state) (attempt event (entered world.state)) outcome (base_of world world.errands sound sound.out) ends
+    (event_goes (entered world.state) (entered_whole world.state whole) (next_fits world sound room) event is))
 
 -- A PARTY THAT COMES BACK
 
@@ -236,14 +235,14 @@ base_home world party back errands a sound out home =
       quiet = refl;
     }
 
-pub back_sound : (serving : Serving) (world : World) (party : PartyNotes) (errands : List PartyNotes) (back : Back) (outcome : Outcome) → IsSound world → are_out world.state (party ∷ errands) ≡ true → is_due world.state party ≡ true → IsSound (stepped serving (event_of party back) outcome (record world { errands = errands })).world
-back_sound serving world party errands back outcome sound out due =
+pub back_sound : (world : World) (party : PartyNotes) (errands : List PartyNotes) (back : Back) (outcome : Outcome) → IsSound world → are_out world.state (party ∷ errands) ≡ true → is_due world.state party ≡ true → IsSound (stepped (event_of party back) outcome (record world { errands = errands })).world
+back_sound world party errands back outcome sound out due =
     let whole = sound_whole world sound in
-    let a = attempt serving (event_of party back) (entered world.state) in
-    let ends = back_whole serving world.state party back whole due in
+    let a = attempt (event_of party back) (entered world.state) in
+    let ends = back_whole world.state party back whole due in
     let awaited = due_awaited party (entered world.state).state due in
     let behind = out_behind world.state party errands out in
-    step_sound serving world errands (event_of party back) outcome sound ends behind (λ room. step room a ends (back_goes (entered world.state) (entered_whole world.state whole) (next_fits world sound room) serving party back awaited) behind) where
+    step_sound world errands (event_of party back) outcome sound ends behind (λ room. step room a ends (back_goes (entered world.state) (entered_whole world.state whole) (next_fits world sound room) party back awaited) behind) where
       step : nat_lt world.state.head.entries world.state.head.limits.entries ≡ true → (a : Attempt) → Ends (λ v. Whole v.state) a → BackGoes party (back_of party back) (entered world.state) a → are_out world.state errands ≡ true → Comes (rows_after (wanted a) outcome world.rows) errands (chosen a outcome)
       step room a ends (inl is) behind = subst (λ a. Comes (rows_after (wanted a) outcome world.rows) errands (chosen a outcome)) (sym is) (stayed world.rows errands (entered world.state) (chosen (strange (back_of party back) (entered world.state)) outcome) (base_of world errands sound behind) refl refl)
       step room a ends (inr home) behind = comes world.rows errands (alter home.transaction.key (standing_at (Here (back_of party back))) (entered world.state)) a outcome (base_home world party (back_of party back) errands a sound out home) ends home.goes

@@ -11,12 +11,10 @@ use Rattle.tip_line.specs.declared.response.Response.{Response}
 use Rattle.tip_machine.specs.Changes.{refuse}
 use Rattle.tip_machine.specs.Commands.{serve}
 use Rattle.tip_machine.specs.Connections.{may_take}
-use Rattle.tip_machine.specs.Failing.{wrong}
 use Rattle.tip_machine.specs.Given.{are_numbered}
 use Rattle.tip_machine.specs.Honest.{brings_no_party}
 use Rattle.tip_machine.specs.Requests.{hear, line}
 use Rattle.tip_machine.specs.Responses.{answered_by}
-use Rattle.tip_machine.specs.Served.{Serving}
 use Rattle.tip_machine.specs.States.{Attempt, State, Work, connection_of, identified_by, seated}
 use Rattle.tip_machine.specs.Steps.{attempt, entered}
 use Rattle.tip_machine.specs.Transactions.{has_id}
@@ -25,7 +23,7 @@ use Rattle.tip_machine.specs.declared.connection.Awaited.{Awaited}
 use Rattle.tip_machine.specs.declared.event.Event.TheVariants.{AskPull, AskPush, Dial, Line, Lost, Open, Resume, Settled, Voted}
 use Rattle.tip_machine.specs.declared.event.Heard.{Heard}
 use Rattle.tip_machine.specs.declared.event.Heard.TheVariants.{Command as ACommand, Malformed, Response as AResponse}
-use Rattle.tip_machine.proofs.Walks.{either_attempt, seated_there}
+use Rattle.tip_machine.proofs.Walks.{seated_there}
 use Rattle.tip_agreement.proofs.Alone.{at_once_whole}
 use Rattle.tip_agreement.proofs.Around.{Whole}
 use Rattle.tip_agreement.proofs.Beginning.{ask_pull_whole, ask_push_whole, begin_at, begin_whole, pull_at, pull_whole, push_at, push_whole}
@@ -55,38 +53,38 @@ module _ (c : Connection) (w : Work) (whole : Whole w.state) (given : are_given 
     served commands.Tls valid = at_once_whole c w whole there side commands.Tls refl valid
     served commands.Error valid = at_once_whole c w whole there side commands.Error refl valid
 
-  answered_so : (serving : Serving) (response : Response) (awaited : Option Awaited) → c.side ≡ Primary → c.awaited ≡ awaited → AllWhole (answered_by awaited response c w)
-  answered_so serving response None side waits = whole
-  answered_so serving response (Some a) side waits = answered_whole c w whole there side a response waits
+  answered_so : (response : Response) (awaited : Option Awaited) → c.side ≡ Primary → c.awaited ≡ awaited → AllWhole (answered_by awaited response c w)
+  answered_so response None side waits = whole
+  answered_so response (Some a) side waits = answered_whole c w whole there side a response waits
 
-  heard_so : (serving : Serving) (side : Side) (heard : Heard) → c.side ≡ side → may_take c ≡ true → AllWhole (hear serving side heard c w)
-  heard_so serving Secondary (ACommand line') side turn = let silent = nothing_owed c turn in served_or_not c w whole there side silent serving line' (served side silent line')
-  heard_so serving Primary (ACommand commands.Error) side turn = closed_whole c w whole there
-  heard_so serving Primary (AResponse response) side turn = either_attempt AllWhole (serving.responses c.awaited) (answered_by c.awaited response c w) (Attempt.Done (wrong c w)) (answered_so serving response c.awaited side refl) (wrong_whole c w whole there)
-  heard_so serving Secondary (AResponse response) side turn = wrong_whole c w whole there
-  heard_so serving Secondary Malformed side turn = wrong_whole c w whole there
-  heard_so serving Primary Malformed side turn = wrong_whole c w whole there
-  heard_so serving Primary (ACommand line') side turn = wrong_whole c w whole there
+  heard_so : (side : Side) (heard : Heard) → c.side ≡ side → may_take c ≡ true → AllWhole (hear side heard c w)
+  heard_so Secondary (ACommand line') side turn = let silent = nothing_owed c turn in served_or_not c w whole there side silent line' (served side silent line')
+  heard_so Primary (ACommand commands.Error) side turn = closed_whole c w whole there
+  heard_so Primary (AResponse response) side turn = answered_so response c.awaited side refl
+  heard_so Secondary (AResponse response) side turn = wrong_whole c w whole there
+  heard_so Secondary Malformed side turn = wrong_whole c w whole there
+  heard_so Primary Malformed side turn = wrong_whole c w whole there
+  heard_so Primary (ACommand line') side turn = wrong_whole c w whole there
 
-line_whole : (serving : Serving) (found : Option Connection) (heard : Heard) (w : Work) → Whole w.state → are_given w.state w.state.transactions ≡ true → are_numbered w.state ≡ true → ((c : Connection) → found ≡ Some c → connection_of c.number w.state ≡ Some c) → AllWhole (line serving found heard w)
+line_whole : (found : Option Connection) (heard : Heard) (w : Work) → Whole w.state → are_given w.state w.state.transactions ≡ true → are_numbered w.state ≡ true → ((c : Connection) → found ≡ Some c → connection_of c.number w.state ≡ Some c) → AllWhole (line found heard w)
 unfolding line
-line_whole serving None heard w whole given numbered there = whole
-line_whole serving (Some c) heard w whole given numbered there = step (may_take c) refl where
-  step : (b : Bool) → may_take c ≡ b → AllWhole (cond b (hear serving c.side heard c w) (Attempt.Done (refuse Busy w)))
-  step true turn = heard_so c w whole given numbered (there c refl) serving c.side heard refl turn
+line_whole None heard w whole given numbered there = whole
+line_whole (Some c) heard w whole given numbered there = step (may_take c) refl where
+  step : (b : Bool) → may_take c ≡ b → AllWhole (cond b (hear c.side heard c w) (Attempt.Done (refuse Busy w)))
+  step true turn = heard_so c w whole given numbered (there c refl) c.side heard refl turn
   step false not = whole
 
-module _ (serving : Serving) (s : State) (whole : Whole s) (given : are_given s s.transactions ≡ true) (numbered : are_numbered s ≡ true) where
+module _ (s : State) (whole : Whole s) (given : are_given s s.transactions ≡ true) (numbered : are_numbered s ≡ true) where
   whole_now : Whole (entered s).state
   whole_now = entered_whole s whole
 
-  pub event_whole : (event : Event) → brings_no_party event ≡ true → AllWhole (attempt serving event (entered s))
+  pub event_whole : (event : Event) → brings_no_party event ≡ true → AllWhole (attempt event (entered s))
   event_whole (Open boxes) is = opened_whole boxes s whole
-  event_whole (Dial address purpose boxes) is = dial_whole serving.dials address purpose boxes s whole
-  event_whole (Line seat heard) is = line_whole serving (seated seat (entered s).state) heard (entered s) whole_now given numbered (seated_there seat (entered s).state)
+  event_whole (Dial address purpose boxes) is = dial_whole address purpose boxes s whole
+  event_whole (Line seat heard) is = line_whole (seated seat (entered s).state) heard (entered s) whole_now given numbered (seated_there seat (entered s).state)
   event_whole (Lost seat) is = lost_whole (seated seat (entered s).state) s (seated_there seat (entered s).state) whole
-  event_whole (AskPush seat id) is = ask_push_whole serving.dials (seated seat (entered s).state) id (entered s) whole_now given (seated_there seat (entered s).state)
-  event_whole (AskPull seat superior) is = ask_pull_whole serving.dials (seated seat (entered s).state) superior (entered s) whole_now given (seated_there seat (entered s).state)
+  event_whole (AskPush seat id) is = ask_push_whole (seated seat (entered s).state) id (entered s) whole_now given (seated_there seat (entered s).state)
+  event_whole (AskPull seat superior) is = ask_pull_whole (seated seat (entered s).state) superior (entered s) whole_now given (seated_there seat (entered s).state)
   event_whole (Resume id) is = resumed (identified_by id (entered s).state) (entered s) whole_now (λ t is. found_by (has_id s.head.name id) (entered s).state t whole_now is)
   event_whole (Voted party) is = absurd (cc)
   event_whole (Settled party) is = absurd (cc)

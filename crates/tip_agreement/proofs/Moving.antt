@@ -15,7 +15,6 @@ use Rattle.tip_machine.specs.Invariants.Parties.{is_due, is_of_this_start, is_ou
 use Rattle.tip_machine.specs.Moves.{World}
 use Rattle.tip_machine.specs.Requests.{owner}
 use Rattle.tip_machine.specs.Returns.{Back, back_from, back_of, event_of}
-use Rattle.tip_machine.specs.Served.{Serving}
 use Rattle.tip_machine.specs.States.{State}
 use Rattle.tip_machine.specs.Steps.{attempt, entered}
 use Rattle.tip_machine.specs.Types.{Transaction}
@@ -44,12 +43,12 @@ due_awaited party s is =
       waits t found here either = subst (λ o. option_map_or (λ (t : Transaction). is_out_for party.errand t.place) o false ≡ true) found (subst (λ b. not b || option_map_or (λ (t : Transaction). is_out_for party.errand t.place) (owner party s) false ≡ true) here either)
 
 -- a party that comes back
-pub back_whole : (serving : Serving) (s : State) (party : PartyNotes) (back : Back) → Whole s → is_due s party ≡ true → AllWhole (attempt serving (event_of party back) (entered s))
-back_whole serving s party back whole due = step party.errand refl where
+pub back_whole : (s : State) (party : PartyNotes) (back : Back) → Whole s → is_due s party ≡ true → AllWhole (attempt (event_of party back) (entered s))
+back_whole s party back whole due = step party.errand refl where
   awaited : IsAwaited party (entered s).state
   awaited = let known = due_awaited party s due in record { sent = known.sent; due = known.due }
 
-  step : (e : Errand) → party.errand ≡ e → AllWhole (attempt serving (back_from e (back_of party back)) (entered s))
+  step : (e : Errand) → party.errand ≡ e → AllWhole (attempt (back_from e (back_of party back)) (entered s))
   step errand.Vote is = voted_whole party back (entered s) (entered_whole s whole) awaited is
   step errand.Commit is = settled_whole party back (entered s) (entered_whole s whole) awaited
   step errand.Abort is = settled_whole party back (entered s) (entered_whole s whole) awaited

@@ -23,7 +23,6 @@ use Rattle.tip_machine.specs.Invariants.Links.{are_distinct}
 use Rattle.tip_machine.specs.Invariants.Parties.{are_out, is_due, is_of_this_start, is_sent}
 use Rattle.tip_machine.specs.Invariants.Stored.{is_stored_as}
 use Rattle.tip_machine.specs.Moves.{Move, World, moved, renewed, restarted_from, risen}
-use Rattle.tip_machine.specs.Served.{Serving}
 use Rattle.tip_machine.specs.Starting.{IsStart, are_adopted, are_declared}
 use Rattle.tip_machine.specs.declared.event.Outcome.{Outcome}
 use Rattle.tip_machine.specs.declared.event.Outcome.TheVariants.{NoChange, Stored, Refused}
@@ -215,13 +214,13 @@ renewed_sound boxes Stored world sound can = restarts_sound boxes world world.er
 renewed_sound boxes NoChange world sound can = sound
 renewed_sound boxes Refused world sound can = sound
 
-pub restarting_sound : (serving : Serving) (boxes : Key → List Badge) (world : World) → IsSound world → is_honest serving (Move.Restart boxes) world ≡ true → IsSound (moved serving (Move.Restart boxes) world).world
-restarting_sound serving boxes world sound can = restarts_sound boxes world [] sound refl can
+pub restarting_sound : (boxes : Key → List Badge) (world : World) → IsSound world → is_honest (Move.Restart boxes) world ≡ true → IsSound (moved (Move.Restart boxes) world).world
+restarting_sound boxes world sound can = restarts_sound boxes world [] sound refl can
 
-pub renewing_sound : (serving : Serving) (boxes : Key → List Badge) (outcome : Outcome) (world : World) → IsSound world → is_honest serving (Move.Renew boxes outcome) world ≡ true → IsSound (moved serving (Move.Renew boxes outcome) world).world
-renewing_sound serving boxes Stored world sound can = renewed_sound boxes Stored world sound can
-renewing_sound serving boxes Refused world sound can = renewed_sound boxes Refused world sound can
-renewing_sound serving boxes NoChange world sound can = absurd (cc)
+pub renewing_sound : (boxes : Key → List Badge) (outcome : Outcome) (world : World) → IsSound world → is_honest (Move.Renew boxes outcome) world ≡ true → IsSound (moved (Move.Renew boxes outcome) world).world
+renewing_sound boxes Stored world sound can = renewed_sound boxes Stored world sound can
+renewing_sound boxes Refused world sound can = renewed_sound boxes Refused world sound can
+renewing_sound boxes NoChange world sound can = absurd (cc)
 
 -- A START IS SOUND
 pub start_sound : (world : World) → IsStart world → IsSound world

@@ -20,13 +20,11 @@ use Rattle.tip_machine.specs.Connections.{may_take, owing}
 use Rattle.tip_machine.specs.Invariants.Links.{is_on_none, link_on}
 use Rattle.tip_machine.specs.Invariants.Links.Link.{Owes}
 use Rattle.tip_machine.specs.Requests.{hear, line}
-use Rattle.tip_machine.specs.Served.{Serving}
 use Rattle.tip_machine.specs.States.{Attempt, Work, connection_of, transaction_of}
 use Rattle.tip_machine.specs.Types.{Connection, Transaction}
 use Rattle.tip_machine.specs.declared.connection.Role.{Role}
 use Rattle.tip_machine.specs.declared.connection.Role.TheVariants.{Superior, Subordinate}
 use Rattle.tip_machine.specs.declared.event.Heard.TheVariants.{Command as ACommand}
-use Rattle.tip_machine.proofs.Walks.{either_attempt}
 use Rattle.tip_agreement.proofs.Around.{Whole, asks_as, is_placed}
 use Rattle.tip_agreement.proofs.Closing.{wrong_whole, stands_there}
 use Rattle.tip_agreement.proofs.Commanding.{abort_obeyed, commit_obeyed, prepare_obeyed}
@@ -86,12 +84,12 @@ module _ (c : Connection) (w : Work) (whole : Whole w.state) (there : connection
   pub abort_served : is_valid command.Abort c.state ≡ true → AllWhole (serve commands.Abort c w)
   abort_served valid = obeyed c w whole there side command.Abort refl valid (λ t. decide_abort t.phase c t) (λ t found on. abort_obeyed t c w whole there found on side silent t.phase refl)
 
-  -- whether it is valid, and served, or not
-  pub served_or_not : (serving : Serving) (line : Command) → (is_valid (name_of line) c.state ≡ true → AllWhole (serve line c w)) → AllWhole (hear serving Secondary (ACommand line) c w)
+  -- whether it is valid or not
+  pub served_or_not : (line : Command) → (is_valid (name_of line) c.state ≡ true → AllWhole (serve line c w)) → AllWhole (hear Secondary (ACommand line) c w)
   unfolding commanded
-  served_or_not serving line serves = subst (λ s. AllWhole (serve_if serving (admit_of c.state s (name_of line)) line c w)) (sym side) (step (is_valid (name_of line) c.state) refl) where
-    step : (b : Bool) → is_valid (name_of line) c.state ≡ b → AllWhole (serve_if serving (cond b Serve Wrong) line c w)
-    step true valid = either_attempt AllWhole (serving.commands (name_of line)) (serve line c w) _ (serves valid) (wrong_whole c w whole there)
+  served_or_not line serves = subst (λ s. AllWhole (serve_if (admit_of c.state s (name_of line)) line c w)) (sym side) (step (is_valid (name_of line) c.state) refl) where
+    step : (b : Bool) → is_valid (name_of line) c.state ≡ b → AllWhole (serve_if (cond b Serve Wrong) line c w)
+    step true valid = serves valid
     step false valid = wrong_whole c w whole there
 
   -- PREPARE is valid where we are enlisted

@@ -32,16 +32,16 @@ module _ (a : Held) (made : Made) (peer ours word : Option (List ℕ)) (left : m
       let d : Does (record a { making = record a.making { peer = peer; ours = ours; word = word } }) b (rule (work_of a)) = subst (λ m. Does (record a { making = m }) b (rule (work_of (record a { making = m })))) left does in
       record { own = d.own; others = d.others; realm = d.realm; count = d.count; connections = d.connections; transactions = d.transactions; lines = d.lines; outcome = d.outcome }
 
-dials_so : (address : List ℕ) (purpose : Purpose) (boxes : List Badge) (w : Work) (room : Bool) → has_place (length boxes) w.state ≡ room → dial true address purpose boxes w ≡ cond room (tell (w.state.head.given + 1) (Ask (asked.Identify w.state.head.address address)) (added (dialled address purpose boxes) w)) (hand_back boxes (refuse Full w))
+dials_so : (address : List ℕ) (purpose : Purpose) (boxes : List Badge) (w : Work) (room : Bool) → has_place (length boxes) w.state ≡ room → dial address purpose boxes w ≡ cond room (tell (w.state.head.given + 1) (Ask (asked.Identify w.state.head.address address)) (added (dialled address purpose boxes) w)) (hand_back boxes (refuse Full w))
 unfolding dial
 dials_so address purpose boxes w room is = ap (λ b. cond b (tell (w.state.head.given + 1) (Ask (asked.Identify w.state.head.address address)) (added (dialled address purpose boxes) w)) (hand_back boxes (refuse Full w))) is
 
 module _ (a b : Held) (address : List ℕ) (purpose : Purpose) (boxes : List Badge) where
-  pub dials_not : has_place (length boxes) (work_of a).state ≡ false → Does a b (hand_back boxes (refuse Full (work_of a))) → Does a b (dial true address purpose boxes (work_of a))
+  pub dials_not : has_place (length boxes) (work_of a).state ≡ false → Does a b (hand_back boxes (refuse Full (work_of a))) → Does a b (dial address purpose boxes (work_of a))
   dials_not is does = subst (Does a b) (sym (dials_so address purpose boxes (work_of a) false is)) does
 
   pub dials : (made : Made) (ours theirs : List ℕ) → has_place (length boxes) (work_of a).state ≡ true → made ≡ record a.making { peer = None; ours = None } → a.making.peer ≡ Some address → a.making.peer ≡ Some theirs → a.making.ours ≡ Some (work_of a).state.head.address → a.making.ours ≡ Some ours →
-      Does (record a { making = made }) b (tell ((work_of (record a { making = made })).state.head.given + 1) (Ask (asked.Identify ours theirs)) (added (dialled address purpose boxes) (work_of (record a { making = made })))) → Does a b (dial true address purpose boxes (work_of a))
+      Does (record a { making = made }) b (tell ((work_of (record a { making = made })).state.head.given + 1) (Ask (asked.Identify ours theirs)) (added (dialled address purpose boxes) (work_of (record a { making = made })))) → Does a b (dial address purpose boxes (work_of a))
   dials made ours theirs is left peer taken own mine does =
       subst (Does a b) (sym (dials_so address purpose boxes (work_of a) true is))
       (subst (λ o. Does a b (tell ((work_of a).state.head.given + 1) (Ask (asked.Identify o address)) (added (dialled address purpose boxes) (work_of a)))) (same_Some ours (work_of a).state.head.address (sym mine ∙ own))

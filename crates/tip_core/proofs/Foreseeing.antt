@@ -47,7 +47,6 @@ use Rattle.tip_machine.specs.Reactions.{commits, react}
 use Rattle.tip_machine.specs.Requests.{hear, line, owner, resume, resume_in, settled, settled_for, voted, voted_for}
 use Rattle.tip_machine.specs.Failing.{closed}
 use Rattle.tip_machine.specs.Responses.{go_on, is_in_doubt, presume_abort}
-use Rattle.tip_machine.specs.Served.{is_heard, today}
 use Rattle.tip_machine.specs.States.{Attempt, State, Work, connection_of, identified_by, seated, transaction_of}
 use Rattle.tip_machine.specs.Steps.{attempt, entered, is_open, wanted, wants}
 use Rattle.tip_machine.specs.Transactions.{decision_of, entering, has_id, has_key, has_ready, is_committed, is_done, is_spent, noting, pair_of, party_answer, standing_at, willing_from}
@@ -68,7 +67,7 @@ use Rattle.tip_machine.specs.declared.transaction.Origin.TheVariants as origin
 use Rattle.tip_machine.specs.declared.transaction.PartyPlace.TheVariants.{Here, Out, Spent}
 use Rattle.tip_core.proofs.Outcomes.{acknowledged_all}
 use Rattle.tip_core.proofs.Proceeding.{dispatch_some}
-use Rattle.tip_core.proofs.Responses.{hears_identified, hears_to_ask, hears_nothing, hears_part, hears_pull, hears_query, noting_nobody, noting_part_of}
+use Rattle.tip_core.proofs.Responses.{hears_identified, hears_nothing, hears_part, hears_pull, hears_query, hears_to_ask, hears_to_reach, noting_nobody, noting_part_of}
 use Rattle.tip_core.specs.Noting.{awaits_of, exists_of, identifying, note_of, noted, noting_as, part_of, pulled_of, pulling, querying, responding, version_of}
 use Rattle.tip_core.specs.declared.noting.Awaits.{Awaits}
 use Rattle.tip_core.specs.declared.noting.Awaits.TheVariants as awaits
@@ -221,7 +220,7 @@ module _ (w : Work) (c : Connection) (there : connection_of c.number w.state ≡
       at (Some (Superior key)) on = found_at key on (transaction_of key w.state) refl
       at (Some (Subordinate key part)) on = refl
 
-  served_wants : (line : ACommand) → wanted (serve_if today Serve line c w) ≡ command_wanted line c w.state
+  served_wants : (line : ACommand) → wanted (serve_if Serve line c w) ≡ command_wanted line c w.state
   served_wants (commands.Identify lowest highest primary secondary) = refl
   served_wants commands.Begin = refl
   served_wants (commands.Push superior) = refl
@@ -235,11 +234,11 @@ module _ (w : Work) (c : Connection) (there : connection_of c.number w.state ≡
   served_wants commands.Tls = refl
   served_wants commands.Error = refl
 
-  admitted_wants : (admit : Admit) (line : ACommand) → wanted (serve_if today admit line c w) ≡ cond (is_admitted admit) (command_wanted line c w.state) None
+  admitted_wants : (admit : Admit) (line : ACommand) → wanted (serve_if admit line c w) ≡ cond (is_admitted admit) (command_wanted line c w.state) None
   admitted_wants Serve line = served_wants line
   admitted_wants Wrong line = refl
 
-  primary_wants : (line : ACommand) → wanted (hear today Primary (Command line) c w) ≡ None
+  primary_wants : (line : ACommand) → wanted (hear Primary (Command line) c w) ≡ None
   primary_wants (commands.Identify lowest highest primary secondary) = refl
   primary_wants commands.Begin = refl
   primary_wants (commands.Push superior) = refl
@@ -253,33 +252,33 @@ module _ (w : Work) (c : Connection) (there : connection_of c.number w.state ≡
   primary_wants commands.Tls = refl
   primary_wants commands.Error = refl
 
-  hear_wants : (side : Side) → c.side ≡ side → (line : ACommand) → wanted (hear today side (Command line) c w) ≡ cond (is_admitted (admit_of c.state side (name_of line))) (command_wanted line c w.state) None
+  hear_wants : (side : Side) → c.side ≡ side → (line : ACommand) → wanted (hear side (Command line) c w) ≡ cond (is_admitted (admit_of c.state side (name_of line))) (command_wanted line c w.state) None
   unfolding commanded
   hear_wants Primary is line = primary_wants line
-  hear_wants Secondary is line = ap (λ s. wanted (serve_if today (admit_of c.state s (name_of line)) line c w)) is ∙ admitted_wants (admit_of c.state Secondary (name_of line)) line
+  hear_wants Secondary is line = ap (λ s. wanted (serve_if (admit_of c.state s (name_of line)) line c w)) is ∙ admitted_wants (admit_of c.state Secondary (name_of line)) line
 
-  taken_wants : (line : ACommand) → wanted (cond (may_take c) (hear today c.side (Command line) c w) (Attempt.Done (refuse Busy w))) ≡ line_wanted (Some c) line w.state
+  taken_wants : (line : ACommand) → wanted (cond (may_take c) (hear c.side (Command line) c w) (Attempt.Done (refuse Busy w))) ≡ line_wanted (Some c) line w.state
   taken_wants line = step (may_take c) where
-    step : (b : Bool) → wanted (cond b (hear today c.side (Command line) c w) (Attempt.Done (refuse Busy w))) ≡ cond (b && is_admitted (admit_of c.state c.side (name_of line))) (command_wanted line c w.state) None
+    step : (b : Bool) → wanted (cond b (hear c.side (Command line) c w) (Attempt.Done (refuse Busy w))) ≡ cond (b && is_admitted (admit_of c.state c.side (name_of line))) (command_wanted line c w.state) None
     step true = hear_wants c.side refl line
     step false = refl
 
 -- what is no command wants nothing
-quiet_line : (side : Side) (c : Connection) (w : Work) → (wanted (hear today side Malformed c w) ≡ None)
+quiet_line : (side : Side) (c : Connection) (w : Work) → (wanted (hear side Malformed c w) ≡ None)
 quiet_line Primary c w = refl
 quiet_line Secondary c w = refl
 
 module _ (w : Work) where
-  line_wants : (found : Option Connection) → ((c : Connection) → found ≡ Some c → connection_of c.number w.state ≡ Some c) → (line' : ACommand) → wanted (line today found (Command line') w) ≡ line_wanted found line' w.state
+  line_wants : (found : Option Connection) → ((c : Connection) → found ≡ Some c → connection_of c.number w.state ≡ Some c) → (line' : ACommand) → wanted (line found (Command line') w) ≡ line_wanted found line' w.state
   unfolding line
   line_wants None there line' = refl
   line_wants (Some c) there line' = taken_wants w c (there c refl) line'
 
-  other_line : (found : Option Connection) (heard : Heard) → ((c : Connection) (side : Side) → wanted (hear today side heard c w) ≡ None) → wanted (line today found heard w) ≡ None
+  other_line : (found : Option Connection) (heard : Heard) → ((c : Connection) (side : Side) → wanted (hear side heard c w) ≡ None) → wanted (line found heard w) ≡ None
   unfolding line
   other_line None heard quiet = refl
   other_line (Some c) heard quiet = step (may_take c) where
-    step : (b : Bool) → wanted (cond b (hear today c.side heard c w) (Attempt.Done (refuse Busy w))) ≡ None
+    step : (b : Bool) → wanted (cond b (hear c.side heard c w) (Attempt.Done (refuse Busy w))) ≡ None
     step true = quiet c c.side
     step false = refl
 
@@ -362,19 +361,16 @@ module _ (w : Work) (c : Connection) (there : connection_of c.number w.state ≡
       step true = refl
       step false = refl
 
-  said_wants : (said : AResponse) → wanted (hear today Primary (Response said) c w) ≡ said_wanted (awaits_of c.awaited) said c w.state
+  said_wants : (said : AResponse) → wanted (hear Primary (Response said) c w) ≡ said_wanted (awaits_of c.awaited) said c w.state
   said_wants said = step c.awaited refl where
-    of_part : (a : Option Awaited) → c.awaited ≡ a → (name : CommandName) → awaits_of a ≡ awaits.OfPart name → wanted (hear today Primary (Response said) c w) ≡ said_wanted (awaits_of c.awaited) said c w.state
+    of_part : (a : Option Awaited) → c.awaited ≡ a → (name : CommandName) → awaits_of a ≡ awaits.OfPart name → wanted (hear Primary (Response said) c w) ≡ said_wanted (awaits_of c.awaited) said c w.state
     of_part a is name so = ap wanted (hears_part said c w name (ap awaits_of is ∙ so)) ∙ responding_wants (note_of c.awaited said) name said ∙ sym (ap (λ k. said_wanted k said c w.state) (ap awaits_of is ∙ so))
 
-    unheard : (a : Option Awaited) → c.awaited ≡ a → is_heard a ≡ false → None ≡ said_wanted (awaits_of a) said c w.state → wanted (hear today Primary (Response said) c w) ≡ said_wanted (awaits_of c.awaited) said c w.state
-    unheard a is not none = ap wanted (hears_nothing said c w (ap is_heard is ∙ not)) ∙ none ∙ ap (λ b. said_wanted (awaits_of b) said c w.state) (sym is)
-
-    step : (a : Option Awaited) → c.awaited ≡ a → wanted (hear today Primary (Response said) c w) ≡ said_wanted (awaits_of c.awaited) said c w.state
-    step None is = unheard None is refl refl
+    step : (a : Option Awaited) → c.awaited ≡ a → wanted (hear Primary (Response said) c w) ≡ said_wanted (awaits_of c.awaited) said c w.state
+    step None is = ap wanted (hears_nothing said c w is) ∙ ap (λ b. said_wanted (awaits_of b) said c w.state) (sym is)
     step (Some (awaited.Identify purposes.Plain)) is = ap wanted (hears_identified said c w (ap awaits_of is)) ∙ identifying_wants purposes.Plain (version_of said) said ∙ ap (λ b. said_wanted (awaits_of b) said c w.state) (sym is)
     step (Some (awaited.Identify (purposes.Query id))) is = ap wanted (hears_to_ask said c w (ap awaits_of is)).1.1 ∙ identifying_wants (purposes.Query (hears_to_ask said c w (ap awaits_of is)).0) (version_of said) said ∙ ap (λ b. said_wanted (awaits_of b) said c w.state) (sym is)
-    step (Some (awaited.Identify (purposes.Reconnect id place))) is = unheard (Some (awaited.Identify (purposes.Reconnect id place))) is refl refl
+    step (Some (awaited.Identify (purposes.Reconnect id place))) is = let heard = hears_to_reach said c w (ap awaits_of is) in ap wanted heard.1.1 ∙ identifying_wants (purposes.Reconnect heard.0.0 heard.0.1) (version_of said) said ∙ ap (λ b. said_wanted (awaits_of b) said c w.state) (sym is)
     step (Some awaited.Push) is = of_part (Some awaited.Push) is command.Push refl
     step (Some awaited.Pull) is = ap wanted (hears_pull said c w (ap awaits_of is)) ∙ pulling_wants (pulled_of said) said ∙ ap (λ b. said_wanted (awaits_of b) said c w.state) (sym is)
     step (Some awaited.Prepare) is = of_part (Some awaited.Prepare) is command.Prepare refl
@@ -383,17 +379,17 @@ module _ (w : Work) (c : Connection) (there : connection_of c.number w.state ≡
     step (Some (awaited.Query key)) is = ap wanted (hears_query said c w key (ap awaits_of is)) ∙ querying_wants (exists_of said) key said ∙ ap (λ b. said_wanted (awaits_of b) said c w.state) (sym is)
     step (Some awaited.Reconnect) is = of_part (Some awaited.Reconnect) is command.Reconnect refl
 
-  heard_wants : (side : Side) → c.side ≡ side → (said : AResponse) → wanted (hear today side (Response said) c w) ≡ cond (not (is_secondary side)) (said_wanted (awaits_of c.awaited) said c w.state) None
+  heard_wants : (side : Side) → c.side ≡ side → (said : AResponse) → wanted (hear side (Response said) c w) ≡ cond (not (is_secondary side)) (said_wanted (awaits_of c.awaited) said c w.state) None
   heard_wants Primary is said = said_wants said
   heard_wants Secondary is said = refl
 
-  taken_response : (said : AResponse) → wanted (cond (may_take c) (hear today c.side (Response said) c w) (Attempt.Done (refuse Busy w))) ≡ response_wanted (Some c) said w.state
+  taken_response : (said : AResponse) → wanted (cond (may_take c) (hear c.side (Response said) c w) (Attempt.Done (refuse Busy w))) ≡ response_wanted (Some c) said w.state
   taken_response said = step (may_take c) where
-    step : (b : Bool) → wanted (cond b (hear today c.side (Response said) c w) (Attempt.Done (refuse Busy w))) ≡ cond (b && not (is_secondary c.side)) (said_wanted (awaits_of c.awaited) said c w.state) None
+    step : (b : Bool) → wanted (cond b (hear c.side (Response said) c w) (Attempt.Done (refuse Busy w))) ≡ cond (b && not (is_secondary c.side)) (said_wanted (awaits_of c.awaited) said c w.state) None
     step true = heard_wants c.side refl said
     step false = refl
 
-response_wants : (w : Work) (found : Option Connection) → ((c : Connection) → found ≡ Some c → connection_of c.number w.state ≡ Some c) → (said : AResponse) → wanted (line today found (Response said) w) ≡ response_wanted found said w.state
+response_wants : (w : Work) (found : Option Connection) → ((c : Connection) → found ≡ Some c → connection_of c.number w.state ≡ Some c) → (said : AResponse) → wanted (line found (Response said) w) ≡ response_wanted found said w.state
 unfolding line
 response_wants w None there said = refl
 response_wants w (Some c) there said = taken_response w c (there c refl) said
@@ -475,7 +471,7 @@ resumes (Some t) w = step (is_committed t.phase) where
 
 -- Any event
 
-attempt_wants : (event : Event) (w : Work) → wanted (attempt today event w) ≡ foreseen event w.state
+attempt_wants : (event : Event) (w : Work) → wanted (attempt event w) ≡ foreseen event w.state
 attempt_wants (Open boxes) w = refl
 attempt_wants (Dial address purpose boxes) w = refl
 attempt_wants (Line seat (Command line)) w = line_wants w (seated seat w.state) (seated_there seat w.state) line
@@ -526,7 +522,7 @@ module _ (state : State) where
   said_before (awaits.OfPart name) said c = answer_before (note_of c.awaited said) c
   said_before awaits.Identified said c = refl
   said_before awaits.ToAsk said c = refl
-  said_before awaits.Aimed said c = refl
+  said_before awaits.ToReach said c = refl
   said_before awaits.Pulled said c = refl
   said_before (awaits.Queried key) said c = query_before (exists_of said) key c
 
@@ -570,9 +566,9 @@ module _ (state : State) where
   seen_before (Resume id) = refl
 
 pub wants_here : (state : State) (event : Event) → is_open state ≡ true → wants state event ≡ foreseen event state
-wants_here state event is = ap (λ b. cond b (wanted (attempt today event (entered state))) None) is ∙ attempt_wants event (entered state) ∙ seen_before state event
+wants_here state event is = ap (λ b. cond b (wanted (attempt event (entered state))) None) is ∙ attempt_wants event (entered state) ∙ seen_before state event
 
 pub wants_frozen : (state : State) (event : Event) → is_open state ≡ false → wants state event ≡ None
-wants_frozen state event is = ap (λ b. cond b (wanted (attempt today event (entered state))) None) is
+wants_frozen state event is = ap (λ b. cond b (wanted (attempt event (entered state))) None) is
 
 pub ruleset wanting = (wants_here, wants_frozen)

@@ -18,11 +18,13 @@ use Rattle.tip_machine.specs.Counts.{HasCounts}
 use Rattle.tip_machine.specs.Failing.{closed, wrong}
 use Rattle.tip_machine.specs.Given.{are_numbered}
 use Rattle.tip_machine.specs.Requests.{hear, line}
-use Rattle.tip_machine.specs.Served.{today}
 use Rattle.tip_machine.specs.States.{Attempt, State, connection_of, has_room, seated}
 use Rattle.tip_machine.specs.Steps.{attempt, chosen, entered, frozen, is_open}
 use Rattle.tip_machine.specs.Transactions.{next_key}
 use Rattle.tip_machine.specs.Types.{Connection, Event}
+use Rattle.tip_machine.specs.declared.connection.Awaited.{Awaited}
+use Rattle.tip_machine.specs.declared.connection.Awaited.TheVariants as awaited
+use Rattle.tip_machine.specs.declared.connection.Purpose.TheVariants as purpose
 use Rattle.tip_machine.specs.declared.connection.Role.{Role}
 use Rattle.tip_machine.specs.declared.connection.Role.TheVariants.{Subordinate, Superior}
 use Rattle.tip_machine.specs.declared.event.Event.TheVariants.{AskPull, AskPush, Dial, Line, Lost, Open, Resume, Settled, Voted}
@@ -34,13 +36,14 @@ use Rattle.tip_machine.proofs.Counting.{entered_below}
 use Rattle.tip_core.proofs.Works.{then}
 use Rattle.tip_core.specs.Growing.{CanGrow}
 use Rattle.tip_core.specs.Needs.{HasNeeds, IsReady, begins, begins_on, happened, joined, lines_needed, peer_needed, room_on, transactions_for, ours_needed, word_needed}
+use Rattle.tip_core.specs.Pursuing.{word_for}
 use Rattle.tip_core.specs.Rooms.{room_for}
 use Rattle.tip_core.specs.Works.{CanMake, Does, Held, is_named, MayMake, lines_as, lines_at, lines_queried, work_of}
 
 -- As its primary we hear ERROR alone
 
 module _ (a b : Held) (c : Connection) (outcome : Outcome) where
-  pub primary_wrong : (command : ACommand) → name_of command ≢ name.Error → Does a b (wrong c (work_of a)) → Does a b (chosen (hear today Primary (Command command) c (work_of a)) outcome)
+  pub primary_wrong : (command : ACommand) → name_of command ≢ name.Error → Does a b (wrong c (work_of a)) → Does a b (chosen (hear Primary (Command command) c (work_of a)) outcome)
   primary_wrong (commands.Identify lowest highest primary secondary) other does = does
   primary_wrong commands.Begin other does = does
   primary_wrong (commands.Push superior) other does = does
@@ -54,7 +57,7 @@ module _ (a b : Held) (c : Connection) (outcome : Outcome) where
   primary_wrong commands.Tls other does = does
   primary_wrong commands.Error other does = absurd (other refl)
 
-  pub primary_closed : (command : ACommand) → name_of command ≡ name.Error → Does a b (closed c (work_of a)) → Does a b (chosen (hear today Primary (Command command) c (work_of a)) outcome)
+  pub primary_closed : (command : ACommand) → name_of command ≡ name.Error → Does a b (closed c (work_of a)) → Does a b (chosen (hear Primary (Command command) c (work_of a)) outcome)
   primary_closed (commands.Identify lowest highest primary secondary) is does = absurd (cc)
   primary_closed commands.Begin is does = absurd (cc)
   primary_closed (commands.Push superior) is does = absurd (cc)
@@ -73,20 +76,20 @@ pub ruleset hearing_as_primary = (primary_wrong, primary_closed)
 -- Lines
 
 module _ (a b : Held) (seat : Seat) (heard : Heard) (outcome : Outcome) where
-  pub line_stale : seated seat (work_of a).state ≡ None → Does a b (refuse Stale (work_of a)) → Does a b (chosen (line today (seated seat (work_of a).state) heard (work_of a)) outcome)
+  pub line_stale : seated seat (work_of a).state ≡ None → Does a b (refuse Stale (work_of a)) → Does a b (chosen (line (seated seat (work_of a).state) heard (work_of a)) outcome)
   unfolding line
-  line_stale none does = subst (λ o. Does a b (chosen (line today o heard (work_of a)) outcome)) (sym none) does
+  line_stale none does = subst (λ o. Does a b (chosen (line o heard (work_of a)) outcome)) (sym none) does
 
   module _ (c : Connection) (same : seated seat (work_of a).state ≡ connection_of seat.number (work_of a).state) (there : connection_of seat.number (work_of a).state ≡ Some c) where
-    taken_so : (takes : Bool) → may_take c ≡ takes → Does a b (chosen (cond takes (hear today c.side heard c (work_of a)) (Attempt.Done (refuse Busy (work_of a)))) outcome) → Does a b (chosen (line today (seated seat (work_of a).state) heard (work_of a)) outcome)
+    taken_so : (takes : Bool) → may_take c ≡ takes → Does a b (chosen (cond takes (hear c.side heard c (work_of a)) (Attempt.Done (refuse Busy (work_of a)))) outcome) → Does a b (chosen (line (seated seat (work_of a).state) heard (work_of a)) outcome)
     unfolding line
-    taken_so takes is does = subst (λ o. Does a b (chosen (line today o heard (work_of a)) outcome)) (sym (same ∙ there)) (subst (λ t. Does a b (chosen (cond t (hear today c.side heard c (work_of a)) (Attempt.Done (refuse Busy (work_of a)))) outcome)) (sym is) does)
+    taken_so takes is does = subst (λ o. Does a b (chosen (line o heard (work_of a)) outcome)) (sym (same ∙ there)) (subst (λ t. Does a b (chosen (cond t (hear c.side heard c (work_of a)) (Attempt.Done (refuse Busy (work_of a)))) outcome)) (sym is) does)
 
-    pub line_busy : may_take c ≡ false → Does a b (refuse Busy (work_of a)) → Does a b (chosen (line today (seated seat (work_of a).state) heard (work_of a)) outcome)
+    pub line_busy : may_take c ≡ false → Does a b (refuse Busy (work_of a)) → Does a b (chosen (line (seated seat (work_of a).state) heard (work_of a)) outcome)
     line_busy is does = taken_so false is does
 
-    pub line_heard : (side : Side) → may_take c ≡ true → c.side ≡ side → ((d : Connection) → connection_of seat.number (work_of a).state ≡ Some d → Does a b (chosen (hear today side heard d (work_of a)) outcome)) → Does a b (chosen (line today (seated seat (work_of a).state) heard (work_of a)) outcome)
-    line_heard side is at does = taken_so true is (subst (λ s. Does a b (chosen (hear today s heard c (work_of a)) outcome)) (sym at) (does c there))
+    pub line_heard : (side : Side) → may_take c ≡ true → c.side ≡ side → ((d : Connection) → connection_of seat.number (work_of a).state ≡ Some d → Does a b (chosen (hear side heard d (work_of a)) outcome)) → Does a b (chosen (line (seated seat (work_of a).state) heard (work_of a)) outcome)
+    line_heard side is at does = taken_so true is (subst (λ s. Does a b (chosen (hear s heard c (work_of a)) outcome)) (sym at) (does c there))
 
 pub ruleset lining = (line_stale, line_busy, line_heard)
 
@@ -158,10 +161,26 @@ ours_before (AskPush seat id) state = refl
 ours_before (AskPull seat superior) state = refl
 ours_before (Resume id) state = refl
 
+worded_before : (a : Option Awaited) (state : State) → word_for a (entered state).state ≡ word_for a state
+worded_before None state = refl
+worded_before (Some (awaited.Identify purpose.Plain)) state = refl
+worded_before (Some (awaited.Identify (purpose.Query id))) state = refl
+worded_before (Some (awaited.Identify (purpose.Reconnect id number))) state = refl
+worded_before (Some awaited.Push) state = refl
+worded_before (Some awaited.Pull) state = refl
+worded_before (Some awaited.Prepare) state = refl
+worded_before (Some awaited.Commit) state = refl
+worded_before (Some awaited.Abort) state = refl
+worded_before (Some (awaited.Query key)) state = refl
+worded_before (Some awaited.Reconnect) state = refl
+
 word_before : (event : Event) (state : State) → word_needed event (entered state).state ≡ word_needed event state
 word_before (Open boxes) state = refl
 word_before (Dial address purpose boxes) state = refl
-word_before (Line seat heard) state = refl
+word_before (Line seat heard) state = by (connection_of seat.number state) where
+  by : (found : Option Connection) → option_and_then (λ (c : Connection). word_for c.awaited (entered state).state) found ≡ option_and_then (λ (c : Connection). word_for c.awaited state) found
+  by None = refl
+  by (Some c) = worded_before c.awaited state
 word_before (Voted party) state = refl
 word_before (Settled party) state = refl
 word_before (Lost seat) state = refl
@@ -212,14 +231,14 @@ module _ (a b : Held) (event : Event) (here : a.realm < length a.heads.items) (c
 -- The step
 
 module _ (a : Held) (event : Event) (outcome : Outcome) where
-  happens_so : (takes : Bool) → is_open (work_of a).state ≡ takes → happened (work_of a).state event outcome ≡ cond takes (chosen (attempt today event (entered (work_of a).state)) outcome) (frozen event (work_of a).state)
-  happens_so takes is = ap (λ b. cond b (chosen (attempt today event (entered (work_of a).state)) outcome) (frozen event (work_of a).state)) is
+  happens_so : (takes : Bool) → is_open (work_of a).state ≡ takes → happened (work_of a).state event outcome ≡ cond takes (chosen (attempt event (entered (work_of a).state)) outcome) (frozen event (work_of a).state)
+  happens_so takes is = ap (λ b. cond b (chosen (attempt event (entered (work_of a).state)) outcome) (frozen event (work_of a).state)) is
 
   pub stepped_frozen : (b : Held) → is_open (work_of a).state ≡ false → Does a b (frozen event (work_of a).state) → Does a b (happened (work_of a).state event outcome)
   stepped_frozen b is does = subst (Does a b) (sym (happens_so false is)) does
 
-  pub stepped : (b c : Held) → is_open (work_of a).state ≡ true → Does a b (entered (work_of a).state) → outcome ≡ b.outcome → Does b c (chosen (attempt today event (work_of b)) b.outcome) → Does a c (happened (work_of a).state event outcome)
+  pub stepped : (b c : Held) → is_open (work_of a).state ≡ true → Does a b (entered (work_of a).state) → outcome ≡ b.outcome → Does b c (chosen (attempt event (work_of b)) b.outcome) → Does a c (happened (work_of a).state event outcome)
   stepped b c is first same second = subst (Does a c) (sym (happens_so true is))
-      (subst (λ o. Does a c (chosen (attempt today event (entered (work_of a).state)) o)) (sym same) (then a b c (λ w. chosen (attempt today event w) b.outcome) _ first second))
+      (subst (λ o. Does a c (chosen (attempt event (entered (work_of a).state)) o)) (sym same) (then a b c (λ w. chosen (attempt event w) b.outcome) _ first second))
 
 pub ruleset stepping = (ready, stepped_frozen, stepped)

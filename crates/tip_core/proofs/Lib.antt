@@ -16,6 +16,7 @@ pub mod Asking
 pub mod Dials
 pub mod Requests
 pub mod Purposes
+pub mod Aims
 pub mod Needing
 pub mod Happening
 pub mod Turning

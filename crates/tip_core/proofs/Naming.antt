@@ -8,7 +8,6 @@ use Rattle.std.proofs.lemmas.Option.{same_Some, none-some}
 use Rattle.std.proofs.lemmas.Bool.{and_from, and_parts, cases_eq}
 use Rattle.std.proofs.lemmas.Slice.Eq.{bytes_eq-Decides}
 use Rattle.tip_machine.specs.Heads.{have_names, is_other, starting}
-use Rattle.tip_machine.specs.Served.{today}
 use Rattle.tip_machine.specs.States.{State, started}
 use Rattle.tip_machine.specs.Types.{Answer, Event}
 use Rattle.tip_machine.specs.declared.event.Outcome.{Outcome}
@@ -74,7 +73,7 @@ named_at_start core starts named are place other this that a b same =
 module _ (old new : Hosted) (place : ℕ) (event : Event) (outcome : Outcome) (answer : Answer) (steps : Steps old new place event outcome answer) where
   own_before : (found : Option State) (state : State) → realm old place ≡ found → realm new place ≡ Some state → (before : State) × (realm old place ≡ Some before) × (state.head.name ≡ before.head.name)
   own_before None state none is = absurd (none-some state (sym (steps.absent none).1 ∙ is))
-  own_before (Some before) state here is = (before, here, ap (λ (s : State). s.head.name) (sym (same_Some _ state (sym (steps.own before here).1 ∙ is))) ∙ step-named today before event outcome)
+  own_before (Some before) state here is = (before, here, ap (λ (s : State). s.head.name) (sym (same_Some _ state (sym (steps.own before here).1 ∙ is))) ∙ step-named before event outcome)
 
   before_it : (at : ℕ) (state : State) → realm new at ≡ Some state → (before : State) × (realm old at ≡ Some before) × (state.head.name ≡ before.head.name)
   before_it at state is = elim (cases_eq at place) [

@@ -1,4 +1,4 @@
--- A connection that was opened to ask for a transaction in doubt, case by case.
+-- A connection that was opened to ask for a transaction in doubt, case by case, and what goes for any that has a purpose.
 use Rattle.std.proofs.Common.{◌≡◌, ◌≤◌, ◌<◌, Bool, true, false, cond, ℕ, List, [], ◌∷◌, Option, Some, None, refl, ap, arith, sym, subst, ◌∙◌}
 use Rattle.std.specs.Prelude.{◌&&◌, find, nat_le, option_map}
 use Rattle.std.specs.Option.{option_and_then, option_map_or}
@@ -18,10 +18,11 @@ use Rattle.tip_machine.specs.Changes.{change, send}
 use Rattle.tip_machine.specs.Connections.{advanced, advanced_to, has_number}
 use Rattle.tip_machine.specs.Failing.{closed, wrong}
 use Rattle.tip_machine.specs.Responses.{ask_superior, go_on, greeted, is_in_doubt, query_for}
-use Rattle.tip_machine.specs.States.{Work, connection_of, identified_by, transaction_of}
+use Rattle.tip_machine.specs.States.{State, Work, connection_of, identified_by, transaction_of}
 use Rattle.tip_machine.specs.Transactions.{is_decided_at}
 use Rattle.tip_machine.specs.Types.{Connection, Transaction}
 use Rattle.tip_machine.specs.declared.answer.Asked.TheVariants as asked
+use Rattle.tip_machine.specs.declared.connection.Awaited.{Awaited}
 use Rattle.tip_machine.specs.declared.connection.Awaited.TheVariants as awaited
 use Rattle.tip_machine.specs.declared.connection.Purpose.TheVariants as purposes
 use Rattle.tip_machine.specs.declared.connection.Role.{Role}
@@ -42,11 +43,11 @@ use Rattle.tip_core.specs.declared.noting.Note.TheVariants as note
 
 -- What it says
 
-pub word_there : (held : Held) (number place : ℕ) (item : Connection) → StandsAt held.connections held.realm (has_number number) place → item_at held.connections place ≡ Some item → (word : Option (List ℕ)) → word ≡ word_for (asked_for item.awaited) (work_of held).state → word ≡ word_at number (work_of held).state
-word_there held number place item here is word same = same ∙ sym (ap (λ o. word_for (option_and_then (λ (c : Connection). asked_for c.awaited) o) (work_of held).state) (standing_number held number place item here is))
+pub word_there : (held : Held) (number place : ℕ) (item : Connection) → StandsAt held.connections held.realm (has_number number) place → item_at held.connections place ≡ Some item → (word : Option (List ℕ)) → word ≡ word_for item.awaited (work_of held).state → word ≡ word_at number (work_of held).state
+word_there held number place item here is word same = same ∙ sym (ap (option_and_then (λ (c : Connection). word_for c.awaited (work_of held).state)) (standing_number held number place item here is))
 
 pub word_nowhere : (held : Held) (number : ℕ) → connection_of number (work_of held).state ≡ None → None ≡ word_at number (work_of held).state
-word_nowhere held number none = sym (ap (λ o. word_for (option_and_then (λ (c : Connection). asked_for c.awaited) o) (work_of held).state) none)
+word_nowhere held number none = sym (ap (option_and_then (λ (c : Connection). word_for c.awaited (work_of held).state)) none)
 
 pub ruleset wording = (word_there, word_nowhere)
 
@@ -90,9 +91,17 @@ kept_to : (to : Option (ConnectionState × Turn)) (c : Connection) → IsKept c 
 kept_to None c = record { number = refl; boxes = refl; peer = refl }
 kept_to (Some place) c = record { number = refl; boxes = refl; peer = refl }
 
--- Once it has gone on
+-- the transaction of an identifier is that of its key, once the connection has gone on
+open_then : (a b : Held) (number : ℕ) (id : List ℕ) (key : Key) (t : Transaction) → work_of b ≡ change number (advanced command.Identify names.Identified) (work_of a) → identified_by id (work_of a).state ≡ Some t → Some key ≡ Some t.key → transaction_of key (work_of b).state ≡ Some t
+open_then a b number id key t own is so =
+    ap (λ w. transaction_of key w.state) own ∙ ap (λ k. transaction_of k (work_of a).state) (same_Some key t.key so) ∙ by_id (work_of a).state.head.name id (work_of a).state.transactions t is
 
-module _ (a b d : Held) (number : ℕ) (c : Connection) (id : List ℕ) (found : connection_of number (work_of a).state ≡ Some c) (first : Does a b (change number (advanced command.Identify names.Identified) (work_of a))) where
+-- Once it has gone on, whatever it is to do about a transaction, if that is open
+
+module _ (rule : Option Transaction → Connection → Work → Work)
+    (alike : (found : Option Transaction) (e f : Connection) (w : Work) → f.number ≡ e.number → f.boxes ≡ e.boxes → f.role ≡ e.role → f.peer ≡ e.peer → rule found f w ≡ rule found e w)
+    (ends : (e : Connection) (w : Work) → rule None e w ≡ closed e w)
+    (a b d : Held) (number : ℕ) (c : Connection) (id : List ℕ) (found : connection_of number (work_of a).state ≡ Some c) (first : Does a b (change number (advanced command.Identify names.Identified) (work_of a))) where
   abbrev later : Connection
   later = advanced command.Identify names.Identified c
 
@@ -103,41 +112,58 @@ module _ (a b d : Held) (number : ℕ) (c : Connection) (id : List ℕ) (found :
   kept = kept_to (next_of command.Identify c.state names.Identified) c
 
   -- what it comes to of the connection as it was
-  asks_so : (o : Option Transaction) → identified_by id (work_of a).state ≡ o → (role : Option Role) → role ≡ c.role → Does b d (query_for o (record later { role = role }) (work_of b)) → Does a d (query_for (identified_by id (work_of a).state) c (go_on command.Identify names.Identified c (work_of a)))
-  asks_so o is role on does =
-      subst (λ p. Does a d (query_for p c (go_on command.Identify names.Identified c (work_of a)))) (sym is)
-      (subst (Does a d) (query_alike o c (record later { role = role }) (go_on command.Identify names.Identified c (work_of a)) kept.number kept.boxes on kept.peer)
-      (then a b d (query_for o (record later { role = role })) _ (goes_on a b number command.Identify names.Identified note.Nothing c found first) does))
+  pursues_so : (o : Option Transaction) → identified_by id (work_of a).state ≡ o → (role : Option Role) → role ≡ c.role → Does b d (rule o (record later { role = role }) (work_of b)) → Does a d (rule (identified_by id (work_of a).state) c (go_on command.Identify names.Identified c (work_of a)))
+  pursues_so o is role on does =
+      subst (λ p. Does a d (rule p c (go_on command.Identify names.Identified c (work_of a)))) (sym is)
+      (subst (Does a d) (alike o c (record later { role = role }) (go_on command.Identify names.Identified c (work_of a)) kept.number kept.boxes on kept.peer)
+      (then a b d (rule o (record later { role = role })) _ (goes_on a b number command.Identify names.Identified note.Nothing c found first) does))
 
-  pub asks_nobody : (role : Option Role) → role ≡ c.role → None ≡ option_map (λ t. t.key) (identified_by id (work_of a).state) → ((e : Connection) → connection_of number (work_of b).state ≡ Some e → Does b d (closed (record e { role = role }) (work_of b))) → Does a d (query_for (identified_by id (work_of a).state) c (go_on command.Identify names.Identified c (work_of a)))
-  asks_nobody role on none does = step (identified_by id (work_of a).state) refl none where
-    step : (o : Option Transaction) → identified_by id (work_of a).state ≡ o → None ≡ option_map (λ (t : Transaction). t.key) o → Does a d (query_for (identified_by id (work_of a).state) c (go_on command.Identify names.Identified c (work_of a)))
-    step None is so = asks_so None is role on (does later there)
+  pub pursues_nobody : (role : Option Role) → role ≡ c.role → None ≡ option_map (λ t. t.key) (identified_by id (work_of a).state) → ((e : Connection) → connection_of number (work_of b).state ≡ Some e → Does b d (closed (record e { role = role }) (work_of b))) → Does a d (rule (identified_by id (work_of a).state) c (go_on command.Identify names.Identified c (work_of a)))
+  pursues_nobody role on none does = step (identified_by id (work_of a).state) refl none where
+    step : (o : Option Transaction) → identified_by id (work_of a).state ≡ o → None ≡ option_map (λ (t : Transaction). t.key) o → Does a d (rule (identified_by id (work_of a).state) c (go_on command.Identify names.Identified c (work_of a)))
+    step None is so = pursues_so None is role on (subst (Does b d) (sym (ends (record later { role = role }) (work_of b))) (does later there))
     step (Some t) is so = absurd (none-some t.key so)
 
-  pub asks_one : (role : Option Role) (key : Key) → role ≡ c.role → Some key ≡ option_map (λ t. t.key) (identified_by id (work_of a).state) → ((e : Connection) → connection_of number (work_of b).state ≡ Some e → Does b d (query_for (transaction_of key (work_of b).state) (record e { role = role }) (work_of b))) → Does a d (query_for (identified_by id (work_of a).state) c (go_on command.Identify names.Identified c (work_of a)))
-  asks_one role key on some does = step (identified_by id (work_of a).state) refl some where
-    step : (o : Option Transaction) → identified_by id (work_of a).state ≡ o → Some key ≡ option_map (λ (t : Transaction). t.key) o → Does a d (query_for (identified_by id (work_of a).state) c (go_on command.Identify names.Identified c (work_of a)))
+  pub pursues_one : (role : Option Role) (key : Key) → role ≡ c.role → Some key ≡ option_map (λ t. t.key) (identified_by id (work_of a).state) → ((e : Connection) → connection_of number (work_of b).state ≡ Some e → Does b d (rule (transaction_of key (work_of b).state) (record e { role = role }) (work_of b))) → Does a d (rule (identified_by id (work_of a).state) c (go_on command.Identify names.Identified c (work_of a)))
+  pursues_one role key on some does = step (identified_by id (work_of a).state) refl some where
+    step : (o : Option Transaction) → identified_by id (work_of a).state ≡ o → Some key ≡ option_map (λ (t : Transaction). t.key) o → Does a d (rule (identified_by id (work_of a).state) c (go_on command.Identify names.Identified c (work_of a)))
     step None is so = absurd (none-some key (sym so))
-    step (Some t) is so =
-        let own : key ≡ t.key = same_Some key t.key so in
-        let open_there : transaction_of key (work_of b).state ≡ Some t = ap (λ w. transaction_of key w.state) first.own ∙ ap (λ k. transaction_of k (work_of a).state) own ∙ by_id (work_of a).state.head.name id (work_of a).state.transactions t is in
-        asks_so (Some t) is role on (subst (λ o. Does b d (query_for o (record later { role = role }) (work_of b))) open_there (does later there))
+    step (Some t) is so = pursues_so (Some t) is role on (subst (λ o. Does b d (rule o (record later { role = role }) (work_of b))) (open_then a b number id key t first.own is so) (does later there))
+
+module _ (a b d : Held) (number : ℕ) (c : Connection) (id : List ℕ) (found : connection_of number (work_of a).state ≡ Some c) (first : Does a b (change number (advanced command.Identify names.Identified) (work_of a))) where
+  pub asks_nobody : (role : Option Role) → role ≡ c.role → None ≡ option_map (λ t. t.key) (identified_by id (work_of a).state) → ((e : Connection) → connection_of number (work_of b).state ≡ Some e → Does b d (closed (record e { role = role }) (work_of b))) → Does a d (query_for (identified_by id (work_of a).state) c (go_on command.Identify names.Identified c (work_of a)))
+  asks_nobody = pursues_nobody query_for query_alike (λ e w. refl) a b d number c id found first
+
+  pub asks_one : (role : Option Role) (key : Key) → role ≡ c.role → Some key ≡ option_map (λ t. t.key) (identified_by id (work_of a).state) → ((e : Connection) → connection_of number (work_of b).state ≡ Some e → Does b d (query_for (transaction_of key (work_of b).state) (record e { role = role }) (work_of b))) → Does a d (query_for (identified_by id (work_of a).state) c (go_on command.Identify names.Identified c (work_of a)))
+  asks_one = pursues_one query_for query_alike (λ e w. refl) a b d number c id found first
 
 -- the word is that of the transaction of the key
+worded_to_ask : (state : State) (a : Option Awaited) (id : List ℕ) → asked_for a ≡ Some id → word_for a state ≡ superior_of (identified_by id state)
+worded_to_ask state None id is = absurd (none-some id is)
+worded_to_ask state (Some (awaited.Identify purposes.Plain)) id is = absurd (none-some id is)
+worded_to_ask state (Some (awaited.Identify (purposes.Query other))) id is = ap (λ i. superior_of (identified_by i state)) (same_Some other id is)
+worded_to_ask state (Some (awaited.Identify (purposes.Reconnect other place))) id is = absurd (none-some id is)
+worded_to_ask state (Some awaited.Push) id is = absurd (none-some id is)
+worded_to_ask state (Some awaited.Pull) id is = absurd (none-some id is)
+worded_to_ask state (Some awaited.Prepare) id is = absurd (none-some id is)
+worded_to_ask state (Some awaited.Commit) id is = absurd (none-some id is)
+worded_to_ask state (Some awaited.Abort) id is = absurd (none-some id is)
+worded_to_ask state (Some (awaited.Query key)) id is = absurd (none-some id is)
+worded_to_ask state (Some awaited.Reconnect) id is = absurd (none-some id is)
+
+-- the same of what is said of a transaction, once the connection has gone on
+pub said_keyed : (says : Option Transaction → Option (List ℕ)) (a b : Held) (number : ℕ) (id : List ℕ) (key : Key) → Some key ≡ option_map (λ t. t.key) (identified_by id (work_of a).state) → Does a b (change number (advanced command.Identify names.Identified) (work_of a)) → says (identified_by id (work_of a).state) ≡ says (transaction_of key (work_of b).state)
+said_keyed says a b number id key some first = step (identified_by id (work_of a).state) refl some where
+  step : (o : Option Transaction) → identified_by id (work_of a).state ≡ o → Some key ≡ option_map (λ (t : Transaction). t.key) o → says (identified_by id (work_of a).state) ≡ says (transaction_of key (work_of b).state)
+  step None is so = absurd (none-some key (sym so))
+  step (Some t) is so = ap says (is ∙ sym (open_then a b number id key t first.own is so))
+
 pub word_keyed : (a b : Held) (number : ℕ) (c : Connection) (key : Key) (word : Option (List ℕ)) → connection_of number (work_of a).state ≡ Some c → Some key ≡ option_and_then (key_of (work_of a).state) (asked_for c.awaited) → Does a b (change number (advanced command.Identify names.Identified) (work_of a)) → word ≡ word_at number (work_of a).state → word ≡ superior_of (transaction_of key (work_of b).state)
 word_keyed a b number c key word found some first is =
-    is ∙ ap (λ o. word_for (option_and_then (λ (d : Connection). asked_for d.awaited) o) (work_of a).state) found ∙ by (asked_for c.awaited) some where
-      at : (o : Option Transaction) (id : List ℕ) → identified_by id (work_of a).state ≡ o → Some key ≡ option_map (λ (t : Transaction). t.key) o → superior_of (identified_by id (work_of a).state) ≡ superior_of (transaction_of key (work_of b).state)
-      at None id same so = absurd (none-some key (sym so))
-      at (Some t) id same so =
-          let own : key ≡ t.key = same_Some key t.key so in
-          let open_there : transaction_of key (work_of b).state ≡ Some t = ap (λ w. transaction_of key w.state) first.own ∙ ap (λ k. transaction_of k (work_of a).state) own ∙ by_id (work_of a).state.head.name id (work_of a).state.transactions t same in
-          ap superior_of (same ∙ sym open_there)
-
-      by : (asks : Option (List ℕ)) → Some key ≡ option_and_then (key_of (work_of a).state) asks → word_for asks (work_of a).state ≡ superior_of (transaction_of key (work_of b).state)
-      by None so = absurd (none-some key (sym so))
-      by (Some id) so = at (identified_by id (work_of a).state) id refl so
+    is ∙ ap (option_and_then (λ (d : Connection). word_for d.awaited (work_of a).state)) found ∙ by (asked_for c.awaited) refl some where
+      by : (asks : Option (List ℕ)) → asked_for c.awaited ≡ asks → Some key ≡ option_and_then (key_of (work_of a).state) asks → word_for c.awaited (work_of a).state ≡ superior_of (transaction_of key (work_of b).state)
+      by None at so = absurd (none-some key (sym so))
+      by (Some id) at so = worded_to_ask (work_of a).state c.awaited id at ∙ said_keyed superior_of a b number id key so first
 
 -- the key that was found
 pub key_none : (held : Held) (id : List ℕ) → identified_by id (work_of held).state ≡ None → None ≡ key_of (work_of held).state id

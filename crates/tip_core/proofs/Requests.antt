@@ -44,33 +44,33 @@ pub ruleset sending_as = (sent_as)
 -- On a connection that is there and free
 
 module _ (a b : Held) (seat : Seat) (text : List ℕ) where
-  pub push_stale : seated seat (work_of a).state ≡ None → Does a b (refuse Stale (work_of a)) → Does a b (ask_push true (seated seat (work_of a).state) text (work_of a))
+  pub push_stale : seated seat (work_of a).state ≡ None → Does a b (refuse Stale (work_of a)) → Does a b (ask_push (seated seat (work_of a).state) text (work_of a))
   unfolding ask_push
-  push_stale none does = subst (λ o. Does a b (ask_push true o text (work_of a))) (sym none) does
+  push_stale none does = subst (λ o. Does a b (ask_push o text (work_of a))) (sym none) does
 
-  pub pull_stale : seated seat (work_of a).state ≡ None → Does a b (refuse Stale (work_of a)) → Does a b (ask_pull true (seated seat (work_of a).state) text (work_of a))
+  pub pull_stale : seated seat (work_of a).state ≡ None → Does a b (refuse Stale (work_of a)) → Does a b (ask_pull (seated seat (work_of a).state) text (work_of a))
   unfolding ask_pull
-  pull_stale none does = subst (λ o. Does a b (ask_pull true o text (work_of a))) (sym none) does
+  pull_stale none does = subst (λ o. Does a b (ask_pull o text (work_of a))) (sym none) does
 
   module _ (c : Connection) (same : seated seat (work_of a).state ≡ connection_of seat.number (work_of a).state) (there : connection_of seat.number (work_of a).state ≡ Some c) where
-    push_so : (free : Bool) → is_free c ≡ free → Does a b (cond free (push_part (identified_by text (work_of a).state) c.peer c.number (work_of a)) (refuse Busy (work_of a))) → Does a b (ask_push true (seated seat (work_of a).state) text (work_of a))
+    push_so : (free : Bool) → is_free c ≡ free → Does a b (cond free (push_part (identified_by text (work_of a).state) c.peer c.number (work_of a)) (refuse Busy (work_of a))) → Does a b (ask_push (seated seat (work_of a).state) text (work_of a))
     unfolding ask_push
-    push_so free is does = subst (λ o. Does a b (ask_push true o text (work_of a))) (sym (same ∙ there)) (subst (λ f. Does a b (cond f (push_part (identified_by text (work_of a).state) c.peer c.number (work_of a)) (refuse Busy (work_of a)))) (sym is) does)
+    push_so free is does = subst (λ o. Does a b (ask_push o text (work_of a))) (sym (same ∙ there)) (subst (λ f. Does a b (cond f (push_part (identified_by text (work_of a).state) c.peer c.number (work_of a)) (refuse Busy (work_of a)))) (sym is) does)
 
-    pub push_busy : is_free c ≡ false → Does a b (refuse Busy (work_of a)) → Does a b (ask_push true (seated seat (work_of a).state) text (work_of a))
+    pub push_busy : is_free c ≡ false → Does a b (refuse Busy (work_of a)) → Does a b (ask_push (seated seat (work_of a).state) text (work_of a))
     push_busy is does = push_so false is does
 
-    pub push_free : is_free c ≡ true → ((d : Connection) → connection_of seat.number (work_of a).state ≡ Some d → Does a b (push_part (identified_by text (work_of a).state) d.peer d.number (work_of a))) → Does a b (ask_push true (seated seat (work_of a).state) text (work_of a))
+    pub push_free : is_free c ≡ true → ((d : Connection) → connection_of seat.number (work_of a).state ≡ Some d → Does a b (push_part (identified_by text (work_of a).state) d.peer d.number (work_of a))) → Does a b (ask_push (seated seat (work_of a).state) text (work_of a))
     push_free is does = push_so true is (does c there)
 
-    pull_so : (free : Bool) → is_free c ≡ free → Does a b (cond free (pull_if (find (is_known c.peer text) (work_of a).state.transactions) text c (work_of a)) (refuse Busy (work_of a))) → Does a b (ask_pull true (seated seat (work_of a).state) text (work_of a))
+    pull_so : (free : Bool) → is_free c ≡ free → Does a b (cond free (pull_if (find (is_known c.peer text) (work_of a).state.transactions) text c (work_of a)) (refuse Busy (work_of a))) → Does a b (ask_pull (seated seat (work_of a).state) text (work_of a))
     unfolding ask_pull
-    pull_so free is does = subst (λ o. Does a b (ask_pull true o text (work_of a))) (sym (same ∙ there)) (subst (λ f. Does a b (cond f (pull_if (find (is_known c.peer text) (work_of a).state.transactions) text c (work_of a)) (refuse Busy (work_of a)))) (sym is) does)
+    pull_so free is does = subst (λ o. Does a b (ask_pull o text (work_of a))) (sym (same ∙ there)) (subst (λ f. Does a b (cond f (pull_if (find (is_known c.peer text) (work_of a).state.transactions) text c (work_of a)) (refuse Busy (work_of a)))) (sym is) does)
 
-    pub pull_busy : is_free c ≡ false → Does a b (refuse Busy (work_of a)) → Does a b (ask_pull true (seated seat (work_of a).state) text (work_of a))
+    pub pull_busy : is_free c ≡ false → Does a b (refuse Busy (work_of a)) → Does a b (ask_pull (seated seat (work_of a).state) text (work_of a))
     pull_busy is does = pull_so false is does
 
-    pub pull_free : is_free c ≡ true → ((d : Connection) → connection_of seat.number (work_of a).state ≡ Some d → Does a b (pull_if (find (is_known d.peer text) (work_of a).state.transactions) text d (work_of a))) → Does a b (ask_pull true (seated seat (work_of a).state) text (work_of a))
+    pub pull_free : is_free c ≡ true → ((d : Connection) → connection_of seat.number (work_of a).state ≡ Some d → Does a b (pull_if (find (is_known d.peer text) (work_of a).state.transactions) text d (work_of a))) → Does a b (ask_pull (seated seat (work_of a).state) text (work_of a))
     pull_free is does = pull_so true is (does c there)
 
 pub ruleset asking_push = (push_stale, push_busy, push_free)

@@ -27,7 +27,6 @@ use Rattle.tip_machine.specs.Failing.{wrong}
 use Rattle.tip_machine.specs.Proceeding.{proceed}
 use Rattle.tip_machine.specs.Requests.{hear}
 use Rattle.tip_machine.specs.Responses.{abort_as, answered_by, go_on, greeted, responded}
-use Rattle.tip_machine.specs.Served.{is_heard, today}
 use Rattle.tip_machine.specs.States.{Attempt, Work, connection_of}
 use Rattle.tip_machine.specs.Steps.{chosen}
 use Rattle.tip_machine.specs.Transactions.{has_key, noting}
@@ -45,7 +44,7 @@ use Rattle.tip_core.proofs.Works.{may_idle, nothing, then, unaltered}
 use Rattle.tip_core.specs.Noting.{awaits_of, exists_of, identifying, note_of, noted, noting_as, part_of, pulled_of, pulling, querying, responding, version_of}
 use Rattle.tip_core.specs.declared.noting.Awaits.{Awaits}
 use Rattle.tip_core.specs.declared.noting.Awaits.TheVariants as awaits
-use Rattle.tip_core.specs.Pursuing.{asked_for}
+use Rattle.tip_core.specs.Pursuing.{aimed_at, asked_for}
 use Rattle.tip_core.specs.Works.{Does, Held, IsIdle, key_queried, lines_as, lines_at, lines_for, lines_queried, work_of}
 use Rattle.tip_core.specs.declared.noting.Note.{Note}
 use Rattle.tip_core.specs.declared.noting.Note.TheVariants as note
@@ -57,7 +56,7 @@ command_in awaits.Nothing = None
 command_in (awaits.OfPart name) = Some name
 command_in awaits.Identified = None
 command_in awaits.ToAsk = None
-command_in awaits.Aimed = None
+command_in awaits.ToReach = None
 command_in awaits.Pulled = None
 command_in (awaits.Queried key) = None
 
@@ -122,38 +121,38 @@ key_in awaits.Nothing = None
 key_in (awaits.OfPart name) = None
 key_in awaits.Identified = None
 key_in awaits.ToAsk = None
-key_in awaits.Aimed = None
+key_in awaits.ToReach = None
 key_in awaits.Pulled = None
 key_in (awaits.Queried key) = Some key
 
 module _ (said : AResponse) (c : Connection) (w : Work) where
-  hears_at : (a : Option Awaited) → c.awaited ≡ a → hear today Primary (Response said) c w ≡ cond (is_heard a) (answered_by a said c w) (Attempt.Done (wrong c w))
-  hears_at a is = ap (λ b. cond (is_heard b) (answered_by b said c w) (Attempt.Done (wrong c w))) is
+  hears_at : (a : Option Awaited) → c.awaited ≡ a → hear Primary (Response said) c w ≡ answered_by a said c w
+  hears_at a is = ap (λ b. answered_by b said c w) is
 
-  pub hears_part : (name : CommandName) → awaits_of c.awaited ≡ awaits.OfPart name → hear today Primary (Response said) c w ≡ responding (note_of c.awaited said) name said c w
+  pub hears_part : (name : CommandName) → awaits_of c.awaited ≡ awaits.OfPart name → hear Primary (Response said) c w ≡ responding (note_of c.awaited said) name said c w
   hears_part name so = step c.awaited refl where
-    as_asked : (a : Awaited) → c.awaited ≡ Some a → is_heard (Some a) ≡ true → hear today Primary (Response said) c w ≡ responding (note_of c.awaited said) name said c w
-    as_asked a is heard =
-        hears_at (Some a) is ∙ ap (λ b. cond b (responded a said c w) (Attempt.Done (wrong c w))) heard
+    as_asked : (a : Awaited) → c.awaited ≡ Some a → hear Primary (Response said) c w ≡ responding (note_of c.awaited said) name said c w
+    as_asked a is =
+        hears_at (Some a) is
         ∙ responds_if (command_in (awaits_of (Some a))) name (λ n. responded a said c w ≡ responding (note_of (Some a) said) n said c w) (ap command_in (sym (ap awaits_of is) ∙ so)) (responds_to a said c w)
         ∙ sym (ap (λ b. responding (note_of b said) name said c w) is)
 
-    step : (a : Option Awaited) → c.awaited ≡ a → hear today Primary (Response said) c w ≡ responding (note_of c.awaited said) name said c w
+    step : (a : Option Awaited) → c.awaited ≡ a → hear Primary (Response said) c w ≡ responding (note_of c.awaited said) name said c w
     step None is = absurd (none-some name (ap command_in (sym (ap awaits_of is) ∙ so)))
     step (Some (awaited.Identify purposes.Plain)) is = absurd (none-some name (ap command_in (sym (ap awaits_of is) ∙ so)))
     step (Some (awaited.Identify (purposes.Query id))) is = absurd (none-some name (ap command_in (sym (ap awaits_of is) ∙ so)))
     step (Some (awaited.Identify (purposes.Reconnect id place))) is = absurd (none-some name (ap command_in (sym (ap awaits_of is) ∙ so)))
-    step (Some awaited.Push) is = as_asked awaited.Push is refl
+    step (Some awaited.Push) is = as_asked awaited.Push is
     step (Some awaited.Pull) is = absurd (none-some name (ap command_in (sym (ap awaits_of is) ∙ so)))
-    step (Some awaited.Prepare) is = as_asked awaited.Prepare is refl
-    step (Some awaited.Commit) is = as_asked awaited.Commit is refl
-    step (Some awaited.Abort) is = as_asked awaited.Abort is refl
+    step (Some awaited.Prepare) is = as_asked awaited.Prepare is
+    step (Some awaited.Commit) is = as_asked awaited.Commit is
+    step (Some awaited.Abort) is = as_asked awaited.Abort is
     step (Some (awaited.Query key)) is = absurd (none-some name (ap command_in (sym (ap awaits_of is) ∙ so)))
-    step (Some awaited.Reconnect) is = as_asked awaited.Reconnect is refl
+    step (Some awaited.Reconnect) is = as_asked awaited.Reconnect is
 
-  pub hears_pull : awaits_of c.awaited ≡ awaits.Pulled → hear today Primary (Response said) c w ≡ pulling (pulled_of said) said c w
+  pub hears_pull : awaits_of c.awaited ≡ awaits.Pulled → hear Primary (Response said) c w ≡ pulling (pulled_of said) said c w
   hears_pull so = step c.awaited refl where
-    step : (a : Option Awaited) → c.awaited ≡ a → hear today Primary (Response said) c w ≡ pulling (pulled_of said) said c w
+    step : (a : Option Awaited) → c.awaited ≡ a → hear Primary (Response said) c w ≡ pulling (pulled_of said) said c w
     step None is = absurd (let no = sym (ap awaits_of is) ∙ so in cc)
     step (Some (awaited.Identify purposes.Plain)) is = absurd (let no = sym (ap awaits_of is) ∙ so in cc)
     step (Some (awaited.Identify (purposes.Query id))) is = absurd (let no = sym (ap awaits_of is) ∙ so in cc)
@@ -166,12 +165,12 @@ module _ (said : AResponse) (c : Connection) (w : Work) where
     step (Some (awaited.Query key)) is = absurd (let no = sym (ap awaits_of is) ∙ so in cc)
     step (Some awaited.Reconnect) is = absurd (let no = sym (ap awaits_of is) ∙ so in cc)
 
-  pub hears_query : (key : Key) → awaits_of c.awaited ≡ awaits.Queried key → hear today Primary (Response said) c w ≡ querying (exists_of said) key said c w
+  pub hears_query : (key : Key) → awaits_of c.awaited ≡ awaits.Queried key → hear Primary (Response said) c w ≡ querying (exists_of said) key said c w
   hears_query key so = step c.awaited refl where
     no : (a : Option Awaited) → c.awaited ≡ a → key_in (awaits_of a) ≡ None → {T : Type 0} → T
     no a is none = absurd (none-some key (sym none ∙ ap key_in (sym (ap awaits_of is) ∙ so)))
 
-    step : (a : Option Awaited) → c.awaited ≡ a → hear today Primary (Response said) c w ≡ querying (exists_of said) key said c w
+    step : (a : Option Awaited) → c.awaited ≡ a → hear Primary (Response said) c w ≡ querying (exists_of said) key said c w
     step None is = no None is refl
     step (Some (awaited.Identify purposes.Plain)) is = no (Some (awaited.Identify purposes.Plain)) is refl
     step (Some (awaited.Identify (purposes.Query id))) is = no (Some (awaited.Identify (purposes.Query id))) is refl
@@ -184,9 +183,9 @@ module _ (said : AResponse) (c : Connection) (w : Work) where
     step (Some (awaited.Query other)) is = hears_at (Some (awaited.Query other)) is ∙ queries other said c w ∙ ap (λ k. querying (exists_of said) k said c w) (same_Some other key (ap key_in (sym (ap awaits_of is) ∙ so)))
     step (Some awaited.Reconnect) is = no (Some awaited.Reconnect) is refl
 
-  pub hears_identified : awaits_of c.awaited ≡ awaits.Identified → hear today Primary (Response said) c w ≡ identifying (version_of said) purposes.Plain said c w
+  pub hears_identified : awaits_of c.awaited ≡ awaits.Identified → hear Primary (Response said) c w ≡ identifying (version_of said) purposes.Plain said c w
   hears_identified so = step c.awaited refl where
-    step : (a : Option Awaited) → c.awaited ≡ a → hear today Primary (Response said) c w ≡ identifying (version_of said) purposes.Plain said c w
+    step : (a : Option Awaited) → c.awaited ≡ a → hear Primary (Response said) c w ≡ identifying (version_of said) purposes.Plain said c w
     step None is = absurd (let no = sym (ap awaits_of is) ∙ so in cc)
     step (Some (awaited.Identify purposes.Plain)) is = hears_at (Some (awaited.Identify purposes.Plain)) is ∙ identifies purposes.Plain said c w
     step (Some (awaited.Identify (purposes.Query id))) is = absurd (let no = sym (ap awaits_of is) ∙ so in cc)
@@ -199,9 +198,9 @@ module _ (said : AResponse) (c : Connection) (w : Work) where
     step (Some (awaited.Query key)) is = absurd (let no = sym (ap awaits_of is) ∙ so in cc)
     step (Some awaited.Reconnect) is = absurd (let no = sym (ap awaits_of is) ∙ so in cc)
 
-  pub hears_to_ask : awaits_of c.awaited ≡ awaits.ToAsk → (id : List ℕ) × ((asked_for c.awaited ≡ Some id) × (hear today Primary (Response said) c w ≡ identifying (version_of said) (purposes.Query id) said c w))
+  pub hears_to_ask : awaits_of c.awaited ≡ awaits.ToAsk → (id : List ℕ) × ((asked_for c.awaited ≡ Some id) × (hear Primary (Response said) c w ≡ identifying (version_of said) (purposes.Query id) said c w))
   hears_to_ask so = step c.awaited refl where
-    step : (a : Option Awaited) → c.awaited ≡ a → (id : List ℕ) × ((asked_for c.awaited ≡ Some id) × (hear today Primary (Response said) c w ≡ identifying (version_of said) (purposes.Query id) said c w))
+    step : (a : Option Awaited) → c.awaited ≡ a → (id : List ℕ) × ((asked_for c.awaited ≡ Some id) × (hear Primary (Response said) c w ≡ identifying (version_of said) (purposes.Query id) said c w))
     step None is = absurd (let no = sym (ap awaits_of is) ∙ so in cc)
     step (Some (awaited.Identify purposes.Plain)) is = absurd (let no = sym (ap awaits_of is) ∙ so in cc)
     step (Some (awaited.Identify (purposes.Query id))) is = (id, (ap asked_for is, hears_at (Some (awaited.Identify (purposes.Query id))) is ∙ identifies (purposes.Query id) said c w))
@@ -214,27 +213,58 @@ module _ (said : AResponse) (c : Connection) (w : Work) where
     step (Some (awaited.Query key)) is = absurd (let no = sym (ap awaits_of is) ∙ so in cc)
     step (Some awaited.Reconnect) is = absurd (let no = sym (ap awaits_of is) ∙ so in cc)
 
-  hears_unheard : (a : Option Awaited) → c.awaited ≡ a → is_heard a ≡ false → hear today Primary (Response said) c w ≡ Attempt.Done (wrong c w)
-  hears_unheard a is not = hears_at a is ∙ ap (λ b. cond b (answered_by a said c w) (Attempt.Done (wrong c w))) not
+  pub hears_to_reach : awaits_of c.awaited ≡ awaits.ToReach → (aim : List ℕ × ℕ) × ((aimed_at c.awaited ≡ Some aim) × (hear Primary (Response said) c w ≡ identifying (version_of said) (purposes.Reconnect aim.0 aim.1) said c w))
+  hears_to_reach so = step c.awaited refl where
+    step : (a : Option Awaited) → c.awaited ≡ a → (aim : List ℕ × ℕ) × ((aimed_at c.awaited ≡ Some aim) × (hear Primary (Response said) c w ≡ identifying (version_of said) (purposes.Reconnect aim.0 aim.1) said c w))
+    step None is = absurd (let no = sym (ap awaits_of is) ∙ so in cc)
+    step (Some (awaited.Identify purposes.Plain)) is = absurd (let no = sym (ap awaits_of is) ∙ so in cc)
+    step (Some (awaited.Identify (purposes.Query id))) is = absurd (let no = sym (ap awaits_of is) ∙ so in cc)
+    step (Some (awaited.Identify (purposes.Reconnect id place))) is = ((id, place), (ap aimed_at is, hears_at (Some (awaited.Identify (purposes.Reconnect id place))) is ∙ identifies (purposes.Reconnect id place) said c w))
+    step (Some awaited.Push) is = absurd (let no = sym (ap awaits_of is) ∙ so in cc)
+    step (Some awaited.Pull) is = absurd (let no = sym (ap awaits_of is) ∙ so in cc)
+    step (Some awaited.Prepare) is = absurd (let no = sym (ap awaits_of is) ∙ so in cc)
+    step (Some awaited.Commit) is = absurd (let no = sym (ap awaits_of is) ∙ so in cc)
+    step (Some awaited.Abort) is = absurd (let no = sym (ap awaits_of is) ∙ so in cc)
+    step (Some (awaited.Query key)) is = absurd (let no = sym (ap awaits_of is) ∙ so in cc)
+    step (Some awaited.Reconnect) is = absurd (let no = sym (ap awaits_of is) ∙ so in cc)
 
-  pub hears_nothing : is_heard c.awaited ≡ false → hear today Primary (Response said) c w ≡ Attempt.Done (wrong c w)
-  hears_nothing not = hears_unheard c.awaited refl not
+  pub hears_nothing : c.awaited ≡ None → hear Primary (Response said) c w ≡ Attempt.Done w
+  hears_nothing is = hears_at None is
+
+  pub nothing_awaited : (a : Option Awaited) → awaits_of a ≡ awaits.Nothing → a ≡ None
+  nothing_awaited None so = refl
+  nothing_awaited (Some (awaited.Identify purposes.Plain)) so = absurd (let no = so in cc)
+  nothing_awaited (Some (awaited.Identify (purposes.Query id))) so = absurd (let no = so in cc)
+  nothing_awaited (Some (awaited.Identify (purposes.Reconnect id place))) so = absurd (let no = so in cc)
+  nothing_awaited (Some awaited.Push) so = absurd (let no = so in cc)
+  nothing_awaited (Some awaited.Pull) so = absurd (let no = so in cc)
+  nothing_awaited (Some awaited.Prepare) so = absurd (let no = so in cc)
+  nothing_awaited (Some awaited.Commit) so = absurd (let no = so in cc)
+  nothing_awaited (Some awaited.Abort) so = absurd (let no = so in cc)
+  nothing_awaited (Some (awaited.Query key)) so = absurd (let no = so in cc)
+  nothing_awaited (Some awaited.Reconnect) so = absurd (let no = so in cc)
 
 module _ (a b : Held) (said : AResponse) (c : Connection) (outcome : Outcome) where
-  pub answered_part : (name : CommandName) → awaits_of c.awaited ≡ awaits.OfPart name → Does a b (chosen (responding (note_of c.awaited said) name said c (work_of a)) outcome) → Does a b (chosen (hear today Primary (Response said) c (work_of a)) outcome)
+  pub answered_part : (name : CommandName) → awaits_of c.awaited ≡ awaits.OfPart name → Does a b (chosen (responding (note_of c.awaited said) name said c (work_of a)) outcome) → Does a b (chosen (hear Primary (Response said) c (work_of a)) outcome)
   answered_part name is does = subst (λ t. Does a b (chosen t outcome)) (sym (hears_part said c (work_of a) name is)) does
 
-  pub answered_pull : awaits_of c.awaited ≡ awaits.Pulled → Does a b (chosen (pulling (pulled_of said) said c (work_of a)) outcome) → Does a b (chosen (hear today Primary (Response said) c (work_of a)) outcome)
+  pub answered_pull : awaits_of c.awaited ≡ awaits.Pulled → Does a b (chosen (pulling (pulled_of said) said c (work_of a)) outcome) → Does a b (chosen (hear Primary (Response said) c (work_of a)) outcome)
   answered_pull is does = subst (λ t. Does a b (chosen t outcome)) (sym (hears_pull said c (work_of a) is)) does
 
-  pub answered_query : (key : Key) → awaits_of c.awaited ≡ awaits.Queried key → Does a b (chosen (querying (exists_of said) key said c (work_of a)) outcome) → Does a b (chosen (hear today Primary (Response said) c (work_of a)) outcome)
+  pub answered_query : (key : Key) → awaits_of c.awaited ≡ awaits.Queried key → Does a b (chosen (querying (exists_of said) key said c (work_of a)) outcome) → Does a b (chosen (hear Primary (Response said) c (work_of a)) outcome)
   answered_query key is does = subst (λ t. Does a b (chosen t outcome)) (sym (hears_query said c (work_of a) key is)) does
 
-  pub answered_identified : awaits_of c.awaited ≡ awaits.Identified → Does a b (chosen (identifying (version_of said) purposes.Plain said c (work_of a)) outcome) → Does a b (chosen (hear today Primary (Response said) c (work_of a)) outcome)
+  pub answered_identified : awaits_of c.awaited ≡ awaits.Identified → Does a b (chosen (identifying (version_of said) purposes.Plain said c (work_of a)) outcome) → Does a b (chosen (hear Primary (Response said) c (work_of a)) outcome)
   answered_identified is does = subst (λ t. Does a b (chosen t outcome)) (sym (hears_identified said c (work_of a) is)) does
 
-  pub answered_to_ask : awaits_of c.awaited ≡ awaits.ToAsk → ((id : List ℕ) → asked_for c.awaited ≡ Some id → Does a b (chosen (identifying (version_of said) (purposes.Query id) said c (work_of a)) outcome)) → Does a b (chosen (hear today Primary (Response said) c (work_of a)) outcome)
+  pub answered_to_ask : awaits_of c.awaited ≡ awaits.ToAsk → ((id : List ℕ) → asked_for c.awaited ≡ Some id → Does a b (chosen (identifying (version_of said) (purposes.Query id) said c (work_of a)) outcome)) → Does a b (chosen (hear Primary (Response said) c (work_of a)) outcome)
   answered_to_ask is does = let heard = hears_to_ask said c (work_of a) is in subst (λ t. Does a b (chosen t outcome)) (sym heard.1.1) (does heard.0 heard.1.0)
+
+  pub answered_to_reach : awaits_of c.awaited ≡ awaits.ToReach → ((id : List ℕ) (place : ℕ) → aimed_at c.awaited ≡ Some (id, place) → Does a b (chosen (identifying (version_of said) (purposes.Reconnect id place) said c (work_of a)) outcome)) → Does a b (chosen (hear Primary (Response said) c (work_of a)) outcome)
+  answered_to_reach is does = let heard = hears_to_reach said c (work_of a) is in subst (λ t. Does a b (chosen t outcome)) (sym heard.1.1) (does heard.0.0 heard.0.1 heard.1.0)
+
+pub answered_nothing : (a : Held) (said : AResponse) (c : Connection) → awaits_of c.awaited ≡ awaits.Nothing → Does a a (chosen (hear Primary (Response said) c (work_of a)) a.outcome)
+answered_nothing a said c is = subst (λ t. Does a a (chosen t a.outcome)) (sym (hears_nothing said c (work_of a) (nothing_awaited said c (work_of a) c.awaited is))) (nothing a)
 
 -- the lines of the transaction that is asked for
 pub queried_lines : (held : Held) (number : ℕ) (c : Connection) (key : Key) → connection_of number (work_of held).state ≡ Some c → awaits_of c.awaited ≡ awaits.Queried key → lines_queried number (work_of held).state ≤ held.making.free → lines_for key (work_of held).state ≤ held.making.free

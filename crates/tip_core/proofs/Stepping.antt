@@ -12,7 +12,6 @@ use Rattle.tip_machine.specs.Counts.{HasCounts, IsBelow}
 use Rattle.tip_machine.specs.Heads.{starting}
 use Rattle.tip_machine.specs.Order.{in_turn, ordered}
 use Rattle.tip_machine.specs.Runs.{unstored_outcome}
-use Rattle.tip_machine.specs.Served.{today}
 use Rattle.tip_machine.specs.States.{Attempt, State, started}
 use Rattle.tip_machine.specs.Steps.{attempt, chosen, entered, fits, frozen, is_open, nowhere, returned, step}
 use Rattle.tip_machine.specs.Types.{Answer, Connection, Event, seen}
@@ -78,14 +77,14 @@ module _ (state : State) (event : Event) (outcome : Outcome) where
   pub answers_in_order : in_order state.connections (happened state event outcome).answer ≡ (step state event outcome).answer
   unfolding ordered
   answers_in_order = by (is_open state) where
-    by : (b : Bool) → in_order state.connections (cond b (chosen (attempt today event (entered state)) outcome) (frozen event state)).answer ≡ (cond b (ordered state (chosen (attempt today event (entered state)) outcome)) (frozen event state)).answer
-    by true = ap (λ sent. record (chosen (attempt today event (entered state)) outcome).answer { sent = sent }) (in_turn_of_state state (chosen (attempt today event (entered state)) outcome).answer.sent)
+    by : (b : Bool) → in_order state.connections (cond b (chosen (attempt event (entered state)) outcome) (frozen event state)).answer ≡ (cond b (ordered state (chosen (attempt event (entered state)) outcome)) (frozen event state)).answer
+    by true = ap (λ sent. record (chosen (attempt event (entered state)) outcome).answer { sent = sent }) (in_turn_of_state state (chosen (attempt event (entered state)) outcome).answer.sent)
     by false = returned_in_order (map noted state.connections) Frozen event
 
   pub state_stays : (happened state event outcome).state ≡ (step state event outcome).state
   unfolding ordered
   state_stays = by (is_open state) where
-    by : (b : Bool) → (cond b (chosen (attempt today event (entered state)) outcome) (frozen event state)).state ≡ (cond b (ordered state (chosen (attempt today event (entered state)) outcome)) (frozen event state)).state
+    by : (b : Bool) → (cond b (chosen (attempt event (entered state)) outcome) (frozen event state)).state ≡ (cond b (ordered state (chosen (attempt event (entered state)) outcome)) (frozen event state)).state
     by true = refl
     by false = refl
 
@@ -111,7 +110,7 @@ module _ (old new : Realms) (place : ℕ) (event : Event) (outcome : Outcome) (m
 
   pub counted : HaveCounts old → HaveCounts new
   counted before other less = elim (cases_eq other place) [
-    | inl same ↦ subst (λ p. HasCounts (state_in p new)) (sym same) (subst HasCounts (sym went) (counts_stay today (state_in place old) event outcome (before place lt)))
+    | inl same ↦ subst (λ p. HasCounts (state_in p new)) (sym same) (subst HasCounts (sym went) (counts_stay (state_in place old) event outcome (before place lt)))
     | inr differ ↦ subst HasCounts (sym (does.others other differ)) (before other (omega (arith, does.count, less)))
   ]
 
@@ -172,7 +171,7 @@ refused_alike (Attempt.Asks change stored refused) = refl
 
 unstored_alike : (state : State) (event : Event) (change : Option Change) → step state event (unstored_outcome change) ≡ step state event NoChange
 unstored_alike state event None = refl
-unstored_alike state event (Some change) = ap (λ work. cond (is_open state) (ordered state work) (frozen event state)) (refused_alike (attempt today event (entered state)))
+unstored_alike state event (Some change) = ap (λ work. cond (is_open state) (ordered state work) (frozen event state)) (refused_alike (attempt event (entered state)))
 
 pub unstored_steps : (old new : Hosted) (place : ℕ) (event : Event) (change : Option Change) (answer : Answer) → Steps old new place event (unstored_outcome change) answer → Steps old new place event NoChange answer
 unstored_steps old new place event change answer steps = record {

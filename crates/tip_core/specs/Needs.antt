@@ -5,7 +5,6 @@ use Rattle.tip_line.specs.declared.command.Command.TheVariants as commands
 use Rattle.tip_table.specs.Kept.{of}
 use Rattle.tip_machine.specs.Given.{are_numbered}
 use Rattle.tip_machine.specs.Requests.{owner}
-use Rattle.tip_machine.specs.Served.{today}
 use Rattle.tip_machine.specs.States.{State, Work, connection_of, has_room}
 use Rattle.tip_machine.specs.Steps.{attempt, chosen, entered, frozen, is_open, wants}
 use Rattle.tip_machine.specs.Transactions.{next_key}
@@ -145,4 +144,4 @@ pub record IsReady (event : Event) (held : Held) : Type 0 where
 
 -- what an event comes to, before its lines are put in order
 abbrev pub happened : State → Event → Outcome → Work
-happened state event outcome = if is_open state then chosen (attempt today event (entered state)) outcome else frozen event state
+happened state event outcome = if is_open state then chosen (attempt event (entered state)) outcome else frozen event state

@@ -46,7 +46,7 @@ abbrev pub awaits_of : Option Awaited → Awaits
 awaits_of None = awaits.Nothing
 awaits_of (Some (awaited.Identify purpose.Plain)) = awaits.Identified
 awaits_of (Some (awaited.Identify (purpose.Query id))) = awaits.ToAsk
-awaits_of (Some (awaited.Identify (purpose.Reconnect id place))) = awaits.Aimed
+awaits_of (Some (awaited.Identify (purpose.Reconnect id place))) = awaits.ToReach
 awaits_of (Some awaited.Push) = awaits.OfPart command.Push
 awaits_of (Some awaited.Pull) = awaits.Pulled
 awaits_of (Some awaited.Prepare) = awaits.OfPart command.Prepare

@@ -224,7 +224,7 @@ said_wanted awaits.Nothing response connection state = None
 said_wanted (awaits.OfPart name) response connection state = answer_wanted (note_of connection.awaited response) connection state
 said_wanted awaits.Identified response connection state = None
 said_wanted awaits.ToAsk response connection state = None
-said_wanted awaits.Aimed response connection state = None
+said_wanted awaits.ToReach response connection state = None
 said_wanted awaits.Pulled response connection state = None
 said_wanted (awaits.Queried key) response connection state = query_wanted (exists_of response) key connection state
 

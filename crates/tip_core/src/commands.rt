@@ -8,7 +8,6 @@ ghost use Rattle.tip_machine.specs.Failing.{closed};
 ghost use Rattle.tip_machine.specs.Given.{are_numbered};
 ghost use Rattle.tip_machine.specs.Proceeding.{commit};
 ghost use Rattle.tip_machine.specs.Proceeding.{abort as aborted};
-ghost use Rattle.tip_machine.specs.Served.{today};
 ghost use Rattle.tip_machine.specs.States.{Attempt, connection_of};
 ghost use Rattle.tip_machine.specs.Steps.{chosen};
 ghost use Rattle.tip_machine.specs.Types.{Connection as AConnection};
@@ -38,7 +37,7 @@ impl Work<Connection, Transaction, Making> {
         requires numbered { are_numbered (work_of self.old).state ≡ true }
         requires lines { lines_at number (work_of self.old).state + 2 ≤ self.old.making.free }
         requires none { IsIdle self.old.making.answer }
-        ensures { (connection : AConnection) → connection_of number (work_of self.old).state ≡ Some connection → Does self.old self.new (chosen (commanded today command connection (work_of self.old)) self.old.outcome) }
+        ensures { (connection : AConnection) → connection_of number (work_of self.old).state ≡ Some connection → Does self.old self.new (chosen (commanded command connection (work_of self.old)) self.old.outcome) }
     {
         let connection = self.connection(number, place);
         match admit(connection.state, connection.side, &command) {

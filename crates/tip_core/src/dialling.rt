@@ -24,7 +24,7 @@ impl Work<Connection, Transaction, Making> {
         requires lines { 0 < self.old.making.free }
         requires peer { self.old.making.peer ≡ Some address }
         requires ours { self.old.making.ours ≡ Some (work_of self.old).state.head.address }
-        ensures { Does self.old self.new (dial true address purpose boxes (work_of self.old)) }
+        ensures { Does self.old self.new (dial address purpose boxes (work_of self.old)) }
     {
         if !self.has_place(boxes.len()) {
             return self.turn_away(boxes);

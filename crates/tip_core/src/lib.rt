@@ -20,6 +20,7 @@ mod presuming;
 mod pulling;
 mod pursuing;
 mod query;
+mod reaching;
 mod reaction;
 mod realms;
 mod reconnecting;

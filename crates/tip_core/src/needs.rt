@@ -8,11 +8,12 @@ ghost use Rattle.tip_machine.specs.Requests.{owner};
 ghost use Rattle.tip_machine.specs.States.{connection_of, identified_by};
 ghost use Rattle.tip_machine.specs.Types.{seen};
 ghost use Rattle.tip_core.specs.Needs.{MayJoin, Suits, begins_on, connections_for, joined_by, lines_needed, ours_needed, peer_needed, room_needed, transactions_for, word_needed};
-ghost use Rattle.tip_core.specs.Pursuing.{asked_for, superior_in, superior_of, word_at, word_for};
+ghost use Rattle.tip_core.specs.Pursuing.{named_in, named_of, superior_in, superior_of, word_at, word_for};
 ghost use Rattle.tip_core.specs.Works.{key_queried, lines_as, lines_at, lines_for, lines_of, lines_queried, peer_of, work_of};
 
 use crate::making::{Making, Words};
 use crate::query::{Numbered, OnKey};
+use crate::reaching::subordinate_of;
 use crate::room::Room;
 use crate::transaction_room::TransactionRoom;
 use crate::work::Work;
@@ -150,7 +151,7 @@ impl Work<Connection, Transaction, Making> {
         }
     }
 
-    /// What the superior knows the transaction by that the connection of a number was opened to ask for.
+    /// The identifier that is said once the connection of a number is identified, if it was opened to say one.
     #[tactic(auto, using(crate::proofs::Purposes::wording))]
     fn word_at(&self, number: u32) -> Result<Option<Id>, AllocError>
         requires { self.now.realm < length self.now.heads.items }
@@ -165,10 +166,13 @@ impl Work<Connection, Transaction, Making> {
     /// The same by what is awaited there.
     fn word_awaited(&self, awaited: &Option<Awaited>) -> Result<Option<Id>, AllocError>
         requires { self.now.realm < length self.now.heads.items }
-        ensures { IfOk result (λ word. word ≡ word_for (asked_for awaited.now) (work_of self.now).state) }
+        ensures { IfOk result (λ word. word ≡ word_for awaited.now (work_of self.now).state) }
     {
         match awaited {
             Some(Awaited::Identify(Purpose::Query(id))) => self.superior_word(id),
+            Some(Awaited::Identify(Purpose::Reconnect(id, number))) => {
+                self.subordinate_word(id, *number)
+            }
             _ => Ok(None),
         }
     }
@@ -181,6 +185,18 @@ impl Work<Connection, Transaction, Making> {
     {
         match self.identified(id) {
             Some((key, place)) => superior_in(&self.at(key, place).origin),
+            None => Ok(None),
+        }
+    }
+
+    /// What the subordinate of a number knows the transaction of an identifier by.
+    #[tactic(auto, using(crate::proofs::Aims::subordinate_wording))]
+    fn subordinate_word(&self, id: &Id, number: u32) -> Result<Option<Id>, AllocError>
+        requires { self.now.realm < length self.now.heads.items }
+        ensures { IfOk result (λ word. word ≡ named_of number (identified_by id.now (work_of self.now).state)) }
+    {
+        match self.identified(id) {
+            Some((key, place)) => subordinate_in(self.at(key, place), number),
             None => Ok(None),
         }
     }
@@ -358,6 +374,27 @@ fn superior_in(origin: &Origin) -> Result<Option<Id>, AllocError>
             address: _,
             superior,
         } => Ok(Some(superior.copy()?)),
+    }
+}
+
+/// The identifier that the subordinate of a number gave.
+#[tactic(auto, using(crate::proofs::Aims::naming))]
+fn subordinate_in(transaction: &Transaction, number: u32) -> Result<Option<Id>, AllocError>
+    ensures { IfOk result (λ word. word ≡ named_in number (seen transaction.now)) }
+{
+    match subordinate_of(transaction, number) {
+        Some((_, participant)) => copy_of_id(&participant.id),
+        None => Ok(None),
+    }
+}
+
+/// The same identifier, if there is one.
+fn copy_of_id(id: &Option<Id>) -> Result<Option<Id>, AllocError>
+    ensures { IfOk result (λ copy. copy ≡ id.now) }
+{
+    match id {
+        Some(id) => Ok(Some(id.copy()?)),
+        None => Ok(None),
     }
 }
 

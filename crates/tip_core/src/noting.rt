@@ -129,8 +129,8 @@ pub enum Awaits {
     Identified,
     /// On one that was opened to ask a superior.
     ToAsk,
-    /// On one that was opened to reach a subordinate again. It is not heard yet.
-    Aimed,
+    /// On one that was opened to reach a subordinate again.
+    ToReach,
     Pulled,
     /// For the transaction of a key.
     Queried(Key),
@@ -144,7 +144,7 @@ impl Awaits {
             None => Awaits::Nothing,
             Some(Awaited::Identify(Purpose::Plain)) => Awaits::Identified,
             Some(Awaited::Identify(Purpose::Query(_))) => Awaits::ToAsk,
-            Some(Awaited::Identify(Purpose::Reconnect(_, _))) => Awaits::Aimed,
+            Some(Awaited::Identify(Purpose::Reconnect(_, _))) => Awaits::ToReach,
             Some(Awaited::Push) => Awaits::OfPart(CommandName::Push),
             Some(Awaited::Pull) => Awaits::Pulled,
             Some(Awaited::Prepare) => Awaits::OfPart(CommandName::Prepare),

@@ -92,7 +92,7 @@ impl Work<Connection, Transaction, Making> {
 
     /// The key of the transaction of an identifier.
     #[tactic(auto, using(crate::proofs::Purposes::keying))]
-    fn key_of(&self, id: &Id) -> Option<Key>
+    pub(crate) fn key_of(&self, id: &Id) -> Option<Key>
         requires { self.now.realm < length self.now.heads.items }
         ensures { result ≡ key_of (work_of self.now).state id.now }
     {

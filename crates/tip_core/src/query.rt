@@ -2,7 +2,7 @@
 ghost use Rattle.std.specs.Prelude.{◌≡◌, ◌==◌, ◌&&◌};
 ghost use Rattle.std.specs.Str.{bytes_eq};
 ghost use Rattle.tip_machine.specs.Answers.{identifier};
-ghost use Rattle.tip_machine.specs.Connections.{asks_for, has_number, is_on, is_superior_of};
+ghost use Rattle.tip_machine.specs.Connections.{asks_for, has_number, is_on, is_part_of, is_superior_of, reaches};
 ghost use Rattle.tip_machine.specs.Transactions.{comes_from, is_undecided};
 ghost use Rattle.tip_core.specs.Works.{is_keyed, is_named, is_pushed};
 
@@ -11,7 +11,7 @@ use tip_line::{Address, Id, IdParts, Realm};
 use tip_machine::{Connection, Origin, Role, Transaction};
 use tip_rows::Key;
 use tip_table::Test;
-use tip_txn::Phase;
+use tip_txn::{Part, Phase};
 
 /// The connection of a number.
 #[derive(Clone, Copy, Debug)]
@@ -74,6 +74,28 @@ pub(crate) fn asks_for(role: Option<Role>, key: Key) -> bool
     ensures { result ≡ asks_for key role }
 {
     role == Some(Role::Superior(key))
+}
+
+/// The connection of a part of a transaction.
+#[derive(Clone, Copy, Debug)]
+pub struct PartOf {
+    pub key: Key,
+    pub part: Part,
+}
+
+impl Test<Connection> for PartOf {
+    ghost passes = { λ query connection. is_part_of query.key query.part connection };
+
+    fn passes(&self, connection: &Connection) -> bool {
+        reaches(connection.role, self.key, self.part)
+    }
+}
+
+/// Whether a connection of this role is the one of that part.
+fn reaches(role: Option<Role>, key: Key, part: Part) -> bool
+    ensures { result ≡ reaches key part role }
+{
+    role == Some(Role::Subordinate { key, part })
 }
 
 /// The transaction of an identifier, in a realm of this name.

@@ -24,7 +24,7 @@ impl Work<Connection, Transaction, Making> {
         requires peer { self.old.making.peer ≡ peer_of seat.number (work_of self.old).state }
         requires part { CanGrow (work_of self.old).state.head.name id.now (of self.old.transactions self.old.realm) }
         requires lines { 0 < self.old.making.free }
-        ensures { Does self.old self.new (ask_push true (seated seat (work_of self.old).state) id.now (work_of self.old)) }
+        ensures { Does self.old self.new (ask_push (seated seat (work_of self.old).state) id.now (work_of self.old)) }
     {
         let Some(place) = self.seated(seat) else {
             return self.refuse(Refusal::Stale);
@@ -60,7 +60,7 @@ impl Work<Connection, Transaction, Making> {
         requires peer { self.old.making.peer ≡ peer_of seat.number (work_of self.old).state }
         requires word { self.old.making.word ≡ Some superior }
         requires lines { 0 < self.old.making.free }
-        ensures { Does self.old self.new (ask_pull true (seated seat (work_of self.old).state) superior (work_of self.old)) }
+        ensures { Does self.old self.new (ask_pull (seated seat (work_of self.old).state) superior (work_of self.old)) }
     {
         let Some(place) = self.seated(seat) else {
             return self.refuse(Refusal::Stale);

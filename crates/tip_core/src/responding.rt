@@ -9,7 +9,6 @@ ghost use Rattle.tip_line.specs.declared.response.Response.{Response as ASaid};
 ghost use Rattle.tip_machine.specs.Failing.{closed, wrong};
 ghost use Rattle.tip_machine.specs.Responses.{abort_as, go_on, greeted};
 ghost use Rattle.tip_machine.specs.declared.connection.Purpose.TheVariants.{Plain};
-ghost use Rattle.tip_machine.specs.Served.{today};
 ghost use Rattle.tip_machine.specs.States.{connection_of};
 ghost use Rattle.tip_machine.specs.Steps.{chosen};
 ghost use Rattle.tip_machine.specs.Transactions.{noting};
@@ -37,7 +36,7 @@ impl Work<Connection, Transaction, Making> {
         requires queried { lines_queried number (work_of self.old).state ≤ self.old.making.free }
         requires word { self.old.making.word ≡ word_at number (work_of self.old).state }
         requires none { IsIdle self.old.making.answer }
-        ensures { (connection : AConnection) → connection_of number (work_of self.old).state ≡ Some connection → Does self.old self.new (chosen (hear today Primary (AResponse response) connection (work_of self.old)) self.old.outcome) }
+        ensures { (connection : AConnection) → connection_of number (work_of self.old).state ≡ Some connection → Does self.old self.new (chosen (hear Primary (AResponse response) connection (work_of self.old)) self.old.outcome) }
     {
         match Awaits::of(&self.connection(number, place).awaited) {
             Awaits::OfPart(command) => self.respond_as_part(number, place, command, response),
@@ -45,7 +44,8 @@ impl Work<Connection, Transaction, Making> {
             Awaits::Queried(key) => self.respond_to_query(number, place, key, response),
             Awaits::Identified => self.respond_to_identify(number, place, response),
             Awaits::ToAsk => self.respond_to_ask(number, place, response),
-            Awaits::Nothing | Awaits::Aimed => self.reject(number, place),
+            Awaits::ToReach => self.respond_to_reach(number, place, response),
+            Awaits::Nothing => {}
         }
     }
 

@@ -9,7 +9,6 @@ ghost use Rattle.tip_machine.specs.Connections.{has_number};
 ghost use Rattle.tip_machine.specs.Counts.{HasCounts};
 ghost use Rattle.tip_machine.specs.Given.{are_numbered};
 ghost use Rattle.tip_machine.specs.Requests.{hear, line};
-ghost use Rattle.tip_machine.specs.Served.{today};
 ghost use Rattle.tip_machine.specs.States.{connection_of, seated};
 ghost use Rattle.tip_machine.specs.Steps.{attempt, chosen, frozen};
 ghost use Rattle.tip_machine.specs.Types.{Connection as AConnection};
@@ -54,7 +53,7 @@ impl Work<Connection, Transaction, Making> {
     #[tactic(auto, using(crate::proofs::Happening::happening))]
     fn happen(&mut self, event: Event)
         requires { IsReady event self.old }
-        ensures { Does self.old self.new (chosen (attempt today event (work_of self.old)) self.old.outcome) }
+        ensures { Does self.old self.new (chosen (attempt event (work_of self.old)) self.old.outcome) }
     {
         match event {
             Event::Open { boxes } => self.open(boxes),
@@ -85,7 +84,7 @@ impl Work<Connection, Transaction, Making> {
         requires queried { lines_queried seat.number (work_of self.old).state ≤ self.old.making.free }
         requires word { self.old.making.word ≡ word_at seat.number (work_of self.old).state }
         requires none { IsIdle self.old.making.answer }
-        ensures { Does self.old self.new (chosen (line today (seated seat (work_of self.old).state) heard (work_of self.old)) self.old.outcome) }
+        ensures { Does self.old self.new (chosen (line (seated seat (work_of self.old).state) heard (work_of self.old)) self.old.outcome) }
     {
         let Some(place) = self.seated(seat) else {
             return self.refuse(Refusal::Stale);
@@ -111,7 +110,7 @@ impl Work<Connection, Transaction, Making> {
         requires numbered { are_numbered (work_of self.old).state ≡ true }
         requires lines { lines_at number (work_of self.old).state + 2 ≤ self.old.making.free }
         requires none { IsIdle self.old.making.answer }
-        ensures { (connection : AConnection) → connection_of number (work_of self.old).state ≡ Some connection → Does self.old self.new (chosen (hear today Secondary heard connection (work_of self.old)) self.old.outcome) }
+        ensures { (connection : AConnection) → connection_of number (work_of self.old).state ≡ Some connection → Does self.old self.new (chosen (hear Secondary heard connection (work_of self.old)) self.old.outcome) }
     {
         match heard {
             Heard::Command(command) => self.command(number, place, command),
@@ -127,7 +126,7 @@ impl Work<Connection, Transaction, Making> {
         requires queried { lines_queried number (work_of self.old).state ≤ self.old.making.free }
         requires word { self.old.making.word ≡ word_at number (work_of self.old).state }
         requires none { IsIdle self.old.making.answer }
-        ensures { (connection : AConnection) → connection_of number (work_of self.old).state ≡ Some connection → Does self.old self.new (chosen (hear today Primary heard connection (work_of self.old)) self.old.outcome) }
+        ensures { (connection : AConnection) → connection_of number (work_of self.old).state ≡ Some connection → Does self.old self.new (chosen (hear Primary heard connection (work_of self.old)) self.old.outcome) }
     {
         match heard {
             Heard::Command(command) => self.name_as_primary(number, place, command.name()),
@@ -142,7 +141,7 @@ impl Work<Connection, Transaction, Making> {
         requires stands { StandsAt self.old.connections self.old.realm (has_number number) place }
         requires lines { lines_at number (work_of self.old).state + 2 ≤ self.old.making.free }
         requires none { IsIdle self.old.making.answer }
-        ensures { (connection : AConnection) (command : Command) → connection_of number (work_of self.old).state ≡ Some connection → name_of command ≡ name → Does self.old self.new (chosen (hear today Primary (ACommand command) connection (work_of self.old)) self.old.outcome) }
+        ensures { (connection : AConnection) (command : Command) → connection_of number (work_of self.old).state ≡ Some connection → name_of command ≡ name → Does self.old self.new (chosen (hear Primary (ACommand command) connection (work_of self.old)) self.old.outcome) }
     {
         if name == CommandName::Error {
             self.close(number, place);

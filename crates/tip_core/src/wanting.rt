@@ -223,8 +223,11 @@ impl Work<Connection, Transaction, Making> {
         match Awaits::of(&connection.awaited) {
             Awaits::OfPart(_) => self.wanted_by_part(alloc, connection, response),
             Awaits::Queried(key) => Ok(self.wanted_by_query(connection, key, response)),
-            Awaits::Nothing | Awaits::Identified | Awaits::ToAsk | Awaits::Aimed | Awaits::Pulled =>
-                Ok(None),
+            Awaits::Nothing
+            | Awaits::Identified
+            | Awaits::ToAsk
+            | Awaits::ToReach
+            | Awaits::Pulled => Ok(None),
         }
     }
 

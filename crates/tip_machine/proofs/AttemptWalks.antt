@@ -1,6 +1,6 @@
 -- Each event that opens no connection is refused, or keeps what each single change keeps.
 use Rattle.std.proofs.Common.{◌≡◌, Bool, true, false, ℕ, List, Option, Some, None, cond, refl}
-use Rattle.std.specs.Prelude.{◌==◌, ◌&&◌, find}
+use Rattle.std.specs.Prelude.{◌==◌, find}
 use Rattle.std.proofs.lemmas.Option.{none-some}
 use Rattle.std.specs.Option.{IfSome}
 use Rattle.tip_branch.specs.Notes.{PartyNotes}
@@ -17,7 +17,6 @@ use Rattle.tip_machine.specs.States.{Attempt, State, Work, connection_of, has_ro
 use Rattle.tip_machine.specs.Changes.{alter, refuse}
 use Rattle.tip_machine.specs.Proceeding.{dispatch, finish, proceed}
 use Rattle.tip_machine.specs.Requests.{ask_pull, ask_push, hear, line, lost, owner, pull_if, push_part, resume, resume_in, settled, settled_for, strange, voted, voted_for}
-use Rattle.tip_machine.specs.Served.{Serving}
 use Rattle.tip_machine.specs.Steps.{attempt, Names}
 use Rattle.tip_machine.specs.declared.connection.Purpose.{Purpose}
 use Rattle.tip_machine.specs.declared.event.Event.TheVariants.{Open, Dial, Line, Voted, Settled, Lost, AskPush, AskPull, Resume}
@@ -75,10 +74,10 @@ module _ (R : Key → Work → Work → Type 0) (May : ℕ → Type 0) (k : (key
   which : (b : Bool) (this that : Work) → Q (Attempt.Done this) → Q (Attempt.Done that) → Q (Attempt.Done (cond b this that))
   which b this that e f = either (λ v. Q (Attempt.Done v)) b this that e f
 
-  line-goes : (serving : Serving) (found : Option Connection) (may : IfSome found (λ c. May c.number)) (heard : Heard) → IsThere found w.state → Q (line serving found heard w)
+  line-goes : (found : Option Connection) (may : IfSome found (λ c. May c.number)) (heard : Heard) → IsThere found w.state → Q (line found heard w)
   unfolding line
-  line-goes serving None may heard is = refused Stale
-  line-goes serving (Some c) may heard is = either_attempt Q (may_take c) (hear serving c.side heard c w) _ (kept (hear serving c.side heard c w) (is_heard R May k c w may serving c.side heard (is c refl))) (refused Busy)
+  line-goes None may heard is = refused Stale
+  line-goes (Some c) may heard is = either_attempt Q (may_take c) (hear c.side heard c w) _ (kept (hear c.side heard c w) (is_heard R May k c w may c.side heard (is c refl))) (refused Busy)
 
   lost-goes : (found : Option Connection) (may : IfSome found (λ c. May c.number)) → Q (Attempt.Done (lost found w))
   unfolding lost
@@ -91,10 +90,10 @@ module _ (R : Key → Work → Work → Type 0) (May : ℕ → Type 0) (k : (key
       which (has_room c w.state) _ _ (done key _ ((k key).then w _ _ ((k key).makes (origin.Subordinate c.peer superior) c w may refl is) (send-keeps (R key) May (Is key) (k key) c.number _ _ _ may refl))) (refused Full)
   pull_if-goes (Some t) superior c may is = refused Known
 
-  ask_pull-goes : (serves : Bool) (found : Option Connection) (may : IfSome found (λ c. May c.number)) (superior : List ℕ) → IsThere found w.state → Q (Attempt.Done (ask_pull serves found superior w))
+  ask_pull-goes : (found : Option Connection) (may : IfSome found (λ c. May c.number)) (superior : List ℕ) → IsThere found w.state → Q (Attempt.Done (ask_pull found superior w))
   unfolding ask_pull
-  ask_pull-goes serves None may superior is = refused Stale
-  ask_pull-goes serves (Some c) may superior is = which (serves && is_free c) (pull_if (find (is_known c.peer superior) w.state.transactions) superior c w) _ (pull_if-goes (find (is_known c.peer superior) w.state.transactions) superior c may (is c refl)) (refused Busy)
+  ask_pull-goes None may superior is = refused Stale
+  ask_pull-goes (Some c) may superior is = which (is_free c) (pull_if (find (is_known c.peer superior) w.state.transactions) superior c w) _ (pull_if-goes (find (is_known c.peer superior) w.state.transactions) superior c may (is c refl)) (refused Busy)
 
   -- events of the transaction that was found
   module _ (t : Transaction) where
@@ -132,10 +131,10 @@ module _ (R : Key → Work → Work → Type 0) (May : ℕ → Type 0) (k : (key
   push_found-goes None peer n may = refused NotActive
   push_found-goes (Some t) peer n may = push_part-goes t peer n may
 
-  ask_push-goes : (serves : Bool) (found : Option Connection) (may : IfSome found (λ c. May c.number)) (id : List ℕ) → Q (Attempt.Done (ask_push serves found id w))
+  ask_push-goes : (found : Option Connection) (may : IfSome found (λ c. May c.number)) (id : List ℕ) → Q (Attempt.Done (ask_push found id w))
   unfolding ask_push
-  ask_push-goes serves None may id = refused Stale
-  ask_push-goes serves (Some c) may id = which (serves && is_free c) (push_part (identified_by id w.state) c.peer c.number w) _ (push_found-goes (identified_by id w.state) c.peer c.number may) (refused Busy)
+  ask_push-goes None may id = refused Stale
+  ask_push-goes (Some c) may id = which (is_free c) (push_part (identified_by id w.state) c.peer c.number w) _ (push_found-goes (identified_by id w.state) c.peer c.number may) (refused Busy)
 
   resume-goes : (found : Option Transaction) → Q (resume found w)
   unfolding resume
@@ -152,13 +151,13 @@ module _ (R : Key → Work → Work → Type 0) (May : ℕ → Type 0) (k : (key
   settled-goes None party own = strangers party
   settled-goes (Some t) party own = settled_for-goes t t.place party (own t refl)
 
-  pub attempt-goes : (serving : Serving) (event : Event) → is_opening event ≡ false → ((seat : Seat) → Names event seat.number → IfSome (seated seat w.state) (λ c. May c.number)) → Q (attempt serving event w)
-  attempt-goes serving (Open boxes) not may = absurd (cc)
-  attempt-goes serving (Dial address purpose boxes) not may = absurd (cc)
-  attempt-goes serving (Line seat heard) not may = line-goes serving (seated seat w.state) (may seat refl) heard (seated_there seat w.state)
-  attempt-goes serving (Voted party) not may = voted-goes (owner party w.state) party (owner_named party w.state)
-  attempt-goes serving (Settled party) not may = settled-goes (owner party w.state) party (owner_named party w.state)
-  attempt-goes serving (Lost seat) not may = lost-goes (seated seat w.state) (may seat refl)
-  attempt-goes serving (AskPush seat id) not may = ask_push-goes serving.dials (seated seat w.state) (may seat refl) id
-  attempt-goes serving (AskPull seat superior) not may = ask_pull-goes serving.dials (seated seat w.state) (may seat refl) superior (seated_there seat w.state)
-  attempt-goes serving (Resume id) not may = resume-goes (identified_by id w.state)
+  pub attempt-goes : (event : Event) → is_opening event ≡ false → ((seat : Seat) → Names event seat.number → IfSome (seated seat w.state) (λ c. May c.number)) → Q (attempt event w)
+  attempt-goes (Open boxes) not may = absurd (cc)
+  attempt-goes (Dial address purpose boxes) not may = absurd (cc)
+  attempt-goes (Line seat heard) not may = line-goes (seated seat w.state) (may seat refl) heard (seated_there seat w.state)
+  attempt-goes (Voted party) not may = voted-goes (owner party w.state) party (owner_named party w.state)
+  attempt-goes (Settled party) not may = settled-goes (owner party w.state) party (owner_named party w.state)
+  attempt-goes (Lost seat) not may = lost-goes (seated seat w.state) (may seat refl)
+  attempt-goes (AskPush seat id) not may = ask_push-goes (seated seat w.state) (may seat refl) id
+  attempt-goes (AskPull seat superior) not may = ask_pull-goes (seated seat w.state) (may seat refl) superior (seated_there seat w.state)
+  attempt-goes (Resume id) not may = resume-goes (identified_by id w.state)

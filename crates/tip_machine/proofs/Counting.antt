@@ -1,6 +1,6 @@
 -- A realm's counts stay below its entries: an event takes one entry, and makes at most one transaction, of some one key.
-use Rattle.std.proofs.Common.{◌≡◌, ◌<◌, Bool, true, false, ℕ, ◌+◌, List, Some, refl, ap, arith, sym, ◌∙◌, subst, ◌⊎◌, inl, inr}
-use Rattle.std.specs.Prelude.{◌&&◌, length, map}
+use Rattle.std.proofs.Common.{◌≡◌, ◌<◌, true, false, ℕ, ◌+◌, List, Some, refl, ap, arith, sym, ◌∙◌, subst, ◌⊎◌, inl, inr}
+use Rattle.std.specs.Prelude.{length, map}
 use Rattle.std.specs.List.{All}
 use Rattle.std.proofs.lemmas.List.Elements.{All-map, All-nil, All-push, All-weaker}
 use Rattle.std.proofs.lemmas.Option.{same_Some}
@@ -20,8 +20,7 @@ use Rattle.tip_machine.specs.Commands.{make, making}
 use Rattle.tip_machine.specs.Order.{ordered}
 use Rattle.tip_machine.specs.Reactions.{Reaction, react, reacted}
 use Rattle.tip_machine.specs.Requests.{added, dial, hand_back, opened}
-use Rattle.tip_machine.specs.Served.{Serving}
-use Rattle.tip_machine.specs.Steps.{attempt, chosen, entered, frozen, is_open, step_serving}
+use Rattle.tip_machine.specs.Steps.{attempt, chosen, entered, frozen, is_open, step}
 use Rattle.tip_machine.specs.declared.connection.Purpose.{Purpose}
 use Rattle.tip_machine.specs.declared.event.Outcome.{Outcome}
 use Rattle.tip_machine.specs.declared.head.Head.{Head}
@@ -124,22 +123,22 @@ module _ (entries : ℕ) where
   unfolding opened
   opened-below boxes w below = either (AreBelow (entries + 1)) (has_place (length boxes) w.state) (added (accepted boxes) w) (hand_back boxes (refuse Full w)) (added-below (accepted boxes) w (λ n. refl) (λ n. refl) below) (still_below w below)
 
-  dial-below : (serves : Bool) (address : List ℕ) (purpose : Purpose) (boxes : List Badge) (w : Work) → AreBelow entries w → AreBelow (entries + 1) (dial serves address purpose boxes w)
+  dial-below : (address : List ℕ) (purpose : Purpose) (boxes : List Badge) (w : Work) → AreBelow entries w → AreBelow (entries + 1) (dial address purpose boxes w)
   unfolding dial
-  dial-below serves address purpose boxes w below = either (AreBelow (entries + 1)) (serves && has_place (length boxes) w.state) _ (hand_back boxes (refuse Full w)) (added-below (dialled address purpose boxes) w (λ n. refl) (λ n. refl) below) (still_below w below)
+  dial-below address purpose boxes w below = either (AreBelow (entries + 1)) (has_place (length boxes) w.state) _ (hand_back boxes (refuse Full w)) (added-below (dialled address purpose boxes) w (λ n. refl) (λ n. refl) below) (still_below w below)
 
-  others : (serving : Serving) (event : Event) (w : Work) → AreBelow entries w → is_opening event ≡ false → Ends (AreBelow (entries + 1)) (attempt serving event w)
-  others serving event w below not =
+  others : (event : Event) (w : Work) → AreBelow entries w → is_opening event ≡ false → Ends (AreBelow (entries + 1)) (attempt event w)
+  others event w below not =
       attempt-goes StayNear any closed_by_near w (Ends (AreBelow (entries + 1))) (from_one StayNear w (AreBelow (entries + 1)) (λ v goes. went_near w v below goes))
-      (λ why. still_below w below) (λ party. still_below w below) serving event not
+      (λ why. still_below w below) (λ party. still_below w below) event not
       (λ seat names. each (seated seat w.state))
 
-  attempt-below : (serving : Serving) (event : Event) (w : Work) → AreBelow entries w → Ends (AreBelow (entries + 1)) (attempt serving event w)
-  attempt-below serving event w below =
-      each_event (λ event. Ends (AreBelow (entries + 1)) (attempt serving event w))
+  attempt-below : (event : Event) (w : Work) → AreBelow entries w → Ends (AreBelow (entries + 1)) (attempt event w)
+  attempt-below event w below =
+      each_event (λ event. Ends (AreBelow (entries + 1)) (attempt event w))
       (λ boxes. opened-below boxes w below)
-      (λ address purpose boxes. dial-below serving.dials address purpose boxes w below)
-      (λ event not. others serving event w below not)
+      (λ address purpose boxes. dial-below address purpose boxes w below)
+      (λ event not. others event w below not)
       event
 
 -- Steps
@@ -148,15 +147,15 @@ went-counts : (state : State) (v : Work) → HasCounts state → Went (entered s
 went-counts state v counts (inl goes) below numbered = let le = counts.given in record { epoch = rw goes.head counts.epoch; given = rw goes.head (omega (arith, le)); connections = rw goes.head below; numbered = numbered }
 went-counts state v counts (inr opens) below numbered = let le = counts.given in record { epoch = rw opens.head counts.epoch; given = rw opens.head (omega (arith, le)); connections = rw opens.head below; numbered = numbered }
 
-entered-counts : (serving : Serving) (state : State) (event : Event) (outcome : Outcome) → HasCounts state → are_numbered (ordered state (chosen (attempt serving event (entered state)) outcome)).state ≡ true → HasCounts (ordered state (chosen (attempt serving event (entered state)) outcome)).state
+entered-counts : (state : State) (event : Event) (outcome : Outcome) → HasCounts state → are_numbered (ordered state (chosen (attempt event (entered state)) outcome)).state ≡ true → HasCounts (ordered state (chosen (attempt event (entered state)) outcome)).state
 unfolding ordered
-entered-counts serving state event outcome counts numbered =
+entered-counts state event outcome counts numbered =
     let entries = state.head.entries in
-    let tried = attempt serving event (entered state) in
-    went-counts state (ordered state (chosen tried outcome)) counts (step-went serving state event outcome) (chosen_ends (AreBelow (entries + 1)) tried outcome (attempt-below entries serving event (entered state) counts.connections)) numbered
+    let tried = attempt event (entered state) in
+    went-counts state (ordered state (chosen tried outcome)) counts (step-went state event outcome) (chosen_ends (AreBelow (entries + 1)) tried outcome (attempt-below entries event (entered state) counts.connections)) numbered
 
-pub counts_stay : (serving : Serving) (state : State) (event : Event) (outcome : Outcome) → HasCounts state → HasCounts (step_serving serving state event outcome).state
-counts_stay serving state event outcome counts = either (λ w. are_numbered w.state ≡ true → HasCounts w.state) (is_open state) _ (frozen event state) (entered-counts serving state event outcome counts) (λ numbered. counts) (still_rising serving state event outcome counts.numbered)
+pub counts_stay : (state : State) (event : Event) (outcome : Outcome) → HasCounts state → HasCounts (step state event outcome).state
+counts_stay state event outcome counts = either (λ w. are_numbered w.state ≡ true → HasCounts w.state) (is_open state) _ (frozen event state) (entered-counts state event outcome counts) (λ numbered. counts) (still_rising state event outcome counts.numbered)
 
 pub counts_start : (head : Head) → 0 < head.epoch → IsCounted head → HasCounts (started head)
 counts_start head epoch given = record { epoch = epoch; given = given; connections = All-nil (IsBelow head.entries); numbered = none_numbered (started head) refl }

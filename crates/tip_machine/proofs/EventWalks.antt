@@ -16,12 +16,11 @@ use Rattle.tip_txn.specs.declared.part.Participant.{Participant}
 use Rattle.tip_machine.specs.Types.{Connection, Transaction}
 use Rattle.tip_machine.specs.Connections.{advanced}
 use Rattle.tip_machine.specs.Transactions.{is_committed, is_decided_at, noting, subordinate_of}
-use Rattle.tip_machine.specs.States.{Attempt, Work, connection_of, identified_by, transaction_of}
+use Rattle.tip_machine.specs.States.{Work, connection_of, identified_by, transaction_of}
 use Rattle.tip_machine.specs.Changes.{alter, change}
 use Rattle.tip_machine.specs.Failing.{closed, wrong}
 use Rattle.tip_machine.specs.Responses.{abort_as, answered_by, ask_superior, go_on, greeted, is_in_doubt, is_owed_commit, note_as, presume_abort, pursue, query_for, reach, reach_by, reconnect_for, responded, proceed_as}
 use Rattle.tip_machine.specs.Requests.{hear}
-use Rattle.tip_machine.specs.Served.{Serving}
 use Rattle.tip_machine.specs.declared.connection.Awaited.{Awaited}
 use Rattle.tip_machine.specs.declared.connection.Awaited.TheVariants.{Identify, Push, Pull, Prepare, Commit, Abort, Query, Reconnect}
 use Rattle.tip_machine.specs.declared.connection.Purpose.{Purpose}
@@ -150,8 +149,8 @@ module _ (R : Key → Work → Work → Type 0) (May : ℕ → Type 0) (k : (key
     is_answered None response = let key = or_any None in (key, (k key).same w)
     is_answered (Some awaited) response = responds awaited response
 
-    pub is_heard : (serving : Serving) (side : Side) (heard : Heard) → connection_of c.number w.state ≡ Some c → EndsAtOne R w (hear serving side heard c w)
-    is_heard serving Secondary (ACommand command) is = is_commanded R May k serving command c w may is
-    is_heard serving Primary (ACommand commands.Error) is = closes R May k c w may
-    is_heard serving Primary (AResponse response) is = either_attempt (EndsAtOne R w) (serving.responses c.awaited) (answered_by c.awaited response c w) (Attempt.Done (wrong c w)) (is_answered c.awaited response) (goes_wrong R May k c w may)
-    is_heard serving side other is = goes_wrong R May k c w may
+    pub is_heard : (side : Side) (heard : Heard) → connection_of c.number w.state ≡ Some c → EndsAtOne R w (hear side heard c w)
+    is_heard Secondary (ACommand command) is = is_commanded R May k command c w may is
+    is_heard Primary (ACommand commands.Error) is = closes R May k c w may
+    is_heard Primary (AResponse response) is = is_answered c.awaited response
+    is_heard side other is = goes_wrong R May k c w may

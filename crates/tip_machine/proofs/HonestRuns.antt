@@ -14,14 +14,13 @@ use Rattle.tip_machine.specs.Order.{ordered}
 use Rattle.tip_machine.specs.Honest.{is_run}
 use Rattle.tip_machine.specs.Moves.{fresh, stepped}
 use Rattle.tip_machine.specs.Examples.Scripts.{Each, Example, IsHonestRun, moves_of}
-use Rattle.tip_machine.specs.Served.{everything}
 use Rattle.tip_machine.specs.Starting.{is_starting}
 use Rattle.tip_machine.specs.Examples.{worked}
 use Rattle.tip_machine.proofs.Begun.{fresh_starts}
 use Rattle.tip_machine.proofs.Each.{each}
 
 is_honest_run : Example → Bool
-is_honest_run example = is_starting example.head && is_run everything (fresh example.head) (moves_of (fresh example.head) example.lines)
+is_honest_run example = is_starting example.head && is_run (fresh example.head) (moves_of (fresh example.head) example.lines)
 
 honest_run : (example : Example) → is_honest_run example ≡ true → IsHonestRun example
 unfolding is_honest_run

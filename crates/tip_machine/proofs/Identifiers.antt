@@ -19,9 +19,8 @@ use Rattle.tip_machine.specs.Commands.{make, making}
 use Rattle.tip_machine.specs.Order.{ordered}
 use Rattle.tip_machine.specs.Reactions.{Reaction, react, reacted}
 use Rattle.tip_machine.specs.Requests.{added, dial, hand_back, opened}
-use Rattle.tip_machine.specs.Served.{Serving}
 use Rattle.tip_machine.specs.Given.{are_numbered, are_rising, is_to_make, numbers_of, was_given}
-use Rattle.tip_machine.specs.Steps.{attempt, chosen, entered, frozen, is_open, step_serving}
+use Rattle.tip_machine.specs.Steps.{attempt, chosen, entered, frozen, is_open, step}
 use Rattle.tip_machine.specs.declared.connection.Purpose.{Purpose}
 use Rattle.tip_machine.specs.declared.event.Outcome.{Outcome}
 use Rattle.tip_machine.specs.declared.transaction.Origin.{Origin}
@@ -233,33 +232,33 @@ opened-counts : (key : Key) (boxes : List Badge) (state : State) → CountsIn ke
 unfolding opened
 opened-counts key boxes state = either (CountsIn key state) (has_place (length boxes) (entered state).state) (added (accepted boxes) (entered state)) (hand_back boxes (refuse Full (entered state))) (added-counts key (accepted boxes) state (λ n. refl)) (unchanged key state)
 
-dial-counts : (key : Key) (serves : Bool) (address : List ℕ) (purpose : Purpose) (boxes : List Badge) (state : State) → CountsIn key state (dial serves address purpose boxes (entered state))
+dial-counts : (key : Key) (address : List ℕ) (purpose : Purpose) (boxes : List Badge) (state : State) → CountsIn key state (dial address purpose boxes (entered state))
 unfolding dial
-dial-counts key serves address purpose boxes state = either (CountsIn key state) (serves && has_place (length boxes) (entered state).state) _ (hand_back boxes (refuse Full (entered state))) (added-counts key (dialled address purpose boxes) state (λ n. refl)) (unchanged key state)
+dial-counts key address purpose boxes state = either (CountsIn key state) (has_place (length boxes) (entered state).state) _ (hand_back boxes (refuse Full (entered state))) (added-counts key (dialled address purpose boxes) state (λ n. refl)) (unchanged key state)
 
-others : (key : Key) (serving : Serving) (event : Event) (state : State) → is_opening event ≡ false → Ends (CountsIn key state) (attempt serving event (entered state))
-others key serving event state not =
+others : (key : Key) (event : Event) (state : State) → is_opening event ≡ false → Ends (CountsIn key state) (attempt event (entered state))
+others key event state not =
     attempt-goes (λ on w v. Counts key w.state v.state) any (closed_by_counts key) (entered state) (Ends (CountsIn key state)) (from_one (λ on w v. Counts key w.state v.state) (entered state) (CountsIn key state) (λ v counts. went_in key state v counts.1))
-    (λ why. unchanged key state) (λ party. unchanged key state) serving event not
+    (λ why. unchanged key state) (λ party. unchanged key state) event not
     (λ seat names. each (seated seat (entered state).state))
 
-attempt-counts : (key : Key) (serving : Serving) (event : Event) (state : State) → Ends (CountsIn key state) (attempt serving event (entered state))
-attempt-counts key serving event state =
-    each_event (λ event. Ends (CountsIn key state) (attempt serving event (entered state)))
+attempt-counts : (key : Key) (event : Event) (state : State) → Ends (CountsIn key state) (attempt event (entered state))
+attempt-counts key event state =
+    each_event (λ event. Ends (CountsIn key state) (attempt event (entered state)))
     (λ boxes. opened-counts key boxes state)
-    (λ address purpose boxes. dial-counts key serving.dials address purpose boxes state)
-    (λ event not. others key serving event state not)
+    (λ address purpose boxes. dial-counts key address purpose boxes state)
+    (λ event not. others key event state not)
     event
 
-went-counts : (key : Key) (serving : Serving) (state : State) (event : Event) (outcome : Outcome) → CountsIn key state (ordered state (chosen (attempt serving event (entered state)) outcome))
+went-counts : (key : Key) (state : State) (event : Event) (outcome : Outcome) → CountsIn key state (ordered state (chosen (attempt event (entered state)) outcome))
 unfolding ordered
-went-counts key serving state event outcome = chosen_ends (CountsIn key state) (attempt serving event (entered state)) outcome (attempt-counts key serving event state)
+went-counts key state event outcome = chosen_ends (CountsIn key state) (attempt event (entered state)) outcome (attempt-counts key event state)
 
-step-counts : (key : Key) (serving : Serving) (state : State) (event : Event) (outcome : Outcome) → CountsIn key state (step_serving serving state event outcome)
-step-counts key serving state event outcome = either (CountsIn key state) (is_open state) _ (frozen event state) (went-counts key serving state event outcome) (still key state)
+step-counts : (key : Key) (state : State) (event : Event) (outcome : Outcome) → CountsIn key state (step state event outcome)
+step-counts key state event outcome = either (CountsIn key state) (is_open state) _ (frozen event state) (went-counts key state event outcome) (still key state)
 
-pub given_stays : (serving : Serving) (state : State) (event : Event) (outcome : Outcome) (key : Key) → was_given state key ≡ true → was_given (step_serving serving state event outcome).state key ≡ true
-given_stays serving state event outcome key was = is_given_so key (step_serving serving state event outcome).state ((step-counts key serving state event outcome).stays (is_given key state was))
+pub given_stays : (state : State) (event : Event) (outcome : Outcome) (key : Key) → was_given state key ≡ true → was_given (step state event outcome).state key ≡ true
+given_stays state event outcome key was = is_given_so key (step state event outcome).state ((step-counts key state event outcome).stays (is_given key state was))
 
 pub given_later : (old new : State) (key : Key) → old.head.epoch < new.head.epoch → was_given old key ≡ true → was_given new key ≡ true
 given_later old new key less was = is_given_so key new (inl (earlier (is_given key old was))) where
@@ -270,8 +269,8 @@ given_later old new key less was = is_given_so key new (inl (earlier (is_given k
 pub none_numbered : (state : State) → state.connections ≡ [] → are_numbered state ≡ true
 none_numbered state none = ap (λ cs. are_rising (numbers_of cs ++ (state.head.given + 1) ∷ [])) none
 
-pub still_rising : (serving : Serving) (state : State) (event : Event) (outcome : Outcome) → are_numbered state ≡ true → are_numbered (step_serving serving state event outcome).state ≡ true
-still_rising serving state event outcome numbered = (step-counts (or_any None) serving state event outcome).numbered numbered
+pub still_rising : (state : State) (event : Event) (outcome : Outcome) → are_numbered state ≡ true → are_numbered (step state event outcome).state ≡ true
+still_rising state event outcome numbered = (step-counts (or_any None) state event outcome).numbered numbered
 
 found_new : (key : Key) (old new : State) → Counts key old new → transaction_of key old ≡ None → IsSome (transaction_of key new) → IsMade key old new
 found_new key old new counts none some = step (counts.made (sym (find_any (has_key key) old.transactions) ∙ ap is_some none)) where
@@ -279,11 +278,11 @@ found_new key old new counts none some = step (counts.made (sym (find_any (has_k
   step (inl absent) = absurd (true≢false (sym some ∙ find_any (has_key key) new.transactions ∙ absent))
   step (inr made) = made
 
-pub new_was_not_given : (serving : Serving) (state : State) (event : Event) (outcome : Outcome) (key : Key) → transaction_of key state ≡ None → IsSome (transaction_of key (step_serving serving state event outcome).state) → was_given state key ≡ false
-new_was_not_given serving state event outcome key none some = never (was_given state key) refl where
+pub new_was_not_given : (state : State) (event : Event) (outcome : Outcome) (key : Key) → transaction_of key state ≡ None → IsSome (transaction_of key (step state event outcome).state) → was_given state key ≡ false
+new_was_not_given state event outcome key none some = never (was_given state key) refl where
   never : (b : Bool) → was_given state key ≡ b → b ≡ false
-  never true was = absurd ((found_new key state (step_serving serving state event outcome).state (step-counts key serving state event outcome) none some).0 (is_given key state was))
+  never true was = absurd ((found_new key state (step state event outcome).state (step-counts key state event outcome) none some).0 (is_given key state was))
   never false was = refl
 
-pub new_is_given : (serving : Serving) (state : State) (event : Event) (outcome : Outcome) (key : Key) → are_numbered state ≡ true → transaction_of key state ≡ None → IsSome (transaction_of key (step_serving serving state event outcome).state) → was_given (step_serving serving state event outcome).state key ≡ true
-new_is_given serving state event outcome key numbered none some = is_given_so key (step_serving serving state event outcome).state ((found_new key state (step_serving serving state event outcome).state (step-counts key serving state event outcome) none some).1 numbered)
+pub new_is_given : (state : State) (event : Event) (outcome : Outcome) (key : Key) → are_numbered state ≡ true → transaction_of key state ≡ None → IsSome (transaction_of key (step state event outcome).state) → was_given (step state event outcome).state key ≡ true
+new_is_given state event outcome key numbered none some = is_given_so key (step state event outcome).state ((found_new key state (step state event outcome).state (step-counts key state event outcome) none some).1 numbered)

@@ -9,7 +9,6 @@ use Rattle.tip_machine.specs.States.{Attempt, Work, seated}
 use Rattle.tip_machine.specs.Changes.{refuse}
 use Rattle.tip_machine.specs.Commands.{make}
 use Rattle.tip_machine.specs.Reactions.{react}
-use Rattle.tip_machine.specs.Served.{Serving}
 use Rattle.tip_machine.specs.Steps.{attempt}
 use Rattle.tip_machine.proofs.Walks.{Closed, Ends, EndsAtOne, Is, from_one}
 use Rattle.tip_machine.proofs.AttemptWalks.{attempt-goes, is_opening}
@@ -76,8 +75,8 @@ pub each : (found : Option Connection) → IfSome found (λ c. any c.number)
 each None = tt
 each (Some c) = may c.number
 
-pub event-goes : (serving : Serving) (event : Event) (w : Work) → is_opening event ≡ false → w.answer.refusal ≡ None → Ends (Goes w) (attempt serving event w)
-event-goes serving event w not none = attempt-goes (λ key. Keeps) any closed_by_keeps w (Ends (Goes w)) (from_one (λ key. Keeps) w (Goes w) (λ v one. kept w v none one.1)) (refused w) (λ party. record { head = refl; opened = refl; quiet = λ some. record { state = refl; sent = refl; work = refl } }) serving event not (λ seat names. each (seated seat w.state))
+pub event-goes : (event : Event) (w : Work) → is_opening event ≡ false → w.answer.refusal ≡ None → Ends (Goes w) (attempt event w)
+event-goes event w not none = attempt-goes (λ key. Keeps) any closed_by_keeps w (Ends (Goes w)) (from_one (λ key. Keeps) w (Goes w) (λ v one. kept w v none one.1)) (refused w) (λ party. record { head = refl; opened = refl; quiet = λ some. record { state = refl; sent = refl; work = refl } }) event not (λ seat names. each (seated seat w.state))
 
 -- a change is wanted only where nothing is refused
 abbrev pub IsCalm : Attempt → Type 0
@@ -88,5 +87,5 @@ calm : (w : Work) → w.answer.refusal ≡ None → (a : Attempt) → EndsAtOne 
 calm w none (Attempt.Done v) keeps = tt
 calm w none (Attempt.Asks change stored refused) keeps = (keeps.0.1.refusal ∙ none, keeps.2.1.refusal ∙ none)
 
-pub event-calm : (serving : Serving) (event : Event) (w : Work) → is_opening event ≡ false → w.answer.refusal ≡ None → IsCalm (attempt serving event w)
-event-calm serving event w not none = attempt-goes (λ key. Keeps) any closed_by_keeps w IsCalm (calm w none) (λ why. tt) (λ party. tt) serving event not (λ seat names. each (seated seat w.state))
+pub event-calm : (event : Event) (w : Work) → is_opening event ≡ false → w.answer.refusal ≡ None → IsCalm (attempt event w)
+event-calm event w not none = attempt-goes (λ key. Keeps) any closed_by_keeps w IsCalm (calm w none) (λ why. tt) (λ party. tt) event not (λ seat names. each (seated seat w.state))

@@ -28,8 +28,7 @@ use Rattle.tip_machine.specs.Commands.{make, making}
 use Rattle.tip_machine.specs.Order.{in_turn, ordered, put_in, turn}
 use Rattle.tip_machine.specs.Reactions.{Demand, Reacted, Reaction, answers, demanded, demanded_as, demands, react, reacted, reacts, stays, sent_by}
 use Rattle.tip_machine.specs.Requests.{added, dial, hand_back, opened, strange}
-use Rattle.tip_machine.specs.Served.{Serving}
-use Rattle.tip_machine.specs.Steps.{attempt, chosen, entered, frozen, is_for, is_open, step_serving, wanted, wants_serving, AreOf, IsOff, IsOfKey, Names, SendsOne, TellsOfOne, TouchesOne}
+use Rattle.tip_machine.specs.Steps.{attempt, chosen, entered, frozen, is_for, is_open, step, wanted, wants, AreOf, IsOff, IsOfKey, Names, SendsOne, TellsOfOne, TouchesOne}
 use Rattle.tip_machine.specs.declared.answer.Asked.TheVariants as asked
 use Rattle.tip_machine.specs.declared.answer.Item.{Item}
 use Rattle.tip_machine.specs.declared.answer.Item.TheVariants.{Ask, Close}
@@ -424,9 +423,9 @@ greets event item state none = record {
   quiet = λ n le unnamed off. one_apart (state.head.given + 1) n item (λ same. omega (arith, le, same));
 }
 
-dial-touches : (event : Event) (serves : Bool) (address : List ℕ) (purpose : Purpose) (boxes : List Badge) (state : State) → Touches event state (dial serves address purpose boxes (entered state))
+dial-touches : (event : Event) (address : List ℕ) (purpose : Purpose) (boxes : List Badge) (state : State) → Touches event state (dial address purpose boxes (entered state))
 unfolding dial added
-dial-touches event serves address purpose boxes state = either (Touches event state) (serves && has_place (length boxes) (entered state).state) _ _ (or_any None, added-touches event (dialled address purpose boxes) state (λ n. refl), greets event (Ask (asked.Identify state.head.address address)) state refl, sends_nobody (or_any None) state _ refl (λ party quiet is. none-some party is)) (turned_down event state boxes)
+dial-touches event address purpose boxes state = either (Touches event state) (has_place (length boxes) (entered state).state) _ _ (or_any None, added-touches event (dialled address purpose boxes) state (λ n. refl), greets event (Ask (asked.Identify state.head.address address)) state refl, sends_nobody (or_any None) state _ refl (λ party quiet is. none-some party is)) (turned_down event state boxes)
 
 -- a connection that was found by a seat of the event is one that it names
 each : (event : Event) (state : State) (seat : Seat) → Names event seat.number → (found : Option Connection) → seated seat state ≡ found → IfSome found (λ c. Names event c.number)
@@ -470,18 +469,18 @@ left_so event state Stored (Attempt.Asks change stored refused) one = (left even
 left_so event state Refused (Attempt.Asks change stored refused) one = (left event state one.2.0 refused one.2.1, tt)
 left_so event state NoChange (Attempt.Asks change stored refused) one = (left event state one.2.0 refused one.2.1, tt)
 
-others : (serving : Serving) (event : Event) (state : State) (outcome : Outcome) → is_opening event ≡ false → TouchesSo event state outcome (attempt serving event (entered state))
-others serving event state outcome not =
+others : (event : Event) (state : State) (outcome : Outcome) → is_opening event ≡ false → TouchesSo event state outcome (attempt event (entered state))
+others event state outcome not =
     attempt-goes (Goes event) (Names event) (closed event) (entered state) (TouchesSo event state outcome) (left_so event state outcome)
-    (λ why. (refused event state why, tt)) (λ party. (stranger event state party, tt)) serving event not
+    (λ why. (refused event state why, tt)) (λ party. (stranger event state party, tt)) event not
     (λ seat names. each event (entered state).state seat names (seated seat (entered state).state) refl)
 
-attempt-touches : (serving : Serving) (event : Event) (state : State) (outcome : Outcome) → TouchesSo event state outcome (attempt serving event (entered state))
-attempt-touches serving event state outcome =
-    each_event (λ event. TouchesSo event state outcome (attempt serving event (entered state)))
+attempt-touches : (event : Event) (state : State) (outcome : Outcome) → TouchesSo event state outcome (attempt event (entered state))
+attempt-touches event state outcome =
+    each_event (λ event. TouchesSo event state outcome (attempt event (entered state)))
     (λ boxes. (opened-touches (Open boxes) boxes state, tt))
-    (λ address purpose boxes. (dial-touches (Dial address purpose boxes) serving.dials address purpose boxes state, tt))
-    (λ event not. others serving event state outcome not)
+    (λ address purpose boxes. (dial-touches (Dial address purpose boxes) address purpose boxes state, tt))
+    (λ event not. others event state outcome not)
     event
 
 -- The order of lines
@@ -536,6 +535,6 @@ step-touches : (b : Bool) (event : Event) (state : State) (outcome : Outcome) (a
 step-touches true event state outcome a so = went-touches event state outcome a so
 step-touches false event state outcome a so = let touches = frozen-touches event state in (touches.0, touches.1, touches.2, touches.3, tt)
 
-pub touches : (serving : Serving) (state : State) (event : Event) (outcome : Outcome) →
-    (key : Key) × TouchesOne key event state (step_serving serving state event outcome).state × TellsOfOne key event state (step_serving serving state event outcome).answer.sent × SendsOne key state (step_serving serving state event outcome).answer × IsOfKey key (wants_serving serving state event) outcome
-touches serving state event outcome = step-touches (is_open state) event state outcome (attempt serving event (entered state)) (attempt-touches serving event state outcome)
+pub touches : (state : State) (event : Event) (outcome : Outcome) →
+    (key : Key) × TouchesOne key event state (step state event outcome).state × TellsOfOne key event state (step state event outcome).answer.sent × SendsOne key state (step state event outcome).answer × IsOfKey key (wants state event) outcome
+touches state event outcome = step-touches (is_open state) event state outcome (attempt event (entered state)) (attempt-touches event state outcome)

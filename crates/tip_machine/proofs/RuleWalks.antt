@@ -34,7 +34,6 @@ use Rattle.tip_machine.specs.Reactions.{aborts, asks, commits, needs_nothing, pr
 use Rattle.tip_machine.specs.Proceeding.{abort, agree, ask, asked_for_votes, commit, conclude, dispatch, dispatched, enter, errand_in, finish, give_out, leave, let_go, owed_to_superior, promise, release, proceed, proceed_in, wait}
 use Rattle.tip_machine.specs.Failing.{closed, fail, gone, lost_unanswered, missed, part_lost, superior_lost, wrong}
 use Rattle.tip_machine.specs.Commands.{begin, commanded, decide_abort, decide_commit, exists, identify, make, obey, prepare, pull, pull_into, push, push_new, query, reconnect, reconnect_to, serve, serve_if, superior_role, take_over}
-use Rattle.tip_machine.specs.Served.{Serving}
 use Rattle.tip_machine.specs.declared.answer.Asked.{Asked}
 use Rattle.tip_machine.specs.declared.answer.Item.TheVariants.{Say, Ask, Close}
 use Rattle.tip_machine.specs.declared.answer.Said.{Said}
@@ -392,10 +391,10 @@ module _ (R : Key → Work → Work → Type 0) (May : ℕ → Type 0) (k : (key
   serves Tls c w may is = replied c _ _ w may tt
   serves Error c w may is = closes c w may
 
-  serves_if : (serving : Serving) (admit : Admit) (command : Command) (c : Connection) (w : Work) → May c.number → connection_of c.number w.state ≡ Some c → EndsAtOne R w (serve_if serving admit command c w)
-  serves_if serving Serve command c w may is = either_attempt (EndsAtOne R w) (serving.commands (name_of command)) (serve command c w) _ (serves command c w may is) (goes_wrong c w may)
-  serves_if serving Wrong command c w may is = goes_wrong c w may
+  serves_if : (admit : Admit) (command : Command) (c : Connection) (w : Work) → May c.number → connection_of c.number w.state ≡ Some c → EndsAtOne R w (serve_if admit command c w)
+  serves_if Serve command c w may is = serves command c w may is
+  serves_if Wrong command c w may is = goes_wrong c w may
 
-  pub is_commanded : (serving : Serving) (command : Command) (c : Connection) (w : Work) → May c.number → connection_of c.number w.state ≡ Some c → EndsAtOne R w (commanded serving command c w)
+  pub is_commanded : (command : Command) (c : Connection) (w : Work) → May c.number → connection_of c.number w.state ≡ Some c → EndsAtOne R w (commanded command c w)
   unfolding commanded
-  is_commanded serving command c w may is = serves_if serving (admit_of c.state c.side (name_of command)) command c w may is
+  is_commanded command c w may is = serves_if (admit_of c.state c.side (name_of command)) command c w may is

@@ -21,7 +21,6 @@ use Rattle.tip_machine.specs.Invariants.Phases.{is_transaction}
 use Rattle.tip_machine.specs.Invariants.Stored.{are_stored}
 use Rattle.tip_machine.specs.Moves.{World, fresh, moved, stepped}
 use Rattle.tip_machine.specs.Examples.Scripts.{Each, Example, Line, Reaches, StaysSound, move_of}
-use Rattle.tip_machine.specs.Served.{everything}
 use Rattle.tip_machine.specs.Examples.{worked}
 use Rattle.tip_machine.proofs.Each.{each}
 
@@ -46,12 +45,12 @@ sound_world world is =
 
 stays_sound : World → List Line → Bool
 stays_sound world [] = is_sound world
-stays_sound world (line ∷ lines) = is_sound world && stays_sound (moved everything (move_of line world) world).world lines
+stays_sound world (line ∷ lines) = is_sound world && stays_sound (moved (move_of line world) world).world lines
 
 reaches : (world : World) (lines : List Line) → stays_sound world lines ≡ true → Reaches world lines
 unfolding stays_sound
 reaches world [] is = sound_world world is
-reaches world (line ∷ lines) is = let both = and_parts _ _ is in (sound_world world both.0, reaches (moved everything (move_of line world) world).world lines both.1)
+reaches world (line ∷ lines) is = let both = and_parts _ _ is in (sound_world world both.0, reaches (moved (move_of line world) world).world lines both.1)
 
 stays : Example → Bool
 stays example = stays_sound (fresh example.head) example.lines

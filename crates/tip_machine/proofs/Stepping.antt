@@ -1,6 +1,6 @@
 -- What a step leaves of a realm's counts, and what a refusal leaves.
 use Rattle.std.proofs.Common.{◌≡◌, ◌≤◌, Bool, true, false, ℕ, ◌+◌, List, [], Some, None, cond, refl, ap, arith, sym, ◌∙◌, ◌⊎◌, inl, inr}
-use Rattle.std.specs.Prelude.{◌&&◌, IsSome, length}
+use Rattle.std.specs.Prelude.{IsSome, length}
 use Rattle.std.proofs.lemmas.Option.{same_Some, none-some}
 use Rattle.tip_branch.specs.declared.branch.Badge.{Badge}
 use Rattle.tip_line.specs.declared.refusal.Refusal.{Refusal}
@@ -12,8 +12,7 @@ use Rattle.tip_machine.specs.States.{Attempt, State, Work, has_place}
 use Rattle.tip_machine.specs.Changes.{refuse}
 use Rattle.tip_machine.specs.Order.{in_turn, ordered, turn}
 use Rattle.tip_machine.specs.Requests.{added, dial, hand_back, opened}
-use Rattle.tip_machine.specs.Served.{Serving}
-use Rattle.tip_machine.specs.Steps.{attempt, chosen, entered, frozen, is_open, returned, step_serving, wanted, wants_serving, ChangesTheEntriesAlone, IsNext}
+use Rattle.tip_machine.specs.Steps.{attempt, chosen, entered, frozen, is_open, returned, step, wanted, wants, ChangesTheEntriesAlone, IsNext}
 use Rattle.tip_machine.specs.declared.answer.Sent.{Sent}
 use Rattle.tip_machine.specs.declared.connection.Purpose.{Purpose}
 use Rattle.tip_machine.specs.declared.event.Event.TheVariants.{Open, Dial, Voted, Settled}
@@ -40,19 +39,19 @@ opened-went : (boxes : List Badge) (w : Work) → Went w (opened boxes w)
 unfolding opened added
 opened-went boxes w = either (Went w) (has_place (length boxes) w.state) (added (accepted boxes) w) _ (inr (record { head = refl; opened = refl; refusal = refl })) (handed_back w boxes)
 
-dial-went : (serves : Bool) (address : List ℕ) (purpose : Purpose) (boxes : List Badge) (w : Work) → Went w (dial serves address purpose boxes w)
+dial-went : (address : List ℕ) (purpose : Purpose) (boxes : List Badge) (w : Work) → Went w (dial address purpose boxes w)
 unfolding dial added
-dial-went serves address purpose boxes w = either (Went w) (serves && has_place (length boxes) w.state) _ _ (inr (record { head = refl; opened = refl; refusal = refl })) (handed_back w boxes)
+dial-went address purpose boxes w = either (Went w) (has_place (length boxes) w.state) _ _ (inr (record { head = refl; opened = refl; refusal = refl })) (handed_back w boxes)
 
 went_each : (w : Work) (a : Attempt) → Ends (Goes w) a → Ends (Went w) a
 went_each w a goes = more_ends (Goes w) (Went w) (λ v gone. inl gone) a goes
 
-attempt-went : (serving : Serving) (event : Event) (w : Work) → w.answer.refusal ≡ None → Ends (Went w) (attempt serving event w)
-attempt-went serving event w none =
-    each_event (λ event. Ends (Went w) (attempt serving event w))
+attempt-went : (event : Event) (w : Work) → w.answer.refusal ≡ None → Ends (Went w) (attempt event w)
+attempt-went event w none =
+    each_event (λ event. Ends (Went w) (attempt event w))
     (λ boxes. opened-went boxes w)
-    (λ address purpose boxes. dial-went serving.dials address purpose boxes w)
-    (λ event not. went_each w (attempt serving event w) (event-goes serving event w not none))
+    (λ address purpose boxes. dial-went address purpose boxes w)
+    (λ event not. went_each w (attempt event w) (event-goes event w not none))
     event
 
 -- no line has no order
@@ -73,8 +72,8 @@ ordered-went w state v none (inl goes) = inl (record {
 ordered-went w state v none (inr opens) = inr (record { head = opens.head; opened = opens.opened; refusal = opens.refusal })
 
 -- an event that takes an entry goes from `entered`
-pub step-went : (serving : Serving) (state : State) (event : Event) (outcome : Outcome) → Went (entered state) (ordered state (chosen (attempt serving event (entered state)) outcome))
-step-went serving state event outcome = ordered-went (entered state) state _ refl (chosen_ends (Went (entered state)) (attempt serving event (entered state)) outcome (attempt-went serving event (entered state) refl))
+pub step-went : (state : State) (event : Event) (outcome : Outcome) → Went (entered state) (ordered state (chosen (attempt event (entered state)) outcome))
+step-went state event outcome = ordered-went (entered state) state _ refl (chosen_ends (Went (entered state)) (attempt event (entered state)) outcome (attempt-went event (entered state) refl))
 
 returned-opened : (why : Refusal) (event : Event) → (returned why event).opened ≡ None
 returned-opened why (Open boxes) = refl
@@ -104,12 +103,12 @@ frozen-alone : (event : Event) (state : State) → IsAlone state (frozen event s
 unfolding IsAlone
 frozen-alone event state = λ some. refl
 
-quiet_step : (serving : Serving) (state : State) (event : Event) (outcome : Outcome) → IsAlone state (step_serving serving state event outcome)
-quiet_step serving state event outcome = either (IsAlone state) (is_open state) _ (frozen event state) (went-alone state _ (step-went serving state event outcome)) (frozen-alone event state)
+quiet_step : (state : State) (event : Event) (outcome : Outcome) → IsAlone state (step state event outcome)
+quiet_step state event outcome = either (IsAlone state) (is_open state) _ (frozen event state) (went-alone state _ (step-went state event outcome)) (frozen-alone event state)
 
-pub quiet : (serving : Serving) (state : State) (event : Event) (outcome : Outcome) → IsSome (step_serving serving state event outcome).answer.refusal → ChangesTheEntriesAlone state (step_serving serving state event outcome).state
+pub quiet : (state : State) (event : Event) (outcome : Outcome) → IsSome (step state event outcome).answer.refusal → ChangesTheEntriesAlone state (step state event outcome).state
 unfolding IsAlone
-quiet serving state event outcome = quiet_step serving state event outcome
+quiet state event outcome = quiet_step state event outcome
 
 -- and it tells nothing, and sends no party out
 
@@ -132,12 +131,12 @@ frozen-silent : (event : Event) (state : State) → IsSilent (frozen event state
 unfolding IsSilent
 frozen-silent event state = λ some. returned-silent Frozen event
 
-silent_step : (serving : Serving) (state : State) (event : Event) (outcome : Outcome) → IsSilent (step_serving serving state event outcome)
-silent_step serving state event outcome = either IsSilent (is_open state) _ (frozen event state) (went-silent state _ (step-went serving state event outcome)) (frozen-silent event state)
+silent_step : (state : State) (event : Event) (outcome : Outcome) → IsSilent (step state event outcome)
+silent_step state event outcome = either IsSilent (is_open state) _ (frozen event state) (went-silent state _ (step-went state event outcome)) (frozen-silent event state)
 
-pub silent : (serving : Serving) (state : State) (event : Event) (outcome : Outcome) → IsSome (step_serving serving state event outcome).answer.refusal → ((step_serving serving state event outcome).answer.sent ≡ []) × ((step_serving serving state event outcome).answer.work ≡ None)
+pub silent : (state : State) (event : Event) (outcome : Outcome) → IsSome (step state event outcome).answer.refusal → ((step state event outcome).answer.sent ≡ []) × ((step state event outcome).answer.work ≡ None)
 unfolding IsSilent
-silent serving state event outcome = silent_step serving state event outcome
+silent state event outcome = silent_step state event outcome
 
 -- and wants no change
 
@@ -152,11 +151,11 @@ wants_or_not : (b : Bool) (a : Attempt) (outcome : Outcome) (state : State) (oth
 wants_or_not true a outcome state other is some = wants_nothing a outcome state is some
 wants_or_not false a outcome state other is some = refl
 
-attempt-calm : (serving : Serving) (event : Event) (w : Work) → w.answer.refusal ≡ None → IsCalm (attempt serving event w)
-attempt-calm serving event w none = each_event (λ event. IsCalm (attempt serving event w)) (λ boxes. tt) (λ address purpose boxes. tt) (λ event not. event-calm serving event w not none) event
+attempt-calm : (event : Event) (w : Work) → w.answer.refusal ≡ None → IsCalm (attempt event w)
+attempt-calm event w none = each_event (λ event. IsCalm (attempt event w)) (λ boxes. tt) (λ address purpose boxes. tt) (λ event not. event-calm event w not none) event
 
-pub wants_none : (serving : Serving) (state : State) (event : Event) (outcome : Outcome) → IsSome (step_serving serving state event outcome).answer.refusal → wants_serving serving state event ≡ None
-wants_none serving state event outcome some = wants_or_not (is_open state) (attempt serving event (entered state)) outcome state (frozen event state) (attempt-calm serving event (entered state) refl) some
+pub wants_none : (state : State) (event : Event) (outcome : Outcome) → IsSome (step state event outcome).answer.refusal → wants state event ≡ None
+wants_none state event outcome some = wants_or_not (is_open state) (attempt event (entered state)) outcome state (frozen event state) (attempt-calm event (entered state) refl) some
 
 -- The name and the epoch of a realm stay
 
@@ -172,16 +171,16 @@ frozen-still : (event : Event) (state : State) → IsStill state (frozen event s
 unfolding IsStill
 frozen-still event state = (refl, refl)
 
-still_step : (serving : Serving) (state : State) (event : Event) (outcome : Outcome) → IsStill state (step_serving serving state event outcome)
-still_step serving state event outcome = either (IsStill state) (is_open state) _ (frozen event state) (went-still state _ (step-went serving state event outcome)) (frozen-still event state)
+still_step : (state : State) (event : Event) (outcome : Outcome) → IsStill state (step state event outcome)
+still_step state event outcome = either (IsStill state) (is_open state) _ (frozen event state) (went-still state _ (step-went state event outcome)) (frozen-still event state)
 
-pub step-named : (serving : Serving) (state : State) (event : Event) (outcome : Outcome) → (step_serving serving state event outcome).state.head.name ≡ state.head.name
+pub step-named : (state : State) (event : Event) (outcome : Outcome) → (step state event outcome).state.head.name ≡ state.head.name
 unfolding IsStill
-step-named serving state event outcome = (still_step serving state event outcome).0
+step-named state event outcome = (still_step state event outcome).0
 
-pub step-epoch : (serving : Serving) (state : State) (event : Event) (outcome : Outcome) → (step_serving serving state event outcome).state.head.epoch ≡ state.head.epoch
+pub step-epoch : (state : State) (event : Event) (outcome : Outcome) → (step state event outcome).state.head.epoch ≡ state.head.epoch
 unfolding IsStill
-step-epoch serving state event outcome = (still_step serving state event outcome).1
+step-epoch state event outcome = (still_step state event outcome).1
 
 -- Numbers of connections
 
@@ -199,12 +198,12 @@ frozen-numbers : (event : Event) (state : State) → Numbers state (frozen event
 unfolding Numbers
 frozen-numbers event state seat is = absurd (none-some seat (sym (returned-opened Frozen event) ∙ is))
 
-numbers_step : (serving : Serving) (state : State) (event : Event) (outcome : Outcome) → Numbers state (step_serving serving state event outcome)
-numbers_step serving state event outcome = either (Numbers state) (is_open state) _ (frozen event state) (went-numbers state _ (step-went serving state event outcome)) (frozen-numbers event state)
+numbers_step : (state : State) (event : Event) (outcome : Outcome) → Numbers state (step state event outcome)
+numbers_step state event outcome = either (Numbers state) (is_open state) _ (frozen event state) (went-numbers state _ (step-went state event outcome)) (frozen-numbers event state)
 
-pub numbered : (serving : Serving) (state : State) (event : Event) (outcome : Outcome) (seat : Seat) → (step_serving serving state event outcome).answer.opened ≡ Some seat → IsNext state seat × ((step_serving serving state event outcome).state.head.given ≡ seat.number)
+pub numbered : (state : State) (event : Event) (outcome : Outcome) (seat : Seat) → (step state event outcome).answer.opened ≡ Some seat → IsNext state seat × ((step state event outcome).state.head.given ≡ seat.number)
 unfolding Numbers
-numbered serving state event outcome = numbers_step serving state event outcome
+numbered state event outcome = numbers_step state event outcome
 
 -- Counts
 
@@ -220,12 +219,12 @@ frozen-risen : (event : Event) (state : State) → IsRisen state (frozen event s
 unfolding IsRisen
 frozen-risen event state = omega arith
 
-risen_step : (serving : Serving) (state : State) (event : Event) (outcome : Outcome) → IsRisen state (step_serving serving state event outcome)
-risen_step serving state event outcome = either (IsRisen state) (is_open state) _ (frozen event state) (went-risen state _ (step-went serving state event outcome)) (frozen-risen event state)
+risen_step : (state : State) (event : Event) (outcome : Outcome) → IsRisen state (step state event outcome)
+risen_step state event outcome = either (IsRisen state) (is_open state) _ (frozen event state) (went-risen state _ (step-went state event outcome)) (frozen-risen event state)
 
-pub rising : (serving : Serving) (state : State) (event : Event) (outcome : Outcome) → state.head.given ≤ (step_serving serving state event outcome).state.head.given
+pub rising : (state : State) (event : Event) (outcome : Outcome) → state.head.given ≤ (step state event outcome).state.head.given
 unfolding IsRisen
-rising serving state event outcome = risen_step serving state event outcome
+rising state event outcome = risen_step state event outcome
 
 IsCountedIn : Work → Type 0
 IsCountedIn work = IsCounted work.state.head
@@ -239,9 +238,9 @@ frozen-counted : (event : Event) (state : State) → IsCounted state.head → Is
 unfolding IsCountedIn
 frozen-counted event state le = le
 
-counted_step : (serving : Serving) (state : State) (event : Event) (outcome : Outcome) → IsCounted state.head → IsCountedIn (step_serving serving state event outcome)
-counted_step serving state event outcome le = either IsCountedIn (is_open state) _ (frozen event state) (went-counted state _ le (step-went serving state event outcome)) (frozen-counted event state le)
+counted_step : (state : State) (event : Event) (outcome : Outcome) → IsCounted state.head → IsCountedIn (step state event outcome)
+counted_step state event outcome le = either IsCountedIn (is_open state) _ (frozen event state) (went-counted state _ le (step-went state event outcome)) (frozen-counted event state le)
 
-pub step-counted : (serving : Serving) (state : State) (event : Event) (outcome : Outcome) → IsCounted state.head → IsCounted (step_serving serving state event outcome).state.head
+pub step-counted : (state : State) (event : Event) (outcome : Outcome) → IsCounted state.head → IsCounted (step state event outcome).state.head
 unfolding IsCountedIn
-step-counted serving state event outcome le = counted_step serving state event outcome le
+step-counted state event outcome le = counted_step state event outcome le

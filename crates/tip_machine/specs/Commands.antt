@@ -21,7 +21,6 @@ use Rattle.tip_machine.specs.States.{Attempt, Work, has_room, identified_by, tra
 use Rattle.tip_machine.specs.Changes.{alter, attempt_on, change, reply, tell}
 use Rattle.tip_machine.specs.Proceeding.{abort, ask, commit}
 use Rattle.tip_machine.specs.Failing.{closed, wrong}
-use Rattle.tip_machine.specs.Served.{Serving}
 use Rattle.tip_machine.specs.declared.answer.Item.TheVariants.{Say}
 use Rattle.tip_machine.specs.declared.answer.Said.TheVariants as said
 use Rattle.tip_machine.specs.declared.connection.Role.{Role}
@@ -172,11 +171,11 @@ serve (Multiplex protocol) connection work = Attempt.Done (reply connection.numb
 serve Tls connection work = Attempt.Done (reply connection.number command.Tls said.CantTls work)
 serve Error connection work = Attempt.Done (closed connection work)
 
--- a command that the connection table admits and that is served, or is not (section 13; what is served is ours)
-abbrev pub serve_if : Serving → Admit → Command → Connection → Work → Attempt
-serve_if serving Serve command connection work = if serving.commands (name_of command) then serve command connection work else Attempt.Done (wrong connection work)
-serve_if serving Wrong command connection work = Attempt.Done (wrong connection work)
+-- a command that the connection table admits, or does not (section 13)
+abbrev pub serve_if : Admit → Command → Connection → Work → Attempt
+serve_if Serve command connection work = serve command connection work
+serve_if Wrong command connection work = Attempt.Done (wrong connection work)
 
 -- a command comes from the primary (section 13)
-unfoldable pub commanded : Serving → Command → Connection → Work → Attempt
-commanded serving command connection work = serve_if serving (admit_of connection.state connection.side (name_of command)) command connection work
+unfoldable pub commanded : Command → Connection → Work → Attempt
+commanded command connection work = serve_if (admit_of connection.state connection.side (name_of command)) command connection work

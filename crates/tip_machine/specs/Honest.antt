@@ -8,9 +8,8 @@ use Rattle.tip_rows.specs.Logs.{last_epoch}
 use Rattle.tip_machine.specs.Types.{Event}
 use Rattle.tip_machine.specs.Moves.{Move, World, moved}
 use Rattle.tip_machine.specs.Returns.{Back, can_answer, event_of}
-use Rattle.tip_machine.specs.Served.{Serving}
 use Rattle.tip_machine.specs.Starting.{are_adopted}
-use Rattle.tip_machine.specs.Steps.{fits, wants_serving}
+use Rattle.tip_machine.specs.Steps.{fits, wants}
 use Rattle.tip_machine.specs.declared.event.Event.TheVariants.{Voted, Settled}
 use Rattle.tip_machine.specs.declared.event.Outcome.{Outcome}
 use Rattle.tip_machine.specs.declared.event.Outcome.TheVariants.{NoChange, Stored, Refused}
@@ -26,22 +25,22 @@ abbrev pub can_start : (Key → List Badge) → World → Bool
 can_start boxes world = nat_lt world.state.head.epoch last_epoch && are_adopted boxes world.rows
 
 -- the oldest errand comes back as its branches can answer
-abbrev pub can_go : List PartyNotes → Serving → Back → Outcome → World → Bool
-can_go [] serving back outcome world = true
-can_go (party ∷ errands) serving back outcome world =
-    can_answer party.errand back party.members && fits (wants_serving serving world.state (event_of party back)) outcome
+abbrev pub can_go : List PartyNotes → Back → Outcome → World → Bool
+can_go [] back outcome world = true
+can_go (party ∷ errands) back outcome world =
+    can_answer party.errand back party.members && fits (wants world.state (event_of party back)) outcome
 
 -- A MOVE IS HONEST in the world that it meets. A renewal that is refused for another reason than by the store is no move
-abbrev pub is_honest : Serving → Move → World → Bool
-is_honest serving (Move.Step event outcome) world = brings_no_party event && fits (wants_serving serving world.state event) outcome
-is_honest serving (Move.Go back outcome) world = can_go world.errands serving back outcome world
-is_honest serving Move.Lose world = true
-is_honest serving (Move.Restart boxes) world = can_start boxes world
-is_honest serving (Move.Renew boxes NoChange) world = false
-is_honest serving (Move.Renew boxes Stored) world = can_start boxes world
-is_honest serving (Move.Renew boxes Refused) world = can_start boxes world
+abbrev pub is_honest : Move → World → Bool
+is_honest (Move.Step event outcome) world = brings_no_party event && fits (wants world.state event) outcome
+is_honest (Move.Go back outcome) world = can_go world.errands back outcome world
+is_honest Move.Lose world = true
+is_honest (Move.Restart boxes) world = can_start boxes world
+is_honest (Move.Renew boxes NoChange) world = false
+is_honest (Move.Renew boxes Stored) world = can_start boxes world
+is_honest (Move.Renew boxes Refused) world = can_start boxes world
 
 -- A RUN IS HONEST: each of its moves is
-abbrev pub is_run : Serving → World → List Move → Bool
-is_run serving world [] = true
-is_run serving world (move ∷ moves) = is_honest serving move world && is_run serving (moved serving move world).world moves
+abbrev pub is_run : World → List Move → Bool
+is_run world [] = true
+is_run world (move ∷ moves) = is_honest move world && is_run (moved move world).world moves

@@ -7,7 +7,6 @@ pub mod Transactions
 pub mod States
 pub mod Counts
 pub mod Given
-pub mod Served
 pub mod Changes
 pub mod Reactions
 pub mod Proceeding

@@ -11,9 +11,8 @@ use Rattle.tip_machine.specs.Types.{Event, PartyPlace}
 use Rattle.tip_machine.specs.Outputs.{Output, drops_of, outputs}
 use Rattle.tip_machine.specs.Recovery.{Loaded, restarted}
 use Rattle.tip_machine.specs.Returns.{Back, event_of}
-use Rattle.tip_machine.specs.Served.{Serving}
 use Rattle.tip_machine.specs.States.{State, started}
-use Rattle.tip_machine.specs.Steps.{step_serving, wants_serving}
+use Rattle.tip_machine.specs.Steps.{step, wants}
 use Rattle.tip_machine.specs.declared.event.Change.{Change}
 use Rattle.tip_machine.specs.declared.event.Change.TheVariants.{Put, Remove}
 use Rattle.tip_machine.specs.declared.event.Outcome.{Outcome}
@@ -64,10 +63,10 @@ rows_after change outcome rows = rows
 
 -- Events
 
-unfoldable pub stepped : Serving → Event → Outcome → World → Moved
-stepped serving event outcome world =
-    let change = wants_serving serving world.state event in
-    let work = step_serving serving world.state event outcome in
+unfoldable pub stepped : Event → Outcome → World → Moved
+stepped event outcome world =
+    let change = wants world.state event in
+    let work = step world.state event outcome in
     record {
       shown = outputs event change outcome work.answer;
       world = record { state = work.state; rows = rows_after change outcome world.rows; errands = world.errands ++ option_to_list work.answer.work };
@@ -76,9 +75,9 @@ stepped serving event outcome world =
 -- Errands
 
 -- the oldest errand's party comes back
-abbrev pub gone_for : List PartyNotes → Serving → Back → Outcome → World → Moved
-gone_for [] serving back outcome world = record { shown = []; world = world }
-gone_for (party ∷ errands) serving back outcome world = stepped serving (event_of party back) outcome (record world { errands = errands })
+abbrev pub gone_for : List PartyNotes → Back → Outcome → World → Moved
+gone_for [] back outcome world = record { shown = []; world = world }
+gone_for (party ∷ errands) back outcome world = stepped (event_of party back) outcome (record world { errands = errands })
 
 abbrev pub lost_from : List PartyNotes → World → Moved
 lost_from [] world = record { shown = []; world = world }
@@ -111,25 +110,25 @@ renewed boxes Stored world = record { shown = drops_here world.state; world = re
 renewed boxes other world = record { shown = Output.Refused refusal.Refused ∷ []; world = world }
 
 -- ONE MOVE
-abbrev pub moved : Serving → Move → World → Moved
-moved serving (Step event outcome) world = stepped serving event outcome world
-moved serving (Go back outcome) world = gone_for world.errands serving back outcome world
-moved serving Lose world = lost_from world.errands world
-moved serving (Restart boxes) world = record {
+abbrev pub moved : Move → World → Moved
+moved (Step event outcome) world = stepped event outcome world
+moved (Go back outcome) world = gone_for world.errands back outcome world
+moved Lose world = lost_from world.errands world
+moved (Restart boxes) world = record {
   shown = flat_map drops_of world.errands ++ drops_here world.state;
   world = record { state = restarted_from boxes world; rows = world.rows; errands = [] };
 }
-moved serving (Renew boxes outcome) world = renewed boxes outcome world
+moved (Renew boxes outcome) world = renewed boxes outcome world
 
 -- what a list of moves shows
-abbrev pub shown : Serving → World → List Move → List (List Output)
-shown serving world [] = []
-shown serving world (move ∷ moves) = (moved serving move world).shown ∷ shown serving (moved serving move world).world moves
+abbrev pub shown : World → List Move → List (List Output)
+shown world [] = []
+shown world (move ∷ moves) = (moved move world).shown ∷ shown (moved move world).world moves
 
 -- where a list of moves leads
-abbrev pub led_to : Serving → World → List Move → World
-led_to serving world [] = world
-led_to serving world (move ∷ moves) = led_to serving (moved serving move world).world moves
+abbrev pub led_to : World → List Move → World
+led_to world [] = world
+led_to world (move ∷ moves) = led_to (moved move world).world moves
 
 -- a realm that starts and has stored nothing
 abbrev pub fresh : Head → World

@@ -1,6 +1,6 @@
 -- What happens to a realm beside commands and responses: connections come and go, lines come in or out of turn, parties come
 -- back, and the host asks for something.
-use Rattle.std.specs.Prelude.{ℕ, ◌+◌, ◌==◌, ◌&&◌, Bool, false, List, [], ◌∷◌, ◌++◌, length, Option, Some, None, find, if◌then◌else◌}
+use Rattle.std.specs.Prelude.{ℕ, ◌+◌, ◌==◌, Bool, false, List, [], ◌∷◌, ◌++◌, length, Option, Some, None, find, if◌then◌else◌}
 use Rattle.tip_branch.specs.Notes.{PartyNotes}
 use Rattle.tip_branch.specs.declared.branch.Badge.{Badge}
 use Rattle.tip_branch.specs.declared.member.Errand.TheVariants as errand
@@ -18,7 +18,6 @@ use Rattle.tip_machine.specs.Proceeding.{dispatch, finish, proceed}
 use Rattle.tip_machine.specs.Failing.{closed, fail, wrong}
 use Rattle.tip_machine.specs.Commands.{commanded, make}
 use Rattle.tip_machine.specs.Responses.{answered_by}
-use Rattle.tip_machine.specs.Served.{Serving}
 use Rattle.tip_machine.specs.declared.answer.Asked.TheVariants as asked
 use Rattle.tip_machine.specs.declared.answer.Item.TheVariants.{Ask}
 use Rattle.tip_machine.specs.declared.connection.Awaited.TheVariants as awaited
@@ -50,9 +49,9 @@ unfoldable pub opened : List Badge → Work → Work
 opened boxes work = if has_place (length boxes) work.state then added (accepted boxes) work else hand_back boxes (refuse Full work)
 
 -- we open a connection, and identify ourselves (section 13, IDENTIFY; the limits are ours)
-unfoldable pub dial : Bool → List ℕ → Purpose → List Badge → Work → Work
-dial serves address purpose boxes work =
-    if serves && has_place (length boxes) work.state
+unfoldable pub dial : List ℕ → Purpose → List Badge → Work → Work
+dial address purpose boxes work =
+    if has_place (length boxes) work.state
     then tell (work.state.head.given + 1) (Ask (asked.Identify work.state.head.address address)) (added (dialled address purpose boxes) work)
     else hand_back boxes (refuse Full work)
 
@@ -64,16 +63,16 @@ lost (Some connection) work = fail connection work
 -- Lines
 
 -- as its secondary we wait for a command, as its primary for a response; ERROR alone is both (section 12)
-abbrev pub hear : Serving → Side → Heard → Connection → Work → Attempt
-hear serving Secondary (ACommand command) connection work = commanded serving command connection work
-hear serving Primary (ACommand Error) connection work = Attempt.Done (closed connection work)
-hear serving Primary (AResponse response) connection work = if serving.responses connection.awaited then answered_by connection.awaited response connection work else Attempt.Done (wrong connection work)
-hear serving side other connection work = Attempt.Done (wrong connection work)
+abbrev pub hear : Side → Heard → Connection → Work → Attempt
+hear Secondary (ACommand command) connection work = commanded command connection work
+hear Primary (ACommand Error) connection work = Attempt.Done (closed connection work)
+hear Primary (AResponse response) connection work = answered_by connection.awaited response connection work
+hear side other connection work = Attempt.Done (wrong connection work)
 
 -- a line for a connection, if it is there; one that comes out of turn is not heard, and may come again (section 12)
-unfoldable pub line : Serving → Option Connection → Heard → Work → Attempt
-line serving None heard work = Attempt.Done (refuse Stale work)
-line serving (Some connection) heard work = if may_take connection then hear serving connection.side heard connection work else Attempt.Done (refuse Busy work)
+unfoldable pub line : Option Connection → Heard → Work → Attempt
+line None heard work = Attempt.Done (refuse Stale work)
+line (Some connection) heard work = if may_take connection then hear connection.side heard connection work else Attempt.Done (refuse Busy work)
 
 -- may a line of this seat be taken now? not where no connection has the seat (section 12)
 abbrev pub may_take_on : Option Connection → Bool
@@ -94,9 +93,9 @@ push_part (Some transaction) (Some address) number work =
 push_part found peer number work = refuse NotActive work
 
 -- on a connection that is there and free (ours)
-unfoldable pub ask_push : Bool → Option Connection → List ℕ → Work → Work
-ask_push serves None id work = refuse Stale work
-ask_push serves (Some connection) id work = if serves && is_free connection then push_part (identified_by id work.state) connection.peer connection.number work else refuse Busy work
+unfoldable pub ask_push : Option Connection → List ℕ → Work → Work
+ask_push None id work = refuse Stale work
+ask_push (Some connection) id work = if is_free connection then push_part (identified_by id work.state) connection.peer connection.number work else refuse Busy work
 
 -- a transaction of the other side is pulled here, unless it is here already (section 13, PULL)
 abbrev pub pull_new : List ℕ → Connection → Work → Work
@@ -111,9 +110,9 @@ pull_if None superior connection work = pull_new superior connection work
 pull_if (Some known) superior connection work = refuse Known work
 
 -- on a connection that is there and free (ours)
-unfoldable pub ask_pull : Bool → Option Connection → List ℕ → Work → Work
-ask_pull serves None superior work = refuse Stale work
-ask_pull serves (Some connection) superior work = if serves && is_free connection then pull_if (find (is_known connection.peer superior) work.state.transactions) superior connection work else refuse Busy work
+unfoldable pub ask_pull : Option Connection → List ℕ → Work → Work
+ask_pull None superior work = refuse Stale work
+ask_pull (Some connection) superior work = if is_free connection then pull_if (find (is_known connection.peer superior) work.state.transactions) superior connection work else refuse Busy work
 
 -- what is left of a committed transaction is tried again: its party, or the removal of its row (ours)
 abbrev pub resume_in : PartyPlace → Transaction → Work → Attempt

@@ -13,7 +13,6 @@ use Rattle.tip_machine.specs.Connections.{has_number, is_on}
 use Rattle.tip_machine.specs.States.{State, Work, Attempt, connection_of, identified_by, seated, transaction_of}
 use Rattle.tip_machine.specs.Order.{ordered}
 use Rattle.tip_machine.specs.Requests.{ask_pull, ask_push, dial, line, lost, opened, owner, resume, settled, voted}
-use Rattle.tip_machine.specs.Served.{Serving, today}
 use Rattle.tip_machine.specs.declared.answer.Sent.{Sent}
 use Rattle.tip_machine.specs.declared.event.Change.{Change}
 use Rattle.tip_machine.specs.declared.event.Change.TheVariants.{Put, Remove}
@@ -31,16 +30,16 @@ entered state = record {
 }
 
 -- the rule of each event (ours)
-abbrev pub attempt : Serving → Event → Work → Attempt
-attempt serving (Open boxes) work = Attempt.Done (opened boxes work)
-attempt serving (Dial address purpose boxes) work = Attempt.Done (dial serving.dials address purpose boxes work)
-attempt serving (Line seat heard) work = line serving (seated seat work.state) heard work
-attempt serving (Voted party) work = voted (owner party work.state) party work
-attempt serving (Settled party) work = settled (owner party work.state) party work
-attempt serving (Lost seat) work = Attempt.Done (lost (seated seat work.state) work)
-attempt serving (AskPush seat id) work = Attempt.Done (ask_push serving.dials (seated seat work.state) id work)
-attempt serving (AskPull seat superior) work = Attempt.Done (ask_pull serving.dials (seated seat work.state) superior work)
-attempt serving (Resume id) work = resume (identified_by id work.state) work
+abbrev pub attempt : Event → Work → Attempt
+attempt (Open boxes) work = Attempt.Done (opened boxes work)
+attempt (Dial address purpose boxes) work = Attempt.Done (dial address purpose boxes work)
+attempt (Line seat heard) work = line (seated seat work.state) heard work
+attempt (Voted party) work = voted (owner party work.state) party work
+attempt (Settled party) work = settled (owner party work.state) party work
+attempt (Lost seat) work = Attempt.Done (lost (seated seat work.state) work)
+attempt (AskPush seat id) work = Attempt.Done (ask_push (seated seat work.state) id work)
+attempt (AskPull seat superior) work = Attempt.Done (ask_pull (seated seat work.state) superior work)
+attempt (Resume id) work = resume (identified_by id work.state) work
 
 -- the work, by what became of the change; an outcome that says nothing of it counts as a refusal (ours)
 abbrev pub chosen : Attempt → Outcome → Work
@@ -71,12 +70,12 @@ abbrev pub frozen : Event → State → Work
 frozen event state = record { state = state; answer = returned Frozen event }
 
 -- ONE STEP of the machine of one realm
-abbrev pub step_serving : Serving → State → Event → Outcome → Work
-step_serving serving state event outcome = if is_open state then ordered state (chosen (attempt serving event (entered state)) outcome) else frozen event state
+abbrev pub step : State → Event → Outcome → Work
+step state event outcome = if is_open state then ordered state (chosen (attempt event (entered state)) outcome) else frozen event state
 
 -- the change of the stored rows that an event wants, before its outcome is known
-abbrev pub wants_serving : Serving → State → Event → Option Change
-wants_serving serving state event = if is_open state then wanted (attempt serving event (entered state)) else None
+abbrev pub wants : State → Event → Option Change
+wants state event = if is_open state then wanted (attempt event (entered state)) else None
 
 abbrev pub is_no_change : Outcome → Bool
 is_no_change NoChange = true
@@ -87,14 +86,6 @@ is_no_change Refused = false
 abbrev pub fits : Option Change → Outcome → Bool
 fits None outcome = is_no_change outcome
 fits (Some change) outcome = not (is_no_change outcome)
-
--- the step of today
-abbrev pub step : State → Event → Outcome → Work
-step = step_serving today
-
--- what is wanted today
-abbrev pub wants : State → Event → Option Change
-wants = wants_serving today
 
 -- a state that differs in the count of entries, if at all
 abbrev pub ChangesTheEntriesAlone : State → State → Type 0

@@ -1,4 +1,4 @@
-//! Laws of the machine, each carried by a function that does nothing. They hold whatever is served.
+//! Laws of the machine, each carried by a function that does nothing.
 ghost use Rattle.std.specs.Prelude.{◌≡◌, ◌≤◌, ◌<◌, [], ℕ, List, Option, IsSome, Some, None, map, true, false};
 ghost use Rattle.std.specs.List.{All};
 ghost use Rattle.tip_branch.specs.Notes.{ComesBack, PartyNotes};
@@ -17,10 +17,9 @@ ghost use Rattle.tip_machine.specs.Moves.{Move, World, fresh, led_to};
 ghost use Rattle.tip_machine.specs.Requests.{push_part, resume};
 ghost use Rattle.tip_machine.specs.Responses.{pursue};
 ghost use Rattle.tip_machine.specs.Returns.{Back, back_of, can_answer, is_done};
-ghost use Rattle.tip_machine.specs.Served.{Serving};
 ghost use Rattle.tip_machine.specs.Starting.{IsStart, is_starting};
 ghost use Rattle.tip_machine.specs.States.{State, Work, connection_of, identified_by, started, transaction_of};
-ghost use Rattle.tip_machine.specs.Steps.{entered, step_serving, wants_serving, ChangesTheEntriesAlone, IsForgotten, IsNext, IsOfKey, SendsOne, TellsOfOne, TouchesOne};
+ghost use Rattle.tip_machine.specs.Steps.{entered, step, wants, ChangesTheEntriesAlone, IsForgotten, IsNext, IsOfKey, SendsOne, TellsOfOne, TouchesOne};
 ghost use Rattle.tip_machine.specs.Transactions.{decision};
 ghost use Rattle.tip_machine.specs.Types.{Connection, Event};
 ghost use Rattle.tip_machine.specs.declared.answer.Said.TheVariants as said;
@@ -34,21 +33,21 @@ ghost use Rattle.tip_machine.specs.declared.head.Head.{Head};
 /// wanted.
 #[tactic(auto, using(crate::proofs::Stepping::quiet, crate::proofs::Stepping::silent, crate::proofs::Stepping::wants_none))]
 pub fn a_refusal_changes_the_entries_alone()
-    ensures state { (serving : Serving) (state : State) (event : Event) (outcome : Outcome) → IsSome (step_serving serving state event outcome).answer.refusal →
-        ChangesTheEntriesAlone state (step_serving serving state event outcome).state }
-    ensures silent { (serving : Serving) (state : State) (event : Event) (outcome : Outcome) → IsSome (step_serving serving state event outcome).answer.refusal →
-        ((step_serving serving state event outcome).answer.sent ≡ []) × ((step_serving serving state event outcome).answer.work ≡ None) }
-    ensures unwanted { (serving : Serving) (state : State) (event : Event) (outcome : Outcome) → IsSome (step_serving serving state event outcome).answer.refusal → wants_serving serving state event ≡ None }
+    ensures state { (state : State) (event : Event) (outcome : Outcome) → IsSome (step state event outcome).answer.refusal →
+        ChangesTheEntriesAlone state (step state event outcome).state }
+    ensures silent { (state : State) (event : Event) (outcome : Outcome) → IsSome (step state event outcome).answer.refusal →
+        ((step state event outcome).answer.sent ≡ []) × ((step state event outcome).answer.work ≡ None) }
+    ensures unwanted { (state : State) (event : Event) (outcome : Outcome) → IsSome (step state event outcome).answer.refusal → wants state event ≡ None }
 {}
 
 /// A new connection has the next number of its start, the count of numbers never falls, and numbers rise in the order made.
 #[tactic(auto, using(crate::proofs::Stepping::numbered, crate::proofs::Stepping::rising))]
 pub fn numbers_of_connections_rise()
-    ensures numbered { (serving : Serving) (state : State) (event : Event) (outcome : Outcome) (seat : Seat) → (step_serving serving state event outcome).answer.opened ≡ Some seat →
-        IsNext state seat × ((step_serving serving state event outcome).state.head.given ≡ seat.number) }
-    ensures rising { (serving : Serving) (state : State) (event : Event) (outcome : Outcome) → state.head.given ≤ (step_serving serving state event outcome).state.head.given }
+    ensures numbered { (state : State) (event : Event) (outcome : Outcome) (seat : Seat) → (step state event outcome).answer.opened ≡ Some seat →
+        IsNext state seat × ((step state event outcome).state.head.given ≡ seat.number) }
+    ensures rising { (state : State) (event : Event) (outcome : Outcome) → state.head.given ≤ (step state event outcome).state.head.given }
     ensures none { (state : State) → state.connections ≡ [] → are_numbered state ≡ true }
-    ensures stays { (serving : Serving) (state : State) (event : Event) (outcome : Outcome) → are_numbered state ≡ true → are_numbered (step_serving serving state event outcome).state ≡ true }
+    ensures stays { (state : State) (event : Event) (outcome : Outcome) → are_numbered state ≡ true → are_numbered (step state event outcome).state ≡ true }
 {}
 
 /// A realm's counts stay below its entries: an event takes one, gives at most one connection, and makes at most one transaction.
@@ -56,7 +55,7 @@ pub fn numbers_of_connections_rise()
 #[tactic(auto, using(crate::proofs::Counting::counts_start, crate::proofs::Counting::counts_stay, crate::proofs::Counting::entered_below))]
 pub fn counts_stay_below_the_entries()
     ensures start { (head : Head) → 0 < head.epoch → head.given ≤ head.entries → HasCounts (started head) }
-    ensures stays { (serving : Serving) (state : State) (event : Event) (outcome : Outcome) → HasCounts state → HasCounts (step_serving serving state event outcome).state }
+    ensures stays { (state : State) (event : Event) (outcome : Outcome) → HasCounts state → HasCounts (step state event outcome).state }
     ensures entered { (number : ℕ) (state : State) (connection : Connection) → HasCounts state → connection_of number (entered state).state ≡ Some connection →
         (connection.made < (entered state).state.head.entries) × (0 < connection.number) }
 {}
@@ -66,19 +65,19 @@ pub fn counts_stay_below_the_entries()
 /// removed are of that transaction.
 #[tactic(auto, using(crate::proofs::Others::touches))]
 pub fn at_most_one_transaction_changes()
-    ensures { (serving : Serving) (state : State) (event : Event) (outcome : Outcome) → (key : Key) ×
-        TouchesOne key event state (step_serving serving state event outcome).state × TellsOfOne key event state (step_serving serving state event outcome).answer.sent × SendsOne key state (step_serving serving state event outcome).answer × IsOfKey key (wants_serving serving state event) outcome }
+    ensures { (state : State) (event : Event) (outcome : Outcome) → (key : Key) ×
+        TouchesOne key event state (step state event outcome).state × TellsOfOne key event state (step state event outcome).answer.sent × SendsOne key state (step state event outcome).answer × IsOfKey key (wants state event) outcome }
 {}
 
 /// An identifier is never made twice: a new transaction has a key that was not given before, that is given then, and that
 /// stays so wherever moves lead, over restarts and renewals too, and in each state of a later epoch.
 #[tactic(auto, using(crate::proofs::Identifiers::new_was_not_given, crate::proofs::Identifiers::new_is_given, crate::proofs::Identifiers::given_later, crate::proofs::Making::led_given))]
 pub fn an_identifier_is_never_made_twice()
-    ensures new { (serving : Serving) (state : State) (event : Event) (outcome : Outcome) (key : Key) → transaction_of key state ≡ None → IsSome (transaction_of key (step_serving serving state event outcome).state) →
+    ensures new { (state : State) (event : Event) (outcome : Outcome) (key : Key) → transaction_of key state ≡ None → IsSome (transaction_of key (step state event outcome).state) →
         was_given state key ≡ false }
-    ensures given { (serving : Serving) (state : State) (event : Event) (outcome : Outcome) (key : Key) → are_numbered state ≡ true → transaction_of key state ≡ None → IsSome (transaction_of key (step_serving serving state event outcome).state) →
-        was_given (step_serving serving state event outcome).state key ≡ true }
-    ensures stays { (serving : Serving) (world : World) (moves : List Move) (key : Key) → was_given world.state key ≡ true → was_given (led_to serving world moves).state key ≡ true }
+    ensures given { (state : State) (event : Event) (outcome : Outcome) (key : Key) → are_numbered state ≡ true → transaction_of key state ≡ None → IsSome (transaction_of key (step state event outcome).state) →
+        was_given (step state event outcome).state key ≡ true }
+    ensures stays { (world : World) (moves : List Move) (key : Key) → was_given world.state key ≡ true → was_given (led_to world moves).state key ≡ true }
     ensures later { (old new : State) (key : Key) → old.head.epoch < new.head.epoch → was_given old key ≡ true → was_given new key ≡ true }
 {}
 

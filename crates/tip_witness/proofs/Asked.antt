@@ -52,7 +52,6 @@ use Rattle.tip_machine.specs.Invariants.Links.{are_distinct}
 use Rattle.tip_machine.specs.Invariants.Phases.{has_come_to, is_transaction}
 use Rattle.tip_machine.specs.Invariants.Stored.{is_stored_as}
 use Rattle.tip_machine.specs.Moves.{Move, World, moved, risen}
-use Rattle.tip_machine.specs.Served.{Serving}
 use Rattle.tip_machine.specs.Starting.{are_counted_from}
 use Rattle.tip_machine.specs.States.{State, transaction_of}
 use Rattle.tip_machine.specs.Transactions.{decision_of, has_id, has_key}
@@ -243,7 +242,7 @@ told_ok k fine start branches moments world sound true_to asks told_it = elim (h
 
 -- EACH MOVE
 
-module _ (serving : Serving) (move : Move) (world : World) (sound : IsSound world) (k : Key) (fine : is_spelled k ≡ true) (start : World) (branches : List (ℕ × List ℕ)) (counted : are_counted_from 1 branches ≡ true) (before mine : List Moment) (was : In_world world mine) (true_to : IsTrueTo (shown_in before) world) (honest : is_honest serving move world ≡ true) (asks : Asks world.state.head.name k start branches before world) where
+module _ (move : Move) (world : World) (sound : IsSound world) (k : Key) (fine : is_spelled k ≡ true) (start : World) (branches : List (ℕ × List ℕ)) (counted : are_counted_from 1 branches ≡ true) (before mine : List Moment) (was : In_world world mine) (true_to : IsTrueTo (shown_in before) world) (honest : is_honest move world ≡ true) (asks : Asks world.state.head.name k start branches before world) where
   abbrev realm : List ℕ
   realm = world.state.head.name
 
@@ -254,10 +253,10 @@ module _ (serving : Serving) (move : Move) (world : World) (sound : IsSound worl
   id = identifier realm k
 
   abbrev moment : Moment
-  moment = moment_of serving move world
+  moment = moment_of move world
 
   abbrev after : World
-  after = (moved serving move world).world
+  after = (moved move world).world
 
   abbrev made : List Moment
   made = made_of realm k before
@@ -266,10 +265,10 @@ module _ (serving : Serving) (move : Move) (world : World) (sound : IsSound worl
   all = before ++ moment ∷ []
 
   sound_after : IsSound after
-  sound_after = moved_sound serving move world sound honest
+  sound_after = moved_sound move world sound honest
 
   named_after : after.state.head.name ≡ realm
-  named_after = name_moved serving move world
+  named_after = name_moved move world
 
   key_before : (t : Transaction) → In t world.state.transactions → id ≡ identifier realm t.key → t.key ≡ k
   key_before t listed same = keys_told realm t.key k (spelled_here world sound t listed) fine (sym same)
@@ -355,8 +354,8 @@ module _ (serving : Serving) (move : Move) (world : World) (sound : IsSound worl
   -- where it is gone afterwards
   gone_after : None_of k after → Told realm k all after → Ok realm k start branches all
   gone_after never told_it = by_told (said told_it) where
-    backs : Backs realm 0 k fine world (moved serving move world)
-    backs = moved_backs realm 0 k fine serving move world sound refl true_to.uncalled honest
+    backs : Backs realm 0 k fine world (moved move world)
+    backs = moved_backs realm 0 k fine move world sound refl true_to.uncalled honest
 
     said : Told realm k all after → Told realm k before world ⊎ IsBacked realm 0 k fine world after
     said (inr out) = inr (backs.out out)
@@ -392,7 +391,7 @@ module _ (serving : Serving) (move : Move) (world : World) (sound : IsSound worl
 
   -- In one start
   abbrev Steps_so : Type 0
-  Steps_so = Steps serving world sound branches asks.declared counted mine was (λ (t : Transaction). made_of realm t.key before) asks.covered moment
+  Steps_so = Steps world sound branches asks.declared counted mine was (λ (t : Transaction). made_of realm t.key before) asks.covered moment
 
   module _ (steps : Steps_so) where
     here_now : (k.epoch == after.state.head.epoch) ≡ true → (k.epoch == now) ≡ true
@@ -465,7 +464,7 @@ module _ (serving : Serving) (move : Move) (world : World) (sound : IsSound worl
 
   -- A new start
   abbrev Starts_so : Type 0
-  Starts_so = Starts serving world sound branches asks.declared counted mine was (λ (t : Transaction). made_of realm t.key before) asks.covered moment
+  Starts_so = Starts world sound branches asks.declared counted mine was (λ (t : Transaction). made_of realm t.key before) asks.covered moment
 
   module _ (starts : Starts_so) where
     later_epoch : after.state.head.epoch ≡ now + 1
@@ -498,7 +497,7 @@ module _ (serving : Serving) (move : Move) (world : World) (sound : IsSound worl
       less a b is = grind (arith, is)
 
   next_asks : Asks realm k start branches all after
-  next_asks = elim (moves_on serving world sound branches asks.declared counted mine was (λ (t : Transaction). made_of realm t.key before) asks.covered move honest) [ inl steps ↦ steps_asks steps | inr starts ↦ starts_asks starts ]
+  next_asks = elim (moves_on world sound branches asks.declared counted mine was (λ (t : Transaction). made_of realm t.key before) asks.covered move honest) [ inl steps ↦ steps_asks steps | inr starts ↦ starts_asks starts ]
 
 -- A RUN
 
@@ -516,27 +515,27 @@ module _ (k : Key) (fine : is_spelled k ≡ true) (start : World) (branches : Li
     step true is = by_ok (was is)
     step false is = or_left _ _ (or_left (not (list_any is_commit (told realm (identifier realm k) moment.shown))) _ (ap not (any_told is_commit realm (identifier realm k) moment.shown ∙ is)))
 
-  runs_asked : (serving : Serving) (name : List ℕ) (world : World) (moves : List Move) (before : List Moment) → IsSound world → IsTrueTo (shown_in before) world → world.state.head.name ≡ name → In_world world (of_start world.state.head.epoch before) → Asks name k start branches before world → is_run serving world moves ≡ true → at_each_behind before (is_asked name (identifier name k) start) (traced serving world moves) ≡ true
-  runs_asked serving name world [] before sound true_to named was asks honest = refl
-  runs_asked serving name world (move ∷ moves) before sound true_to named was asks honest =
-      let parts = and_parts (is_honest serving move world) (is_run serving (moved serving move world).world moves) honest in
-      let next = (moved serving move world).world in
-      let moment = moment_of serving move world in
+  runs_asked : (name : List ℕ) (world : World) (moves : List Move) (before : List Moment) → IsSound world → IsTrueTo (shown_in before) world → world.state.head.name ≡ name → In_world world (of_start world.state.head.epoch before) → Asks name k start branches before world → is_run world moves ≡ true → at_each_behind before (is_asked name (identifier name k) start) (traced world moves) ≡ true
+  runs_asked name world [] before sound true_to named was asks honest = refl
+  runs_asked name world (move ∷ moves) before sound true_to named was asks honest =
+      let parts = and_parts (is_honest move world) (is_run (moved move world).world moves) honest in
+      let next = (moved move world).world in
+      let moment = moment_of move world in
       let all = before ++ moment ∷ [] in
       let epoch = world.state.head.epoch in
       let id = identifier name k in
-      let went = moves_so serving world sound (of_start epoch before) was move parts.0 in
+      let went = moves_so world sound (of_start epoch before) was move parts.0 in
       let mine : of_start epoch all ≡ of_start epoch before ++ moment ∷ [] = filter_last (λ (m : Moment). m.world.state.head.epoch == epoch) before moment (same_number epoch) in
       let here : Asks world.state.head.name k start branches before world = subst (λ n. Asks n k start branches before world) (sym named) asks in
-      let then_asks : Asks name k start branches all next = subst (λ n. Asks n k start branches all next) named (next_asks serving move world sound k fine start branches counted before (of_start epoch before) was true_to parts.0 here) in
-      let then_named : next.state.head.name ≡ name = name_moved serving move world ∙ named in
-      let then_sound = moved_sound serving move world sound parts.0 in
+      let then_asks : Asks name k start branches all next = subst (λ n. Asks n k start branches all next) named (next_asks move world sound k fine start branches counted before (of_start epoch before) was true_to parts.0 here) in
+      let then_named : next.state.head.name ≡ name = name_moved move world ∙ named in
+      let then_sound = moved_sound move world sound parts.0 in
       let same = shown_so name 0 k fine before moment in
-      let then_true : IsTrueTo (shown_in all) next = subst (λ xs. IsTrueTo xs next) same (moved_true serving move world (shown_in before) sound true_to parts.0) in
+      let then_true : IsTrueTo (shown_in all) next = subst (λ xs. IsTrueTo xs next) same (moved_true move world (shown_in before) sound true_to parts.0) in
       and_from _ _ (moment_asked name before moment asks.declared (λ is.
       let shown : are_told is_commit name id (shown_in all) ≡ true = ap (are_told is_commit name id) (sym same) ∙ (told_more is_commit name id (shown_in before) moment.shown ∙ or_right (are_told is_commit name id (shown_in before)) _ is) in
       subst (λ n. Ok n k start branches all) then_named (told_ok k fine start branches all next then_sound then_true (subst (λ n. Asks n k start branches all next) (sym then_named) then_asks) (subst (λ n. Told n k all next) (sym then_named) (inl shown)))))
-      (runs_asked serving name next moves all then_sound then_true then_named (went.witnessed (of_start next.state.head.epoch all) (λ same_epoch. ap (λ e. of_start e all) same_epoch ∙ mine)) then_asks parts.1)
+      (runs_asked name next moves all then_sound then_true then_named (went.witnessed (of_start next.state.head.epoch all) (λ same_epoch. ap (λ e. of_start e all) same_epoch ∙ mine)) then_asks parts.1)
 
 -- where a run begins
 start_asks : (k : Key) → is_spelled k ≡ true → (world : World) → IsStart world → Asks world.state.head.name k world world.state.head.branches [] world
@@ -586,13 +585,13 @@ untold_asked realm id start before (moment ∷ moments) none =
       quiet false is none = refl
       quiet true is none = absurd (let wrong : false ≡ true = sym none ∙ any_of is_commit (told realm id moment.shown) is in cc)
 
-pub run_asked : (serving : Serving) (world : World) (moves : List Move) (id : List ℕ) → IsStart world → is_run serving world moves ≡ true → at_each_behind [] (is_asked world.state.head.name id world) (traced serving world moves) ≡ true
-run_asked serving world moves id start honest = step (list_any any_verdict (told realm id (shown_in moments))) refl where
+pub run_asked : (world : World) (moves : List Move) (id : List ℕ) → IsStart world → is_run world moves ≡ true → at_each_behind [] (is_asked world.state.head.name id world) (traced world moves) ≡ true
+run_asked world moves id start honest = step (list_any any_verdict (told realm id (shown_in moments))) refl where
   realm : List ℕ
   realm = world.state.head.name
 
   moments : List Moment
-  moments = traced serving world moves
+  moments = traced world moves
 
   sound : IsSound world
   sound = start_sound world start
@@ -601,21 +600,21 @@ run_asked serving world moves id start honest = step (list_any any_verdict (told
   counted = declared_counted world.state.head start.head
 
   of_key : (key : Key) → is_spelled key ≡ true → at_each_behind [] (is_asked realm (identifier realm key) world) moments ≡ true
-  of_key key fine = runs_asked key fine world world.state.head.branches counted serving realm world moves [] sound (start_true world start) refl (start_witnessed world start) (start_asks key fine world start) honest
+  of_key key fine = runs_asked key fine world world.state.head.branches counted realm world moves [] sound (start_true world start) refl (start_witnessed world start) (start_asks key fine world start) honest
 
   step : (b : Bool) → list_any any_verdict (told realm id (shown_in moments)) ≡ b → at_each_behind [] (is_asked realm id world) moments ≡ true
   step false none = untold_asked realm id world [] moments none
   step true is =
-      let after = run_true serving world moves [] sound (start_true world start) honest in
-      let ours = after.ours id (or_left _ _ (subst (λ n. list_any any_verdict (told n id (shown_in moments)) ≡ true) (sym (name_led serving world moves)) is)) in
-      let same : id ≡ identifier realm ours.0 = ours.2 ∙ ap (λ n. identifier n ours.0) (name_led serving world moves) in
+      let after = run_true world moves [] sound (start_true world start) honest in
+      let ours = after.ours id (or_left _ _ (subst (λ n. list_any any_verdict (told n id (shown_in moments)) ≡ true) (sym (name_led world moves)) is)) in
+      let same : id ≡ identifier realm ours.0 = ours.2 ∙ ap (λ n. identifier n ours.0) (name_led world moves) in
       subst (λ x. at_each_behind [] (is_asked realm x world) moments ≡ true) (sym same) (of_key ours.0 ours.1)
 
 -- ALL FOUR
-pub run_is_agreed : (serving : Serving) (world : World) (moves : List Move) (id : List ℕ) → IsStart world → is_run serving world moves ≡ true → IsAgreed world (traced serving world moves) id
-run_is_agreed serving world moves id start honest = record {
-  one = run_agrees serving world moves id start honest;
-  backed = commits_are_backed serving world moves id start honest;
-  kept = run_kept serving world moves id start honest;
-  asked = run_asked serving world moves id start honest;
+pub run_is_agreed : (world : World) (moves : List Move) (id : List ℕ) → IsStart world → is_run world moves ≡ true → IsAgreed world (traced world moves) id
+run_is_agreed world moves id start honest = record {
+  one = run_agrees world moves id start honest;
+  backed = commits_are_backed world moves id start honest;
+  kept = run_kept world moves id start honest;
+  asked = run_asked world moves id start honest;
 }

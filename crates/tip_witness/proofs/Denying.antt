@@ -43,7 +43,6 @@ use Rattle.tip_machine.specs.Outputs.{Output, drops_of, outputs}
 use Rattle.tip_machine.specs.Proceeding.{abort, dispatch, dispatched, enter, errand_in, give_out, let_go, release}
 use Rattle.tip_machine.specs.Reactions.{Demand, aborts, demanded_as, demands, react, reacts, sent_by, stays}
 use Rattle.tip_machine.specs.Requests.{hear, line}
-use Rattle.tip_machine.specs.Served.{Serving}
 use Rattle.tip_machine.specs.Starting.{IsStart}
 use Rattle.tip_machine.specs.States.{Attempt, Work, identified_by, seated, transaction_of}
 use Rattle.tip_machine.specs.Steps.{attempt, chosen, entered, frozen, is_open, wanted}
@@ -229,7 +228,7 @@ module _ (world : World) (sound : IsSound world) (id : List ℕ) where
 
   -- A QUERY FOR IT
 
-  module _ (serving : Serving) (there : option_map_or exists (identified_by id world.state) false ≡ true) where
+  module _ (there : option_map_or exists (identified_by id world.state) false ≡ true) where
     abbrev w : Work
     w = entered world.state
 
@@ -240,23 +239,20 @@ module _ (world : World) (sound : IsSound world) (id : List ℕ) where
     wrong_silent : (c : Connection) → denies_any (wrong c w).answer.sent ≡ false
     wrong_silent c = wrong_civil c w
 
-    serves_it : (admit : Admit) (c : Connection) (outcome : Outcome) → denies_any (chosen (serve_if serving admit (command.Query id) c w) outcome).answer.sent ≡ false
+    serves_it : (admit : Admit) (c : Connection) (outcome : Outcome) → denies_any (chosen (serve_if admit (command.Query id) c w) outcome).answer.sent ≡ false
     serves_it Wrong c outcome = wrong_silent c
-    serves_it Serve c outcome = step (serving.commands name.Query) where
-      step : (b : Bool) → denies_any (chosen (cond b (Attempt.Done (query id c w)) (Attempt.Done (wrong c w))) outcome).answer.sent ≡ false
-      step true = answers_exists c
-      step false = wrong_silent c
+    serves_it Serve c outcome = answers_exists c
 
-    hears_it : (side : Side) (c : Connection) (outcome : Outcome) → denies_any (chosen (hear serving side (heard.Command (command.Query id)) c w) outcome).answer.sent ≡ false
+    hears_it : (side : Side) (c : Connection) (outcome : Outcome) → denies_any (chosen (hear side (heard.Command (command.Query id)) c w) outcome).answer.sent ≡ false
     unfolding commanded
     hears_it Secondary c outcome = serves_it (admit_of c.state c.side name.Query) c outcome
     hears_it Primary c outcome = wrong_silent c
 
-    lines_it : (found : Option Connection) (outcome : Outcome) → denies_any (chosen (line serving found (heard.Command (command.Query id)) w) outcome).answer.sent ≡ false
+    lines_it : (found : Option Connection) (outcome : Outcome) → denies_any (chosen (line found (heard.Command (command.Query id)) w) outcome).answer.sent ≡ false
     unfolding line
     lines_it None outcome = refl
     lines_it (Some c) outcome = step (may_take c) where
-      step : (b : Bool) → denies_any (chosen (cond b (hear serving c.side (heard.Command (command.Query id)) c w) (Attempt.Done (refuse Busy w))) outcome).answer.sent ≡ false
+      step : (b : Bool) → denies_any (chosen (cond b (hear c.side (heard.Command (command.Query id)) c w) (Attempt.Done (refuse Busy w))) outcome).answer.sent ≡ false
       step true = hears_it c.side c outcome
       step false = refl
 
@@ -323,54 +319,54 @@ false_unless : (b : Bool) → (b ≡ true → ⊥) → b ≡ false
 false_unless true never = absurd (never refl)
 false_unless false never = refl
 
-module _ (serving : Serving) (world : World) (sound : IsSound world) (id : List ℕ) (r : Row) (is : row_in world.state.head.name id world.rows ≡ Some r) where
+module _ (world : World) (sound : IsSound world) (id : List ℕ) (r : Row) (is : row_in world.state.head.name id world.rows ≡ Some r) where
   abbrev its_realm : List ℕ
   its_realm = world.state.head.name
 
-  step_denies_none : (seat : Seat) (outcome : Outcome) (n : ℕ) → list_any (denies its_realm id n) (stepped serving (Line seat (heard.Command (command.Query id))) outcome world).shown ≡ false
+  step_denies_none : (seat : Seat) (outcome : Outcome) (n : ℕ) → list_any (denies its_realm id n) (stepped (Line seat (heard.Command (command.Query id))) outcome world).shown ≡ false
   unfolding stepped ordered
   step_denies_none seat outcome n = step (is_open world.state) where
     there : option_map_or exists (identified_by id world.state) false ≡ true
     there = exists_there world sound id r is
 
     tried : Attempt
-    tried = attempt serving (Line seat (heard.Command (command.Query id))) (entered world.state)
+    tried = attempt (Line seat (heard.Command (command.Query id))) (entered world.state)
 
     quiet : (change : Option Change) (answer : Answer) → denies_any answer.sent ≡ false → list_any (denies its_realm id n) (outputs (Line seat (heard.Command (command.Query id))) change outcome answer) ≡ false
     quiet change answer none = false_unless _ (λ shown. both_ways (denies_any answer.sent) none (shown_denies its_realm id n seat (heard.Command (command.Query id)) change outcome answer shown))
 
     step : (b : Bool) → list_any (denies its_realm id n) (outputs (Line seat (heard.Command (command.Query id))) (cond b (wanted tried) None) outcome (cond b (ordered world.state (chosen tried outcome)) (frozen (Line seat (heard.Command (command.Query id))) world.state)).answer) ≡ false
-    step true = quiet (wanted tried) (ordered world.state (chosen tried outcome)).answer (turn_same (λ (s : Sent). is_denial s.item) (turn world.state) (chosen tried outcome).answer.sent ∙ lines_it world sound id serving there (seated seat world.state) outcome)
+    step true = quiet (wanted tried) (ordered world.state (chosen tried outcome)).answer (turn_same (λ (s : Sent). is_denial s.item) (turn world.state) (chosen tried outcome).answer.sent ∙ lines_it world sound id there (seated seat world.state) outcome)
     step false = quiet None (frozen (Line seat (heard.Command (command.Query id))) world.state).answer refl
 
-  undenied : (move : Move) → option_map_or (λ n. list_any (denies its_realm id n) (moved serving move world).shown) (queried_on its_realm id move) false ≡ false
+  undenied : (move : Move) → option_map_or (λ n. list_any (denies its_realm id n) (moved move world).shown) (queried_on its_realm id move) false ≡ false
   undenied (Move.Step (Line seat (heard.Command (command.Query superior))) outcome) = step (bytes_eq id superior) refl where
-    step : (b : Bool) → bytes_eq id superior ≡ b → option_map_or (λ n. list_any (denies its_realm id n) (stepped serving (Line seat (heard.Command (command.Query superior))) outcome world).shown) (cond b (Some seat.number) None) false ≡ false
+    step : (b : Bool) → bytes_eq id superior ≡ b → option_map_or (λ n. list_any (denies its_realm id n) (stepped (Line seat (heard.Command (command.Query superior))) outcome world).shown) (cond b (Some seat.number) None) false ≡ false
     step false differ = refl
-    step true same = subst (λ s. list_any (denies its_realm id seat.number) (stepped serving (Line seat (heard.Command (command.Query s))) outcome world).shown ≡ false) (same_text id superior same) (step_denies_none seat outcome seat.number)
+    step true same = subst (λ s. list_any (denies its_realm id seat.number) (stepped (Line seat (heard.Command (command.Query s))) outcome world).shown ≡ false) (same_text id superior same) (step_denies_none seat outcome seat.number)
   undenied other = refl
 
 -- at each moment
 abbrev pub is_undenied : List ℕ → List ℕ → List Moment → Moment → Bool
 is_undenied realm id before moment = not (is_denied realm id moment) || is_none (row_in realm id moment.world.rows)
 
-pub moved_undenied : (serving : Serving) (move : Move) (world : World) (id : List ℕ) (before : List Moment) → IsSound world → is_undenied world.state.head.name id before (record { world = world; move = move; shown = (moved serving move world).shown; after = (moved serving move world).world }) ≡ true
-moved_undenied serving move world id before sound = step (row_in world.state.head.name id world.rows) refl where
+pub moved_undenied : (move : Move) (world : World) (id : List ℕ) (before : List Moment) → IsSound world → is_undenied world.state.head.name id before (record { world = world; move = move; shown = (moved move world).shown; after = (moved move world).world }) ≡ true
+moved_undenied move world id before sound = step (row_in world.state.head.name id world.rows) refl where
   denied : Bool
-  denied = is_denied world.state.head.name id (record { world = world; move = move; shown = (moved serving move world).shown; after = (moved serving move world).world })
+  denied = is_denied world.state.head.name id (record { world = world; move = move; shown = (moved move world).shown; after = (moved move world).world })
 
   step : (found : Option Row) → row_in world.state.head.name id world.rows ≡ found → not denied || is_none (row_in world.state.head.name id world.rows) ≡ true
   step None is = or_right (not denied) _ (ap is_none is)
-  step (Some r) is = or_left (not denied) _ (ap not (undenied serving world sound id r is move))
+  step (Some r) is = or_left (not denied) _ (ap not (undenied world sound id r is move))
 
-runs_undenied : (serving : Serving) (realm id : List ℕ) (world : World) (moves : List Move) (before : List Moment) → IsSound world → world.state.head.name ≡ realm → is_run serving world moves ≡ true → at_each_behind before (is_undenied realm id) (traced serving world moves) ≡ true
-runs_undenied serving realm id world [] before sound named honest = refl
-runs_undenied serving realm id world (move ∷ moves) before sound named honest =
-    let parts = and_parts (is_honest serving move world) (is_run serving (moved serving move world).world moves) honest in
-    let next = (moved serving move world).world in
-    let moment : Moment = record { world = world; move = move; shown = (moved serving move world).shown; after = next } in
-    and_from _ _ (subst (λ n. is_undenied n id before moment ≡ true) named (moved_undenied serving move world id before sound))
-    (runs_undenied serving realm id next moves (before ++ moment ∷ []) (moved_sound serving move world sound parts.0) (name_moved serving move world ∙ named) parts.1)
+runs_undenied : (realm id : List ℕ) (world : World) (moves : List Move) (before : List Moment) → IsSound world → world.state.head.name ≡ realm → is_run world moves ≡ true → at_each_behind before (is_undenied realm id) (traced world moves) ≡ true
+runs_undenied realm id world [] before sound named honest = refl
+runs_undenied realm id world (move ∷ moves) before sound named honest =
+    let parts = and_parts (is_honest move world) (is_run (moved move world).world moves) honest in
+    let next = (moved move world).world in
+    let moment : Moment = record { world = world; move = move; shown = (moved move world).shown; after = next } in
+    and_from _ _ (subst (λ n. is_undenied n id before moment ≡ true) named (moved_undenied move world id before sound))
+    (runs_undenied realm id next moves (before ++ moment ∷ []) (moved_sound move world sound parts.0) (name_moved move world ∙ named) parts.1)
 
-pub run_undenied : (serving : Serving) (world : World) (moves : List Move) (id : List ℕ) → IsStart world → is_run serving world moves ≡ true → at_each_behind [] (is_undenied world.state.head.name id) (traced serving world moves) ≡ true
-run_undenied serving world moves id start honest = runs_undenied serving world.state.head.name id world moves [] (start_sound world start) refl honest
+pub run_undenied : (world : World) (moves : List Move) (id : List ℕ) → IsStart world → is_run world moves ≡ true → at_each_behind [] (is_undenied world.state.head.name id) (traced world moves) ≡ true
+run_undenied world moves id start honest = runs_undenied world.state.head.name id world moves [] (start_sound world start) refl honest

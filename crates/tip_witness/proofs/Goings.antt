@@ -27,10 +27,9 @@ use Rattle.tip_machine.specs.Moves.{Move, World, gone_for, lost_from, restarted_
 use Rattle.tip_machine.specs.Order.{ordered}
 use Rattle.tip_machine.specs.Outputs.{Output, brought, drops_of, outputs}
 use Rattle.tip_machine.specs.Returns.{Back, event_of}
-use Rattle.tip_machine.specs.Served.{Serving}
 use Rattle.tip_machine.specs.Starting.{are_counted_from}
 use Rattle.tip_machine.specs.States.{State, transaction_of}
-use Rattle.tip_machine.specs.Steps.{attempt, chosen, entered, frozen, is_open, step_serving, wanted}
+use Rattle.tip_machine.specs.Steps.{attempt, chosen, entered, frozen, is_open, step, wanted}
 use Rattle.tip_machine.specs.Types.{Answer, Event, Transaction}
 use Rattle.tip_machine.specs.declared.event.Change.{Change}
 use Rattle.tip_machine.specs.declared.event.Outcome.{Outcome}
@@ -60,16 +59,16 @@ refusal_shown event change outcome answer why is =
     list_any-append is_refusal (option_to_list (option_map Output.Refused answer.refusal)) rest ∙ or_left (list_any is_refusal (option_to_list (option_map Output.Refused answer.refusal))) _ (ap (λ o. list_any is_refusal (option_to_list (option_map Output.Refused o))) is)
 
 -- the branches of a realm stay
-step_branches : (serving : Serving) (state : State) (event : Event) (outcome : Outcome) → (step_serving serving state event outcome).state.head.branches ≡ state.head.branches
-step_branches serving state event outcome = step (is_open state) where
-  step : (b : Bool) → (cond b (ordered state (chosen (attempt serving event (entered state)) outcome)) (frozen event state)).state.head.branches ≡ state.head.branches
-  step true = elim (step-went serving state event outcome) [
+step_branches : (state : State) (event : Event) (outcome : Outcome) → (step state event outcome).state.head.branches ≡ state.head.branches
+step_branches state event outcome = step (is_open state) where
+  step : (b : Bool) → (cond b (ordered state (chosen (attempt event (entered state)) outcome)) (frozen event state)).state.head.branches ≡ state.head.branches
+  step true = elim (step-went state event outcome) [
     | inl goes ↦ ap (λ (h : Head). h.branches) goes.head
     | inr opens ↦ ap (λ (h : Head). h.branches) opens.head
   ]
   step false = refl
 
-module _ (serving : Serving) (world : World) (sound : IsSound world) (branches : List (ℕ × List ℕ)) (declared : world.state.head.branches ≡ branches) (counted : are_counted_from 1 branches ≡ true) (mine : List Moment) (was : In_world world mine) (made : Transaction → List Moment)
+module _ (world : World) (sound : IsSound world) (branches : List (ℕ × List ℕ)) (declared : world.state.head.branches ≡ branches) (counted : are_counted_from 1 branches ≡ true) (mine : List Moment) (was : In_world world mine) (made : Transaction → List Moment)
     (covered : (t : Transaction) → In t world.state.transactions → (t.key.epoch == world.state.head.epoch) ≡ true → Covers world.state.head.epoch branches world.errands (identifier world.state.head.name t.key) t.place) where
   abbrev realm : List ℕ
   realm = world.state.head.name
@@ -120,26 +119,26 @@ module _ (serving : Serving) (world : World) (sound : IsSound world) (branches :
   frozen_unheard : (event : Event) (outcome : Outcome) (moment : Moment) → moment.shown ≡ outputs event None outcome (frozen event world.state).answer → (id : List ℕ) (q : ℕ) → heard_answer realm id q moment ≡ None
   frozen_unheard event outcome moment shows id q = none_heard realm id q moment (ap (λ b. cond b None (came_in moment.move moment.world.state)) (ap (list_any is_refusal) shows ∙ refusal_shown event None outcome (frozen event world.state).answer Frozen (returned-refusal Frozen event)))
 
-  event_goes_on : (event : Event) (outcome : Outcome) (moment : Moment) → moment.world ≡ world → moment.move ≡ Move.Step event outcome → moment.shown ≡ (stepped serving event outcome world).shown → brings_no_party event ≡ true → IsSound (stepped serving event outcome world).world → (u : Transaction) → In u (stepped serving event outcome world).world.state.transactions → Goes_on moment (stepped serving event outcome world).world.errands u
+  event_goes_on : (event : Event) (outcome : Outcome) (moment : Moment) → moment.world ≡ world → moment.move ≡ Move.Step event outcome → moment.shown ≡ (stepped event outcome world).shown → brings_no_party event ≡ true → IsSound (stepped event outcome world).world → (u : Transaction) → In u (stepped event outcome world).world.state.transactions → Goes_on moment (stepped event outcome world).world.errands u
   unfolding stepped ordered
   event_goes_on event outcome moment met move shows none after u there = step (is_open world.state) refl shows after there where
-    step : (b : Bool) → is_open world.state ≡ b → moment.shown ≡ outputs event (cond b (wanted (attempt serving event (entered world.state))) None) outcome (cond b (ordered world.state (chosen (attempt serving event (entered world.state)) outcome)) (frozen event world.state)).answer →
-        IsSound (record { state = (cond b (ordered world.state (chosen (attempt serving event (entered world.state)) outcome)) (frozen event world.state)).state; rows = rows_after (cond b (wanted (attempt serving event (entered world.state))) None) outcome world.rows; errands = world.errands ++ option_to_list (cond b (ordered world.state (chosen (attempt serving event (entered world.state)) outcome)) (frozen event world.state)).answer.work }) →
-        In u (cond b (ordered world.state (chosen (attempt serving event (entered world.state)) outcome)) (frozen event world.state)).state.transactions →
-        Goes_on moment (world.errands ++ option_to_list (cond b (ordered world.state (chosen (attempt serving event (entered world.state)) outcome)) (frozen event world.state)).answer.work) u
+    step : (b : Bool) → is_open world.state ≡ b → moment.shown ≡ outputs event (cond b (wanted (attempt event (entered world.state))) None) outcome (cond b (ordered world.state (chosen (attempt event (entered world.state)) outcome)) (frozen event world.state)).answer →
+        IsSound (record { state = (cond b (ordered world.state (chosen (attempt event (entered world.state)) outcome)) (frozen event world.state)).state; rows = rows_after (cond b (wanted (attempt event (entered world.state))) None) outcome world.rows; errands = world.errands ++ option_to_list (cond b (ordered world.state (chosen (attempt event (entered world.state)) outcome)) (frozen event world.state)).answer.work }) →
+        In u (cond b (ordered world.state (chosen (attempt event (entered world.state)) outcome)) (frozen event world.state)).state.transactions →
+        Goes_on moment (world.errands ++ option_to_list (cond b (ordered world.state (chosen (attempt event (entered world.state)) outcome)) (frozen event world.state)).answer.work) u
     step true room shows after there =
-        event_passes world sound branches declared counted (CalledIn moment) moment serving mine (witnessed_more realm now mine (moment ∷ []) world.state.transactions world.errands world.rows was) met event outcome room move none shows covered (sound_whole _ after).keys (well_in _ after) u there
+        event_passes world sound branches declared counted (CalledIn moment) moment mine (witnessed_more realm now mine (moment ∷ []) world.state.transactions world.errands world.rows was) met event outcome room move none shows covered (sound_whole _ after).keys (well_in _ after) u there
     step false full shows after there =
         stays moment (world.errands ++ option_to_list (frozen event world.state).answer.work) (λ party is. subst (In party) (append-nil world.errands) (subst (λ o. In party (world.errands ++ option_to_list o)) (returned-silent Frozen event).1 is)) (frozen_unheard event outcome moment shows) u there
 
-  event_steps : (event : Event) (outcome : Outcome) → is_honest serving (Move.Step event outcome) world ≡ true → Steps (moment_of serving (Move.Step event outcome) world)
+  event_steps : (event : Event) (outcome : Outcome) → is_honest (Move.Step event outcome) world ≡ true → Steps (moment_of (Move.Step event outcome) world)
   unfolding stepped
   event_steps event outcome honest = record {
-    epoch = step-epoch serving world.state event outcome;
-    branches_stay = step_branches serving world.state event outcome;
-    each = event_goes_on event outcome (moment_of serving (Move.Step event outcome) world) refl refl refl (and_parts (brings_no_party event) _ honest).0 (moved_sound serving (Move.Step event outcome) world sound honest);
-    given = given_stays serving world.state event outcome;
-    fresh = new_was_not_given serving world.state event outcome;
+    epoch = step-epoch world.state event outcome;
+    branches_stay = step_branches world.state event outcome;
+    each = event_goes_on event outcome (moment_of (Move.Step event outcome) world) refl refl refl (and_parts (brings_no_party event) _ honest).0 (moved_sound (Move.Step event outcome) world sound honest);
+    given = given_stays world.state event outcome;
+    fresh = new_was_not_given world.state event outcome;
   }
 
   -- A party that comes back
@@ -150,33 +149,33 @@ module _ (serving : Serving) (world : World) (sound : IsSound world) (branches :
     in_rest : (p : PartyNotes) → In p rest → In p world.errands
     in_rest p is = subst (In p) (sym out) (inr is)
 
-    back_goes_on : (moment : Moment) → moment.world ≡ world → moment.move ≡ Move.Go back outcome → moment.shown ≡ (stepped serving event outcome (record world { errands = rest })).shown → IsSound (stepped serving event outcome (record world { errands = rest })).world → (u : Transaction) → In u (stepped serving event outcome (record world { errands = rest })).world.state.transactions → Goes_on moment (stepped serving event outcome (record world { errands = rest })).world.errands u
+    back_goes_on : (moment : Moment) → moment.world ≡ world → moment.move ≡ Move.Go back outcome → moment.shown ≡ (stepped event outcome (record world { errands = rest })).shown → IsSound (stepped event outcome (record world { errands = rest })).world → (u : Transaction) → In u (stepped event outcome (record world { errands = rest })).world.state.transactions → Goes_on moment (stepped event outcome (record world { errands = rest })).world.errands u
     unfolding stepped ordered
     back_goes_on moment met move shows after u there = step (is_open world.state) refl shows after there where
-      step : (b : Bool) → is_open world.state ≡ b → moment.shown ≡ outputs event (cond b (wanted (attempt serving event (entered world.state))) None) outcome (cond b (ordered world.state (chosen (attempt serving event (entered world.state)) outcome)) (frozen event world.state)).answer →
-          IsSound (record { state = (cond b (ordered world.state (chosen (attempt serving event (entered world.state)) outcome)) (frozen event world.state)).state; rows = rows_after (cond b (wanted (attempt serving event (entered world.state))) None) outcome world.rows; errands = rest ++ option_to_list (cond b (ordered world.state (chosen (attempt serving event (entered world.state)) outcome)) (frozen event world.state)).answer.work }) →
-          In u (cond b (ordered world.state (chosen (attempt serving event (entered world.state)) outcome)) (frozen event world.state)).state.transactions →
-          Goes_on moment (rest ++ option_to_list (cond b (ordered world.state (chosen (attempt serving event (entered world.state)) outcome)) (frozen event world.state)).answer.work) u
+      step : (b : Bool) → is_open world.state ≡ b → moment.shown ≡ outputs event (cond b (wanted (attempt event (entered world.state))) None) outcome (cond b (ordered world.state (chosen (attempt event (entered world.state)) outcome)) (frozen event world.state)).answer →
+          IsSound (record { state = (cond b (ordered world.state (chosen (attempt event (entered world.state)) outcome)) (frozen event world.state)).state; rows = rows_after (cond b (wanted (attempt event (entered world.state))) None) outcome world.rows; errands = rest ++ option_to_list (cond b (ordered world.state (chosen (attempt event (entered world.state)) outcome)) (frozen event world.state)).answer.work }) →
+          In u (cond b (ordered world.state (chosen (attempt event (entered world.state)) outcome)) (frozen event world.state)).state.transactions →
+          Goes_on moment (rest ++ option_to_list (cond b (ordered world.state (chosen (attempt event (entered world.state)) outcome)) (frozen event world.state)).answer.work) u
       step true room shows after there =
-          inl (back_passes serving world sound branches mine moment met (witnessed_more realm now mine (moment ∷ []) world.state.transactions world.errands world.rows was) made party rest out back outcome move
-          (λ test is. ap (list_any test) shows ∙ brings_so test event (wanted (attempt serving event (entered world.state))) outcome (ordered world.state (chosen (attempt serving event (entered world.state)) outcome)).answer (ap (list_any test) (brought_back party back) ∙ is)) covered (well_in _ after) u there)
+          inl (back_passes world sound branches mine moment met (witnessed_more realm now mine (moment ∷ []) world.state.transactions world.errands world.rows was) made party rest out back outcome move
+          (λ test is. ap (list_any test) shows ∙ brings_so test event (wanted (attempt event (entered world.state))) outcome (ordered world.state (chosen (attempt event (entered world.state)) outcome)).answer (ap (list_any test) (brought_back party back) ∙ is)) covered (well_in _ after) u there)
       step false full shows after there =
           stays moment (rest ++ option_to_list (frozen event world.state).answer.work) (λ p is. in_rest p (subst (In p) (append-nil rest) (subst (λ o. In p (rest ++ option_to_list o)) (returned-silent Frozen event).1 is))) (frozen_unheard event outcome moment shows) u there
 
-    back_steps : (moment : Moment) → moment.world ≡ world → moment.move ≡ Move.Go back outcome → moment.shown ≡ (stepped serving event outcome (record world { errands = rest })).shown → moment.after ≡ (stepped serving event outcome (record world { errands = rest })).world → IsSound (stepped serving event outcome (record world { errands = rest })).world → Steps moment
+    back_steps : (moment : Moment) → moment.world ≡ world → moment.move ≡ Move.Go back outcome → moment.shown ≡ (stepped event outcome (record world { errands = rest })).shown → moment.after ≡ (stepped event outcome (record world { errands = rest })).world → IsSound (stepped event outcome (record world { errands = rest })).world → Steps moment
     unfolding stepped
     back_steps moment met move shows after sound_after = record {
-      epoch = ap (λ (w : World). w.state.head.epoch) after ∙ step-epoch serving world.state event outcome;
-      branches_stay = ap (λ (w : World). w.state.head.branches) after ∙ step_branches serving world.state event outcome;
+      epoch = ap (λ (w : World). w.state.head.epoch) after ∙ step-epoch world.state event outcome;
+      branches_stay = ap (λ (w : World). w.state.head.branches) after ∙ step_branches world.state event outcome;
       each = λ u there. subst (λ (w : World). Goes_on moment w.errands u) (sym after) (back_goes_on moment met move shows sound_after u (subst (λ (w : World). In u w.state.transactions) after there));
-      given = λ key is. subst (λ (w : World). was_given w.state key ≡ true) (sym after) (given_stays serving world.state event outcome key is);
-      fresh = λ key none some. new_was_not_given serving world.state event outcome key none (subst (λ (w : World). IsSome (transaction_of key w.state)) after some);
+      given = λ key is. subst (λ (w : World). was_given w.state key ≡ true) (sym after) (given_stays world.state event outcome key is);
+      fresh = λ key none some. new_was_not_given world.state event outcome key none (subst (λ (w : World). IsSome (transaction_of key w.state)) after some);
     }
 
   silent : (moment : Moment) → moment.world ≡ world → came_in moment.move world.state ≡ None → (id : List ℕ) (q : ℕ) → heard_answer realm id q moment ≡ None
   silent moment met none = silent_move moment world.state (ap (λ (w : World). w.state) met) none realm
 
-  gone_steps : (back : Back) (outcome : Outcome) (errands : List PartyNotes) → world.errands ≡ errands → (moment : Moment) → moment.world ≡ world → moment.move ≡ Move.Go back outcome → moment.shown ≡ (gone_for errands serving back outcome world).shown → moment.after ≡ (gone_for errands serving back outcome world).world → IsSound (gone_for errands serving back outcome world).world → Steps moment
+  gone_steps : (back : Back) (outcome : Outcome) (errands : List PartyNotes) → world.errands ≡ errands → (moment : Moment) → moment.world ≡ world → moment.move ≡ Move.Go back outcome → moment.shown ≡ (gone_for errands back outcome world).shown → moment.after ≡ (gone_for errands back outcome world).world → IsSound (gone_for errands back outcome world).world → Steps moment
   gone_steps back outcome [] out moment met move shows after sound_after = stays_steps moment (ap (λ (w : World). w.state) after) (λ party is. subst (λ (w : World). In party w.errands) after is) (silent moment met (ap (λ m. came_in m world.state) move))
   gone_steps back outcome (party ∷ rest) out moment met move shows after sound_after = back_steps party rest out back outcome moment met move shows after sound_after
 
@@ -184,11 +183,11 @@ module _ (serving : Serving) (world : World) (sound : IsSound world) (branches :
   lost_steps [] out moment met move after = stays_steps moment (ap (λ (w : World). w.state) after) (λ party is. subst (λ (w : World). In party w.errands) after is) (silent moment met (ap (λ m. came_in m world.state) move))
   lost_steps (party ∷ rest) out moment met move after = stays_steps moment (ap (λ (w : World). w.state) after) (λ p is. subst (In p) (sym out) (inr (subst (λ (w : World). In p w.errands) after is))) (silent moment met (ap (λ m. came_in m world.state) move))
 
-  pub moves_on : (move : Move) → is_honest serving move world ≡ true → Steps (moment_of serving move world) ⊎ Starts (moment_of serving move world)
+  pub moves_on : (move : Move) → is_honest move world ≡ true → Steps (moment_of move world) ⊎ Starts (moment_of move world)
   moves_on (Move.Step event outcome) honest = inl (event_steps event outcome honest)
-  moves_on (Move.Go back outcome) honest = inl (gone_steps back outcome world.errands refl (moment_of serving (Move.Go back outcome) world) refl refl refl refl (moved_sound serving (Move.Go back outcome) world sound honest))
-  moves_on Move.Lose honest = inl (lost_steps world.errands refl (moment_of serving Move.Lose world) refl refl refl)
-  moves_on (Move.Restart boxes) honest = inr (record { boxes = boxes; state = refl; rows = refl; unheard = silent (moment_of serving (Move.Restart boxes) world) refl refl })
-  moves_on (Move.Renew boxes Stored) honest = inr (record { boxes = boxes; state = refl; rows = refl; unheard = silent (moment_of serving (Move.Renew boxes Stored) world) refl refl })
-  moves_on (Move.Renew boxes Refused) honest = inl (stays_steps (moment_of serving (Move.Renew boxes Refused) world) refl (λ party is. is) (silent (moment_of serving (Move.Renew boxes Refused) world) refl refl))
+  moves_on (Move.Go back outcome) honest = inl (gone_steps back outcome world.errands refl (moment_of (Move.Go back outcome) world) refl refl refl refl (moved_sound (Move.Go back outcome) world sound honest))
+  moves_on Move.Lose honest = inl (lost_steps world.errands refl (moment_of Move.Lose world) refl refl refl)
+  moves_on (Move.Restart boxes) honest = inr (record { boxes = boxes; state = refl; rows = refl; unheard = silent (moment_of (Move.Restart boxes) world) refl refl })
+  moves_on (Move.Renew boxes Stored) honest = inr (record { boxes = boxes; state = refl; rows = refl; unheard = silent (moment_of (Move.Renew boxes Stored) world) refl refl })
+  moves_on (Move.Renew boxes Refused) honest = inl (stays_steps (moment_of (Move.Renew boxes Refused) world) refl (λ party is. is) (silent (moment_of (Move.Renew boxes Refused) world) refl refl))
   moves_on (Move.Renew boxes NoChange) honest = absurd (let wrong : false ≡ true = honest in cc)

@@ -40,7 +40,6 @@ use Rattle.tip_machine.specs.Proceeding.{abort, ask, dispatch, finish, proceed}
 use Rattle.tip_machine.specs.Requests.{added, ask_pull, ask_push, dial, hear, line, lost, opened, owner, pull_if, push_part, resume, resume_in, settled, settled_for, strange, voted, voted_for}
 use Rattle.tip_machine.specs.Responses.{abort_as, answered_by, ask_superior, go_on, greeted, is_in_doubt, is_owed_commit, note_as, presume_abort, proceed_as, pursue, query_for, reach, reach_by, reconnect_for, responded}
 use Rattle.tip_machine.specs.Returns.{Back, back_from, back_of, event_of}
-use Rattle.tip_machine.specs.Served.{Serving}
 use Rattle.tip_machine.specs.States.{Attempt, Work, has_place, has_room, identified_by, seated, transaction_of}
 use Rattle.tip_machine.specs.Steps.{attempt}
 use Rattle.tip_machine.specs.Transactions.{begun, enlisting, has_id, has_key, has_ready, is_active, is_committed, is_done, is_known, is_prepared, next_key, noting, party_answer, standing_at, subordinate_of}
@@ -264,13 +263,13 @@ module _ (c : Connection) (w : Work) where
   serves commands.Tls = replies command.Tls says.CantTls
   serves commands.Error = inl (closes c w)
 
-  serves_if : (serving : Serving) (admit : Admit) (line : Command) → EndsSo w (serve_if serving admit line c w)
-  serves_if serving Serve line = either_so w (serving.commands (name_of line)) (serve line c w) _ (serves line) wrongs
-  serves_if serving Wrong line = wrongs
+  serves_if : (admit : Admit) (line : Command) → EndsSo w (serve_if admit line c w)
+  serves_if Serve line = serves line
+  serves_if Wrong line = wrongs
 
-  is_commanded : (serving : Serving) (line : Command) → EndsSo w (commanded serving line c w)
+  is_commanded : (line : Command) → EndsSo w (commanded line c w)
   unfolding commanded
-  is_commanded serving line = serves_if serving (admit_of c.state c.side (name_of line)) line
+  is_commanded line = serves_if (admit_of c.state c.side (name_of line)) line
 
 -- RESPONSES: what is noted of a part
 
@@ -458,16 +457,12 @@ module _ (c : Connection) (w : Work) where
   unfolding no_response
   never_said line a none goes = inl (record { goes = goes; wrongly = λ response is key part awaited note on at so. absurd (let wrong : false ≡ true = sym (ap no_response is) ∙ none in cc) })
 
-  either_heard : (line : Heard) (b : Bool) (this that : Attempt) → HeardSo c line w this → HeardSo c line w that → HeardSo c line w (cond b this that)
-  either_heard line true this that e f = e
-  either_heard line false this that e f = f
-
-  pub hears : (serving : Serving) (side : Side) (line : Heard) → HeardSo c line w (hear serving side line c w)
+  pub hears : (side : Side) (line : Heard) → HeardSo c line w (hear side line c w)
   unfolding no_response
-  hears serving Secondary (ACommand line) = never_said (ACommand line) (commanded serving line c w) refl (is_commanded c w serving line)
-  hears serving Primary (ACommand commands.Error) = never_said (ACommand commands.Error) (Attempt.Done (closed c w)) refl (inl (closes c w))
-  hears serving Primary (AResponse said) = either_heard (AResponse said) (serving.responses c.awaited) (answered_by c.awaited said c w) (Attempt.Done (wrong c w)) (answers_by c.awaited said refl) (wrong_plain (AResponse said))
-  hears serving side line = wrong_plain line
+  hears Secondary (ACommand line) = never_said (ACommand line) (commanded line c w) refl (is_commanded c w line)
+  hears Primary (ACommand commands.Error) = never_said (ACommand commands.Error) (Attempt.Done (closed c w)) refl (inl (closes c w))
+  hears Primary (AResponse said) = answers_by c.awaited said refl
+  hears side line = wrong_plain line
 
 -- REQUESTS OF THE HOST, and other events
 
@@ -481,20 +476,20 @@ module _ (w : Work) where
   pushes_part c (Some t) None = refused_so NotActive
   pushes_part c (Some t) (Some address) = either_done w (is_active t.phase) _ (refuse NotActive w) (inl (enlists c w t address None c.number (send c.number Push (asked.Push t.key) w) (record { head = refl; transactions = refl; work = refl }))) (refused_so NotActive)
 
-  asks_push : (serves : Bool) (found : Option Connection) (id : List ℕ) → EndsSo w (Attempt.Done (ask_push serves found id w))
+  asks_push : (found : Option Connection) (id : List ℕ) → EndsSo w (Attempt.Done (ask_push found id w))
   unfolding ask_push
-  asks_push serves None id = refused_so Stale
-  asks_push serves (Some c) id = either_done w (serves && is_free c) (push_part (identified_by id w.state) c.peer c.number w) (refuse Busy w) (pushes_part c (identified_by id w.state) c.peer) (refused_so Busy)
+  asks_push None id = refused_so Stale
+  asks_push (Some c) id = either_done w (is_free c) (push_part (identified_by id w.state) c.peer c.number w) (refuse Busy w) (pushes_part c (identified_by id w.state) c.peer) (refused_so Busy)
 
   pulls_if : (c : Connection) (known : Option Transaction) (superior : List ℕ) → EndsSo w (Attempt.Done (pull_if known superior c w))
   unfolding send make
   pulls_if c None superior = made_if w (send c.number Pull (asked.Pull superior (next_key w.state.head c)) (make (origin.Subordinate c.peer superior) c w)) (refuse Full w) c (origin.Subordinate c.peer superior) refl refl (refused_so Full) (has_room c w.state) refl
   pulls_if c (Some t) superior = refused_so Known
 
-  asks_pull : (serves : Bool) (found : Option Connection) (superior : List ℕ) → EndsSo w (Attempt.Done (ask_pull serves found superior w))
+  asks_pull : (found : Option Connection) (superior : List ℕ) → EndsSo w (Attempt.Done (ask_pull found superior w))
   unfolding ask_pull
-  asks_pull serves None superior = refused_so Stale
-  asks_pull serves (Some c) superior = either_done w (serves && is_free c) (pull_if (find (is_known c.peer superior) w.state.transactions) superior c w) (refuse Busy w) (pulls_if c (find (is_known c.peer superior) w.state.transactions) superior) (refused_so Busy)
+  asks_pull None superior = refused_so Stale
+  asks_pull (Some c) superior = either_done w (is_free c) (pull_if (find (is_known c.peer superior) w.state.transactions) superior c w) (refuse Busy w) (pulls_if c (find (is_known c.peer superior) w.state.transactions) superior) (refused_so Busy)
 
   resumes_in : (t : Transaction) → transaction_of t.key w.state ≡ Some t → (place : PartyPlace) → EndsSo w (resume_in place t w)
   resumes_in t found (Here party) = inl (dispatches t.key w)
@@ -510,9 +505,9 @@ module _ (w : Work) where
   unfolding opened added
   opens boxes = either_done w (has_place (length boxes) w.state) _ _ (inl (walks_beside w _ refl refl)) (inl (walks_beside w _ refl refl))
 
-  dials_so : (serves : Bool) (address : List ℕ) (wanted : Purpose) (boxes : List Badge) → EndsSo w (Attempt.Done (dial serves address wanted boxes w))
+  dials_so : (address : List ℕ) (wanted : Purpose) (boxes : List Badge) → EndsSo w (Attempt.Done (dial address wanted boxes w))
   unfolding dial added
-  dials_so serves address wanted boxes = either_done w (serves && has_place (length boxes) w.state) _ _ (inl (walks_beside w _ refl refl)) (inl (walks_beside w _ refl refl))
+  dials_so address wanted boxes = either_done w (has_place (length boxes) w.state) _ _ (inl (walks_beside w _ refl refl)) (inl (walks_beside w _ refl refl))
 
   loses : (found : Option Connection) → EndsSo w (Attempt.Done (lost found w))
   unfolding lost
@@ -559,16 +554,16 @@ module _ (w : Work) (whole : Whole w.state) where
   unfolding is_line
   no_line event a none goes = inl (record { goes = goes; wrongly = λ seat said is c there key part awaited note on waits so. absurd (let wrong : true ≡ false = sym (ap is_line is) ∙ none in cc) })
 
-  lines : (serving : Serving) (seat : Seat) (heard : Heard) (found : Option Connection) → seated seat w.state ≡ found → HappensSo (Line seat heard) w (line serving found heard w)
+  lines : (seat : Seat) (heard : Heard) (found : Option Connection) → seated seat w.state ≡ found → HappensSo (Line seat heard) w (line found heard w)
   unfolding line seat_in heard_in_event
-  lines serving seat heard None at = inl (record { goes = refused_so w Stale; wrongly = λ other said is c there key part awaited note on waits so. absurd (none-some c (sym at ∙ ap (λ s. seated s w.state) (ap (seat_in seat) is) ∙ there)) })
-  lines serving seat heard (Some c) at = step (may_take c) where
+  lines seat heard None at = inl (record { goes = refused_so w Stale; wrongly = λ other said is c there key part awaited note on waits so. absurd (none-some c (sym at ∙ ap (λ s. seated s w.state) (ap (seat_in seat) is) ∙ there)) })
+  lines seat heard (Some c) at = step (may_take c) where
     same_connection : (other : Seat) (said : Response) → line_on seat heard ≡ line_on other (AResponse said) → (d : Connection) → seated other w.state ≡ Some d → c ≡ d
     same_connection other said is d there = same_Some c d (sym at ∙ ap (λ s. seated s w.state) (ap (seat_in seat) is) ∙ there)
 
-    step : (b : Bool) → HappensSo (Line seat heard) w (cond b (hear serving c.side heard c w) (Attempt.Done (refuse Busy w)))
+    step : (b : Bool) → HappensSo (Line seat heard) w (cond b (hear c.side heard c w) (Attempt.Done (refuse Busy w)))
     step false = inl (record { goes = refused_so w Busy; wrongly = λ other said is d there key part awaited note on waits so. inr refl })
-    step true = elim (hears c w serving c.side heard) [
+    step true = elim (hears c w c.side heard) [
       | inl plain ↦ inl (record {
         goes = plain.goes;
         wrongly = λ other said is d there key part awaited note on waits so.
@@ -578,17 +573,17 @@ module _ (w : Work) (whole : Whole w.state) where
       | inr noted ↦ inr (record { seat = seat; line = heard; is = refl; connection = c; there = at; noted = noted })
     ]
 
-  pub happens_so : (serving : Serving) (event : Event) → brings_no_party event ≡ true → HappensSo event w (attempt serving event w)
+  pub happens_so : (event : Event) → brings_no_party event ≡ true → HappensSo event w (attempt event w)
   unfolding is_line
-  happens_so serving (Open boxes) is = no_line (Open boxes) (attempt serving (Open boxes) w) refl (opens w boxes)
-  happens_so serving (Dial address wanted boxes) is = no_line (Dial address wanted boxes) (attempt serving (Dial address wanted boxes) w) refl (dials_so w serving.dials address wanted boxes)
-  happens_so serving (Line seat heard) is = lines serving seat heard (seated seat w.state) refl
-  happens_so serving (Lost seat) is = no_line (Lost seat) (attempt serving (Lost seat) w) refl (loses w (seated seat w.state))
-  happens_so serving (AskPush seat id) is = no_line (AskPush seat id) (attempt serving (AskPush seat id) w) refl (asks_push w serving.dials (seated seat w.state) id)
-  happens_so serving (AskPull seat superior) is = no_line (AskPull seat superior) (attempt serving (AskPull seat superior) w) refl (asks_pull w serving.dials (seated seat w.state) superior)
-  happens_so serving (Resume id) is = no_line (Resume id) (attempt serving (Resume id) w) refl (resumes w (identified_by id w.state) (λ t found. found_by (has_id w.state.head.name id) w.state t whole found))
-  happens_so serving (Voted party) is = absurd (cc)
-  happens_so serving (Settled party) is = absurd (cc)
+  happens_so (Open boxes) is = no_line (Open boxes) (attempt (Open boxes) w) refl (opens w boxes)
+  happens_so (Dial address wanted boxes) is = no_line (Dial address wanted boxes) (attempt (Dial address wanted boxes) w) refl (dials_so w address wanted boxes)
+  happens_so (Line seat heard) is = lines seat heard (seated seat w.state) refl
+  happens_so (Lost seat) is = no_line (Lost seat) (attempt (Lost seat) w) refl (loses w (seated seat w.state))
+  happens_so (AskPush seat id) is = no_line (AskPush seat id) (attempt (AskPush seat id) w) refl (asks_push w (seated seat w.state) id)
+  happens_so (AskPull seat superior) is = no_line (AskPull seat superior) (attempt (AskPull seat superior) w) refl (asks_pull w (seated seat w.state) superior)
+  happens_so (Resume id) is = no_line (Resume id) (attempt (Resume id) w) refl (resumes w (identified_by id w.state) (λ t found. found_by (has_id w.state.head.name id) w.state t whole found))
+  happens_so (Voted party) is = absurd (cc)
+  happens_so (Settled party) is = absurd (cc)
 
 -- A PARTY THAT COMES BACK is here again first; a stranger changes nothing
 
@@ -642,9 +637,9 @@ module _ (party : PartyNotes) (w : Work) where
     step (Some t) is = settles_at t is t.place refl
 
 -- with the event of its errand
-pub returns_so : (serving : Serving) (party : PartyNotes) (back : Back) (w : Work) → ReturnsSo (back_of party back) w (attempt serving (event_of party back) w)
-returns_so serving party back w = step party.errand where
-  step : (e : Errand) → ReturnsSo (back_of party back) w (attempt serving (back_from e (back_of party back)) w)
+pub returns_so : (party : PartyNotes) (back : Back) (w : Work) → ReturnsSo (back_of party back) w (attempt (event_of party back) w)
+returns_so party back w = step party.errand where
+  step : (e : Errand) → ReturnsSo (back_of party back) w (attempt (back_from e (back_of party back)) w)
   step errand.Vote = votes_so (back_of party back) w
   step errand.Commit = settles_so (back_of party back) w
   step errand.Abort = settles_so (back_of party back) w

@@ -15,7 +15,6 @@ use Rattle.tip_machine.specs.Invariants.{IsSound}
 use Rattle.tip_machine.specs.Moves.{Move, World, drops_here, gone_for, lost_from, moved, restarted_from, risen, stepped}
 use Rattle.tip_machine.specs.Outputs.{Output, drops_of}
 use Rattle.tip_machine.specs.Returns.{Back, event_of}
-use Rattle.tip_machine.specs.Served.{Serving}
 use Rattle.tip_machine.specs.Starting.{IsStart, are_adopted}
 use Rattle.tip_machine.specs.States.{State}
 use Rattle.tip_machine.specs.Types.{Event}
@@ -59,7 +58,7 @@ restart_moves world sound moments moment boxes can state rows none = record {
       (record { shown = restarted_shown world.state.head.name later head.epoch head boxes world.rows rising fit; cared = restarted_cared world.state.head.name later head.epoch head boxes world.rows rising fit moment.after.errands }));
 }
 
-module _ (serving : Serving) (world : World) (sound : IsSound world) (moments : List Moment) (was : In_world world moments) where
+module _ (world : World) (sound : IsSound world) (moments : List Moment) (was : In_world world moments) where
   -- where nothing changes but who is out
   stays_moves : (moment : Moment) → moment.after.state ≡ world.state → moment.after.rows ≡ world.rows → ((party : PartyNotes) → In party moment.after.errands → In party world.errands) → ((id : List ℕ) → list_any (removes world.state.head.name id) moment.shown ≡ false) → Moves world moments moment
   stays_moves moment state rows sub none = record {
@@ -71,37 +70,37 @@ module _ (serving : Serving) (world : World) (sound : IsSound world) (moments : 
         (witnessed_fewer world.state.head.name world.state.head.epoch (moments ++ moment ∷ []) world.state.transactions world.errands moment.after.errands world.rows sub (witnessed_more world.state.head.name world.state.head.epoch moments (moment ∷ []) world.state.transactions world.errands world.rows was))));
   }
 
-  event_moves : (event : Event) (outcome : Outcome) → is_honest serving (Move.Step event outcome) world ≡ true → Moves world moments (moment_of serving (Move.Step event outcome) world)
+  event_moves : (event : Event) (outcome : Outcome) → is_honest (Move.Step event outcome) world ≡ true → Moves world moments (moment_of (Move.Step event outcome) world)
   unfolding stepped
   event_moves event outcome honest =
-      let moment = moment_of serving (Move.Step event outcome) world in
-      leaves_so world moments moment (step-named serving world.state event outcome) (step-epoch serving world.state event outcome) (event_leaves serving world sound moments was event outcome moment refl refl refl (and_parts (brings_no_party event) _ honest).0 (moved_sound serving (Move.Step event outcome) world sound honest))
+      let moment = moment_of (Move.Step event outcome) world in
+      leaves_so world moments moment (step-named world.state event outcome) (step-epoch world.state event outcome) (event_leaves world sound moments was event outcome moment refl refl refl (and_parts (brings_no_party event) _ honest).0 (moved_sound (Move.Step event outcome) world sound honest))
 
-  gone_moves : (back : Back) (outcome : Outcome) → is_honest serving (Move.Go back outcome) world ≡ true → (errands : List PartyNotes) → world.errands ≡ errands → (moment : Moment) → moment.world ≡ world → moment.shown ≡ (gone_for errands serving back outcome world).shown → moment.after ≡ (gone_for errands serving back outcome world).world → IsSound (gone_for errands serving back outcome world).world → Moves world moments moment
+  gone_moves : (back : Back) (outcome : Outcome) → is_honest (Move.Go back outcome) world ≡ true → (errands : List PartyNotes) → world.errands ≡ errands → (moment : Moment) → moment.world ≡ world → moment.shown ≡ (gone_for errands back outcome world).shown → moment.after ≡ (gone_for errands back outcome world).world → IsSound (gone_for errands back outcome world).world → Moves world moments moment
   unfolding stepped
   gone_moves back outcome honest [] out moment met shows after sound_after = stays_moves moment (ap (λ (w : World). w.state) after) (ap (λ (w : World). w.rows) after) (λ party is. subst (λ (w : World). In party w.errands) after is) (λ id. ap (list_any (removes world.state.head.name id)) shows)
   gone_moves back outcome honest (party ∷ rest) out moment met shows after sound_after =
-      leaves_so world moments moment (named (event_of party back) rest after) (dated (event_of party back) rest after) (subst (Leaves world (moments ++ moment ∷ []) moment) (sym after) (back_leaves serving world sound moments was party rest out back outcome moment met shows sound_after)) where
-        named : (event : Event) (rest : List PartyNotes) → moment.after ≡ (stepped serving event outcome (record world { errands = rest })).world → moment.after.state.head.name ≡ world.state.head.name
-        named event rest after = ap (λ (w : World). w.state.head.name) after ∙ step-named serving world.state event outcome
+      leaves_so world moments moment (named (event_of party back) rest after) (dated (event_of party back) rest after) (subst (Leaves world (moments ++ moment ∷ []) moment) (sym after) (back_leaves world sound moments was party rest out back outcome moment met shows sound_after)) where
+        named : (event : Event) (rest : List PartyNotes) → moment.after ≡ (stepped event outcome (record world { errands = rest })).world → moment.after.state.head.name ≡ world.state.head.name
+        named event rest after = ap (λ (w : World). w.state.head.name) after ∙ step-named world.state event outcome
 
-        dated : (event : Event) (rest : List PartyNotes) → moment.after ≡ (stepped serving event outcome (record world { errands = rest })).world → moment.after.state.head.epoch ≡ world.state.head.epoch
-        dated event rest after = ap (λ (w : World). w.state.head.epoch) after ∙ step-epoch serving world.state event outcome
+        dated : (event : Event) (rest : List PartyNotes) → moment.after ≡ (stepped event outcome (record world { errands = rest })).world → moment.after.state.head.epoch ≡ world.state.head.epoch
+        dated event rest after = ap (λ (w : World). w.state.head.epoch) after ∙ step-epoch world.state event outcome
 
   lost_moves : (errands : List PartyNotes) → world.errands ≡ errands → (moment : Moment) → moment.shown ≡ (lost_from errands world).shown → moment.after ≡ (lost_from errands world).world → Moves world moments moment
   lost_moves [] out moment shows after = stays_moves moment (ap (λ (w : World). w.state) after) (ap (λ (w : World). w.rows) after) (λ party is. subst (λ (w : World). In party w.errands) after is) (λ id. ap (list_any (removes world.state.head.name id)) shows)
   lost_moves (party ∷ rest) out moment shows after = stays_moves moment (ap (λ (w : World). w.state) after) (ap (λ (w : World). w.rows) after) (λ p is. subst (In p) (sym out) (inr (subst (λ (w : World). In p w.errands) after is))) (λ id. ap (list_any (removes world.state.head.name id)) shows ∙ none_removed_dropped world.state.head.name id party)
 
-  renewed_moves : (boxes : Key → List Badge) (outcome : Outcome) → is_honest serving (Move.Renew boxes outcome) world ≡ true → Moves world moments (moment_of serving (Move.Renew boxes outcome) world)
-  renewed_moves boxes Stored can = restart_moves world sound moments (moment_of serving (Move.Renew boxes Stored) world) boxes can refl refl (λ id. none_removed_here world.state.head.name id world.state.transactions)
-  renewed_moves boxes Refused can = stays_moves (moment_of serving (Move.Renew boxes Refused) world) refl refl (λ party is. is) (λ id. refl)
+  renewed_moves : (boxes : Key → List Badge) (outcome : Outcome) → is_honest (Move.Renew boxes outcome) world ≡ true → Moves world moments (moment_of (Move.Renew boxes outcome) world)
+  renewed_moves boxes Stored can = restart_moves world sound moments (moment_of (Move.Renew boxes Stored) world) boxes can refl refl (λ id. none_removed_here world.state.head.name id world.state.transactions)
+  renewed_moves boxes Refused can = stays_moves (moment_of (Move.Renew boxes Refused) world) refl refl (λ party is. is) (λ id. refl)
   renewed_moves boxes NoChange can = absurd (let wrong : false ≡ true = can in cc)
 
-  pub moves_so : (move : Move) → is_honest serving move world ≡ true → Moves world moments (moment_of serving move world)
+  pub moves_so : (move : Move) → is_honest move world ≡ true → Moves world moments (moment_of move world)
   moves_so (Move.Step event outcome) honest = event_moves event outcome honest
-  moves_so (Move.Go back outcome) honest = gone_moves back outcome honest world.errands refl (moment_of serving (Move.Go back outcome) world) refl refl refl (moved_sound serving (Move.Go back outcome) world sound honest)
-  moves_so Move.Lose honest = lost_moves world.errands refl (moment_of serving Move.Lose world) refl refl
-  moves_so (Move.Restart boxes) honest = restart_moves world sound moments (moment_of serving (Move.Restart boxes) world) boxes honest refl refl (λ id. none_either world.state.head.name id (flat_map drops_of world.errands) (drops_here world.state) (none_removed_lost world.state.head.name id world.errands) (none_removed_here world.state.head.name id world.state.transactions))
+  moves_so (Move.Go back outcome) honest = gone_moves back outcome honest world.errands refl (moment_of (Move.Go back outcome) world) refl refl refl (moved_sound (Move.Go back outcome) world sound honest)
+  moves_so Move.Lose honest = lost_moves world.errands refl (moment_of Move.Lose world) refl refl
+  moves_so (Move.Restart boxes) honest = restart_moves world sound moments (moment_of (Move.Restart boxes) world) boxes honest refl refl (λ id. none_either world.state.head.name id (flat_map drops_of world.errands) (drops_here world.state) (none_removed_lost world.state.head.name id world.errands) (none_removed_here world.state.head.name id world.state.transactions))
   moves_so (Move.Renew boxes outcome) honest = renewed_moves boxes outcome honest
 
 -- A RUN
@@ -126,18 +125,18 @@ moment_kept realm id start before moment done undenied = and_from _ _ done (elim
   | inr gone ↦ or_right (not (is_denied realm id moment) || not (was_committed realm id start (shown_in before))) _ gone
 ])
 
-runs_kept : (serving : Serving) (realm id : List ℕ) (start world : World) (moves : List Move) (before : List Moment) → IsSound world → world.state.head.name ≡ realm → In_world world (of_start world.state.head.epoch before) → is_run serving world moves ≡ true → at_each_behind before (is_kept realm id start) (traced serving world moves) ≡ true
-runs_kept serving realm id start world [] before sound named was honest = refl
-runs_kept serving realm id start world (move ∷ moves) before sound named was honest =
-    let parts = and_parts (is_honest serving move world) (is_run serving (moved serving move world).world moves) honest in
-    let next = (moved serving move world).world in
-    let moment = moment_of serving move world in
+runs_kept : (realm id : List ℕ) (start world : World) (moves : List Move) (before : List Moment) → IsSound world → world.state.head.name ≡ realm → In_world world (of_start world.state.head.epoch before) → is_run world moves ≡ true → at_each_behind before (is_kept realm id start) (traced world moves) ≡ true
+runs_kept realm id start world [] before sound named was honest = refl
+runs_kept realm id start world (move ∷ moves) before sound named was honest =
+    let parts = and_parts (is_honest move world) (is_run (moved move world).world moves) honest in
+    let next = (moved move world).world in
+    let moment = moment_of move world in
     let epoch = world.state.head.epoch in
-    let went = moves_so serving world sound (of_start epoch before) was move parts.0 in
+    let went = moves_so world sound (of_start epoch before) was move parts.0 in
     let mine : of_start epoch (before ++ moment ∷ []) ≡ of_start epoch before ++ moment ∷ [] = filter_last (λ (m : Moment). m.world.state.head.epoch == epoch) before moment (same_number epoch) in
     let done : IsDone realm id (of_this_start realm id before moment) moment = subst (λ n. IsDone n id (of_this_start realm id before moment) moment) named (subst (λ ms. IsDone world.state.head.name id ms moment) (sym mine) (went.done id)) in
-    and_from _ _ (moment_kept realm id start before moment done (subst (λ n. is_undenied n id before moment ≡ true) named (moved_undenied serving move world id before sound)))
-    (runs_kept serving realm id start next moves (before ++ moment ∷ []) (moved_sound serving move world sound parts.0) (name_moved serving move world ∙ named) (went.witnessed (of_start next.state.head.epoch (before ++ moment ∷ [])) (λ same. ap (λ e. of_start e (before ++ moment ∷ [])) same ∙ mine)) parts.1)
+    and_from _ _ (moment_kept realm id start before moment done (subst (λ n. is_undenied n id before moment ≡ true) named (moved_undenied move world id before sound)))
+    (runs_kept realm id start next moves (before ++ moment ∷ []) (moved_sound move world sound parts.0) (name_moved move world ∙ named) (went.witnessed (of_start next.state.head.epoch (before ++ moment ∷ [])) (λ same. ap (λ e. of_start e (before ++ moment ∷ [])) same ∙ mine)) parts.1)
 
 -- where a run begins, nothing was heard
 pub start_witnessed : (world : World) → IsStart world → In_world world []
@@ -146,5 +145,5 @@ start_witnessed world start = subst (λ (s : State). Witnessed s.head.name s.hea
   cared = restarted_cared world.state.head.name [] world.state.head.epoch world.state.head start.boxes world.rows start.rows.rising start.adopted world.errands;
 })
 
-pub run_kept : (serving : Serving) (world : World) (moves : List Move) (id : List ℕ) → IsStart world → is_run serving world moves ≡ true → at_each_behind [] (is_kept world.state.head.name id world) (traced serving world moves) ≡ true
-run_kept serving world moves id start honest = runs_kept serving world.state.head.name id world world moves [] (start_sound world start) refl (start_witnessed world start) honest
+pub run_kept : (world : World) (moves : List Move) (id : List ℕ) → IsStart world → is_run world moves ≡ true → at_each_behind [] (is_kept world.state.head.name id world) (traced world moves) ≡ true
+run_kept world moves id start honest = runs_kept world.state.head.name id world world moves [] (start_sound world start) refl (start_witnessed world start) honest

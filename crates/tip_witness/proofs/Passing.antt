@@ -29,7 +29,6 @@ use Rattle.tip_machine.specs.Invariants.Links.{are_distinct}
 use Rattle.tip_machine.specs.Moves.{Move, World}
 use Rattle.tip_machine.specs.Order.{ordered}
 use Rattle.tip_machine.specs.Outputs.{Output, brought, drops_of, outputs}
-use Rattle.tip_machine.specs.Served.{Serving}
 use Rattle.tip_machine.specs.Starting.{are_counted_from}
 use Rattle.tip_machine.specs.States.{Attempt, Work}
 use Rattle.tip_machine.specs.Steps.{attempt, chosen, entered, is_open, wanted}
@@ -171,7 +170,7 @@ module _ (world : World) (sound : IsSound world) (branches : List (ℕ × List �
     }
 
     -- AN EVENT of its own
-    module _ (serving : Serving) (mine : List Moment) (was : In_world world (mine ++ moment ∷ [])) (met : moment.world ≡ world) where
+    module _ (mine : List Moment) (was : In_world world (mine ++ moment ∷ [])) (met : moment.world ≡ world) where
       abbrev all : List Moment
       all = mine ++ moment ∷ []
 
@@ -183,7 +182,7 @@ module _ (world : World) (sound : IsSound world) (branches : List (ℕ × List �
 
       module _ (event : Event) (outcome : Outcome) (room : is_open world.state ≡ true) (move : moment.move ≡ Move.Step event outcome) (none : brings_no_party event ≡ true) where
         abbrev tried : Attempt
-        tried = attempt serving event (entered world.state)
+        tried = attempt event (entered world.state)
 
         abbrev v : Work
         v = chosen tried outcome
@@ -271,10 +270,10 @@ module _ (world : World) (sound : IsSound world) (branches : List (ℕ × List �
 
           pub event_passes : (u : Transaction) → In u v.state.transactions → Goes_on u
           unfolding ordered
-          event_passes u there = elim (happens_so (entered world.state) (entered_whole world.state (sound_whole world sound)) serving event none) [
+          event_passes u there = elim (happens_so (entered world.state) (entered_whole world.state (sound_whole world sound)) event none) [
             | inl quietly ↦ quietly_passes quietly u there
             | inr says ↦ by_refusal says v.answer.refusal refl
           ] where
             by_refusal : (says : Says event (entered world.state) tried) (why : Option Refusal) → v.answer.refusal ≡ why → Goes_on u
-            by_refusal says (Some why) is = stands_passes why is (refused_stands serving world sound mine moment met event outcome room why is) u there
-            by_refusal says None is = says_passes says (heard_so serving world sound mine moment met event outcome room move shows was says is) u there
+            by_refusal says (Some why) is = stands_passes why is (refused_stands world sound mine moment met event outcome room why is) u there
+            by_refusal says None is = says_passes says (heard_so world sound mine moment met event outcome room move shows was says is) u there

@@ -27,7 +27,6 @@ use Rattle.tip_machine.specs.Invariants.Parties.{are_unasked, is_sent}
 use Rattle.tip_machine.specs.Moves.{Move, World}
 use Rattle.tip_machine.specs.Outputs.{Output, calls_of}
 use Rattle.tip_machine.specs.Returns.{Back, back_of, event_of}
-use Rattle.tip_machine.specs.Served.{Serving}
 use Rattle.tip_machine.specs.States.{Attempt, State, Work, transaction_of}
 use Rattle.tip_machine.specs.Steps.{attempt, chosen, entered}
 use Rattle.tip_machine.specs.Transactions.{has_key, noting, party_answer, standing_at}
@@ -65,7 +64,7 @@ local_answer : (b a : Ballot) (ps : List Participant) → answer_at (changed_at 
 local_answer b a [] is = absurd (none-some a is)
 local_answer b a (p ∷ ps) is = same_Some b a is
 
-module _ (serving : Serving) (world : World) (sound : IsSound world) (branches : List (ℕ × List ℕ)) (mine : List Moment) (moment : Moment) (met : moment.world ≡ world) (was : In_world world (mine ++ moment ∷ [])) (made : Transaction → List Moment)
+module _ (world : World) (sound : IsSound world) (branches : List (ℕ × List ℕ)) (mine : List Moment) (moment : Moment) (met : moment.world ≡ world) (was : In_world world (mine ++ moment ∷ [])) (made : Transaction → List Moment)
     (party : PartyNotes) (rest : List PartyNotes) (out : world.errands ≡ party ∷ rest) (back : Back) (outcome : Outcome) (go : moment.move ≡ Move.Go back outcome) (brings : (test : Output → Bool) → list_any test (calls_of (back_of party back)) ≡ true → list_any test moment.shown ≡ true)
     (covered : (t : Transaction) → In t world.state.transactions → (t.key.epoch == world.state.head.epoch) ≡ true → Covers world.state.head.epoch branches world.errands (identifier world.state.head.name t.key) t.place) where
   abbrev realm : List ℕ
@@ -84,7 +83,7 @@ module _ (serving : Serving) (world : World) (sound : IsSound world) (branches :
   came_back = back_of party back
 
   abbrev tried : Attempt
-  tried = attempt serving (event_of party back) (entered world.state)
+  tried = attempt (event_of party back) (entered world.state)
 
   abbrev v : Work
   v = chosen tried outcome
@@ -238,7 +237,7 @@ module _ (serving : Serving) (world : World) (sound : IsSound world) (branches :
         wasu = walks.each u there
 
     pub back_passes : (u : Transaction) → In u v.state.transactions → Passed realm now branches Called moment (rest ++ option_to_list v.answer.work) world.state.transactions u
-    back_passes u there = elim (returns_so serving party back (entered world.state)) [
+    back_passes u there = elim (returns_so party back (entered world.state)) [
       | inl strange_is ↦
           let old : In u world.state.transactions = subst (λ (x : Attempt). In u (chosen x outcome).state.transactions) strange_is there in
           let idle : v.answer.work ≡ None = ap (λ (x : Attempt). (chosen x outcome).answer.work) strange_is in

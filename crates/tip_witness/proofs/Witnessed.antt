@@ -27,9 +27,8 @@ use Rattle.tip_machine.specs.Moves.{Move, World, moved, rows_after, stepped}
 use Rattle.tip_machine.specs.Order.{ordered}
 use Rattle.tip_machine.specs.Outputs.{Output, calls_of, outputs}
 use Rattle.tip_machine.specs.Returns.{Back, back_of, event_of}
-use Rattle.tip_machine.specs.Served.{Serving}
 use Rattle.tip_machine.specs.States.{Attempt, State, Work, transaction_of}
-use Rattle.tip_machine.specs.Steps.{attempt, chosen, entered, frozen, is_open, step_serving, wanted}
+use Rattle.tip_machine.specs.Steps.{attempt, chosen, entered, frozen, is_open, step, wanted}
 use Rattle.tip_machine.specs.Transactions.{noting}
 use Rattle.tip_machine.specs.Types.{Answer, Event, Transaction}
 use Rattle.tip_machine.specs.declared.event.Change.{Change}
@@ -116,7 +115,7 @@ module _ (realm : List ℕ) (now : ℕ) (moments : List Moment) (ts : List Trans
 
 -- AN EVENT OF ITS OWN
 
-module _ (serving : Serving) (world : World) (sound : IsSound world) (moments : List Moment) (moment : Moment) (met : moment.world ≡ world) where
+module _ (world : World) (sound : IsSound world) (moments : List Moment) (moment : Moment) (met : moment.world ≡ world) where
   abbrev realm : List ℕ
   realm = world.state.head.name
 
@@ -131,23 +130,23 @@ module _ (serving : Serving) (world : World) (sound : IsSound world) (moments : 
 
   module _ (event : Event) (outcome : Outcome) (room : is_open world.state ≡ true) where
     abbrev tried : Attempt
-    tried = attempt serving event (entered world.state)
+    tried = attempt event (entered world.state)
 
     abbrev done : Work
     done = ordered world.state (chosen tried outcome)
 
-    pub stepped_so : step_serving serving world.state event outcome ≡ done
+    pub stepped_so : step world.state event outcome ≡ done
     stepped_so = ap (λ b. cond b done (frozen event world.state)) room
 
     -- one that is refused changes nothing
     pub refused_stands : (why : Refusal) → done.answer.refusal ≡ Some why → Stands world.state.transactions tried outcome
     unfolding ordered
     refused_stands why is =
-        let some : IsSome (step_serving serving world.state event outcome).answer.refusal = subst IsSome (sym (ap (λ (w : Work). w.answer.refusal) stepped_so ∙ is)) refl in
+        let some : IsSome (step world.state event outcome).answer.refusal = subst IsSome (sym (ap (λ (w : Work). w.answer.refusal) stepped_so ∙ is)) refl in
         record {
-          transactions = sym (ap (λ (w : Work). w.state.transactions) stepped_so) ∙ ap (λ (s : State). s.transactions) (quiet serving world.state event outcome some);
-          work = sym (ap (λ (w : Work). w.answer.work) stepped_so) ∙ (silent serving world.state event outcome some).1;
-          wants = sym (ap (λ b. cond b (wanted tried) None) room) ∙ wants_none serving world.state event outcome some;
+          transactions = sym (ap (λ (w : Work). w.state.transactions) stepped_so) ∙ ap (λ (s : State). s.transactions) (quiet world.state event outcome some);
+          work = sym (ap (λ (w : Work). w.answer.work) stepped_so) ∙ (silent world.state event outcome some).1;
+          wants = sym (ap (λ b. cond b (wanted tried) None) room) ∙ wants_none world.state event outcome some;
         }
 
     module _ (move : moment.move ≡ Move.Step event outcome) (shows : moment.shown ≡ outputs event (wanted tried) outcome done.answer) (was : Here all) where
@@ -160,7 +159,7 @@ module _ (serving : Serving) (world : World) (sound : IsSound world) (moments : 
           ∙ ap (λ o. came_on o says.noted.response) says.there))
 
       event_comes : brings_no_party event ≡ true → Comes realm now all world.state.transactions world.errands world.rows tried outcome
-      event_comes none = elim (happens_so (entered world.state) (entered_whole world.state (sound_whole world sound)) serving event none) [
+      event_comes none = elim (happens_so (entered world.state) (entered_whole world.state (sound_whole world sound)) event none) [
         | inl quietly ↦ inl (record { begins = entered world.state; base = base_entered world sound all was.shown was.cared; goes = quietly.goes })
         | inr says ↦ by_refusal says done.answer.refusal refl
       ] where
@@ -181,10 +180,10 @@ module _ (serving : Serving) (world : World) (sound : IsSound world) (moments : 
     event = event_of party back
 
     abbrev tried_back : Attempt
-    tried_back = attempt serving event (entered world.state)
+    tried_back = attempt event (entered world.state)
 
     back_comes : ((test : Output → Bool) → list_any test (calls_of (back_of party back)) ≡ true → list_any test moment.shown ≡ true) → Comes realm now all world.state.transactions rest world.rows tried_back outcome
-    back_comes brings = elim (returns_so serving party back (entered world.state)) [
+    back_comes brings = elim (returns_so party back (entered world.state)) [
       | inl is ↦ inr (subst (λ a. Stands world.state.transactions a outcome) (sym is) (record { transactions = refl; work = refl; wants = refl }))
       | inr came ↦ inl (record { begins = _; base = base_again world sound party rest out moments moment back was.shown was.cared brings came.transaction came.owned came.errand came.out; goes = ends_so _ tried_back came.goes })
     ]
@@ -227,8 +226,8 @@ module _ (world : World) (sound : IsSound world) (moments : List Moment) (moment
 
 -- EACH MOVE
 
-abbrev pub moment_of : Serving → Move → World → Moment
-moment_of serving move world = record { world = world; move = move; shown = (moved serving move world).shown; after = (moved serving move world).world }
+abbrev pub moment_of : Move → World → Moment
+moment_of move world = record { world = world; move = move; shown = (moved move world).shown; after = (moved move world).world }
 
 -- all is shown after it, and what it removes was done
 pub record Leaves (world : World) (moments : List Moment) (moment : Moment) (after : World) : Type 0 where
@@ -241,21 +240,21 @@ In_world world moments = Witnessed world.state.head.name world.state.head.epoch 
 stored_in : (world : World) → IsSound world → (u : Transaction) → In u world.state.transactions → is_stored_as u.phase u (row_at u.key world.rows) ≡ true
 stored_in world sound u there = in_all (λ (t : Transaction). is_stored_as t.phase t (row_at t.key world.rows)) world.state.transactions u (and_parts _ (list_all (λ (t : Transaction). is_stored_as t.phase t (row_at t.key world.rows)) world.state.transactions) (and_parts _ _ sound.stored).0).1 there
 
-module _ (serving : Serving) (world : World) (sound : IsSound world) (moments : List Moment) (was : In_world world moments) where
-  pub event_leaves : (event : Event) (outcome : Outcome) (moment : Moment) → moment.world ≡ world → moment.move ≡ Move.Step event outcome → moment.shown ≡ (stepped serving event outcome world).shown → brings_no_party event ≡ true → IsSound (stepped serving event outcome world).world → Leaves world (moments ++ moment ∷ []) moment (stepped serving event outcome world).world
+module _ (world : World) (sound : IsSound world) (moments : List Moment) (was : In_world world moments) where
+  pub event_leaves : (event : Event) (outcome : Outcome) (moment : Moment) → moment.world ≡ world → moment.move ≡ Move.Step event outcome → moment.shown ≡ (stepped event outcome world).shown → brings_no_party event ≡ true → IsSound (stepped event outcome world).world → Leaves world (moments ++ moment ∷ []) moment (stepped event outcome world).world
   unfolding stepped ordered
   event_leaves event outcome moment met move shows none after = step (is_open world.state) refl shows after where
     now_was : In_world world (moments ++ moment ∷ [])
     now_was = witnessed_more world.state.head.name world.state.head.epoch moments (moment ∷ []) world.state.transactions world.errands world.rows was
 
-    step : (b : Bool) → is_open world.state ≡ b → moment.shown ≡ outputs event (cond b (wanted (attempt serving event (entered world.state))) None) outcome (cond b (ordered world.state (chosen (attempt serving event (entered world.state)) outcome)) (frozen event world.state)).answer →
-        IsSound (record { state = (cond b (ordered world.state (chosen (attempt serving event (entered world.state)) outcome)) (frozen event world.state)).state; rows = rows_after (cond b (wanted (attempt serving event (entered world.state))) None) outcome world.rows; errands = world.errands ++ option_to_list (cond b (ordered world.state (chosen (attempt serving event (entered world.state)) outcome)) (frozen event world.state)).answer.work }) →
-        Leaves world (moments ++ moment ∷ []) moment (record { state = (cond b (ordered world.state (chosen (attempt serving event (entered world.state)) outcome)) (frozen event world.state)).state; rows = rows_after (cond b (wanted (attempt serving event (entered world.state))) None) outcome world.rows; errands = world.errands ++ option_to_list (cond b (ordered world.state (chosen (attempt serving event (entered world.state)) outcome)) (frozen event world.state)).answer.work })
+    step : (b : Bool) → is_open world.state ≡ b → moment.shown ≡ outputs event (cond b (wanted (attempt event (entered world.state))) None) outcome (cond b (ordered world.state (chosen (attempt event (entered world.state)) outcome)) (frozen event world.state)).answer →
+        IsSound (record { state = (cond b (ordered world.state (chosen (attempt event (entered world.state)) outcome)) (frozen event world.state)).state; rows = rows_after (cond b (wanted (attempt event (entered world.state))) None) outcome world.rows; errands = world.errands ++ option_to_list (cond b (ordered world.state (chosen (attempt event (entered world.state)) outcome)) (frozen event world.state)).answer.work }) →
+        Leaves world (moments ++ moment ∷ []) moment (record { state = (cond b (ordered world.state (chosen (attempt event (entered world.state)) outcome)) (frozen event world.state)).state; rows = rows_after (cond b (wanted (attempt event (entered world.state))) None) outcome world.rows; errands = world.errands ++ option_to_list (cond b (ordered world.state (chosen (attempt event (entered world.state)) outcome)) (frozen event world.state)).answer.work })
     step true room shows after =
         let name = world.state.head.name in
         let epoch = world.state.head.epoch in
-        let a = attempt serving event (entered world.state) in
-        let comes = event_comes serving world sound moments moment met event outcome room move shows now_was none in
+        let a = attempt event (entered world.state) in
+        let comes = event_comes world sound moments moment met event outcome room move shows now_was none in
         record {
           witnessed = then_witnessed name epoch (moments ++ moment ∷ []) world.state.transactions world.errands world.rows a outcome comes now_was (stored_in _ after);
           done = change_is_done world sound (moments ++ moment ∷ []) moment met event (wanted a) outcome (ordered world.state (chosen a outcome)).answer shows (λ key is. (removes_spelled name epoch (moments ++ moment ∷ []) world.state.transactions world.errands world.rows a outcome comes key is, finishes name epoch (moments ++ moment ∷ []) world.state.transactions world.errands world.rows a outcome comes key is));
@@ -265,7 +264,7 @@ module _ (serving : Serving) (world : World) (sound : IsSound world) (moments : 
       done = change_is_done world sound (moments ++ moment ∷ []) moment met event None outcome (frozen event world.state).answer shows (λ key is. absurd (none-some (Remove key) is));
     }
 
-  pub back_leaves : (party : PartyNotes) (rest : List PartyNotes) → world.errands ≡ party ∷ rest → (back : Back) (outcome : Outcome) (moment : Moment) → moment.world ≡ world → moment.shown ≡ (stepped serving (event_of party back) outcome (record world { errands = rest })).shown → IsSound (stepped serving (event_of party back) outcome (record world { errands = rest })).world → Leaves world (moments ++ moment ∷ []) moment (stepped serving (event_of party back) outcome (record world { errands = rest })).world
+  pub back_leaves : (party : PartyNotes) (rest : List PartyNotes) → world.errands ≡ party ∷ rest → (back : Back) (outcome : Outcome) (moment : Moment) → moment.world ≡ world → moment.shown ≡ (stepped (event_of party back) outcome (record world { errands = rest })).shown → IsSound (stepped (event_of party back) outcome (record world { errands = rest })).world → Leaves world (moments ++ moment ∷ []) moment (stepped (event_of party back) outcome (record world { errands = rest })).world
   unfolding stepped ordered
   back_leaves party rest out back outcome moment met shows after = step (is_open world.state) refl shows after where
     now_was : In_world world (moments ++ moment ∷ [])
@@ -274,14 +273,14 @@ module _ (serving : Serving) (world : World) (sound : IsSound world) (moments : 
     fewer : Witnessed world.state.head.name world.state.head.epoch (moments ++ moment ∷ []) world.state.transactions rest world.rows
     fewer = witnessed_fewer world.state.head.name world.state.head.epoch (moments ++ moment ∷ []) world.state.transactions world.errands rest world.rows (λ p is. subst (In p) (sym out) (inr is)) now_was
 
-    step : (b : Bool) → is_open world.state ≡ b → moment.shown ≡ outputs (event_of party back) (cond b (wanted (attempt serving (event_of party back) (entered world.state))) None) outcome (cond b (ordered world.state (chosen (attempt serving (event_of party back) (entered world.state)) outcome)) (frozen (event_of party back) world.state)).answer →
-        IsSound (record { state = (cond b (ordered world.state (chosen (attempt serving (event_of party back) (entered world.state)) outcome)) (frozen (event_of party back) world.state)).state; rows = rows_after (cond b (wanted (attempt serving (event_of party back) (entered world.state))) None) outcome world.rows; errands = rest ++ option_to_list (cond b (ordered world.state (chosen (attempt serving (event_of party back) (entered world.state)) outcome)) (frozen (event_of party back) world.state)).answer.work }) →
-        Leaves world (moments ++ moment ∷ []) moment (record { state = (cond b (ordered world.state (chosen (attempt serving (event_of party back) (entered world.state)) outcome)) (frozen (event_of party back) world.state)).state; rows = rows_after (cond b (wanted (attempt serving (event_of party back) (entered world.state))) None) outcome world.rows; errands = rest ++ option_to_list (cond b (ordered world.state (chosen (attempt serving (event_of party back) (entered world.state)) outcome)) (frozen (event_of party back) world.state)).answer.work })
+    step : (b : Bool) → is_open world.state ≡ b → moment.shown ≡ outputs (event_of party back) (cond b (wanted (attempt (event_of party back) (entered world.state))) None) outcome (cond b (ordered world.state (chosen (attempt (event_of party back) (entered world.state)) outcome)) (frozen (event_of party back) world.state)).answer →
+        IsSound (record { state = (cond b (ordered world.state (chosen (attempt (event_of party back) (entered world.state)) outcome)) (frozen (event_of party back) world.state)).state; rows = rows_after (cond b (wanted (attempt (event_of party back) (entered world.state))) None) outcome world.rows; errands = rest ++ option_to_list (cond b (ordered world.state (chosen (attempt (event_of party back) (entered world.state)) outcome)) (frozen (event_of party back) world.state)).answer.work }) →
+        Leaves world (moments ++ moment ∷ []) moment (record { state = (cond b (ordered world.state (chosen (attempt (event_of party back) (entered world.state)) outcome)) (frozen (event_of party back) world.state)).state; rows = rows_after (cond b (wanted (attempt (event_of party back) (entered world.state))) None) outcome world.rows; errands = rest ++ option_to_list (cond b (ordered world.state (chosen (attempt (event_of party back) (entered world.state)) outcome)) (frozen (event_of party back) world.state)).answer.work })
     step true room shows after =
         let name = world.state.head.name in
         let epoch = world.state.head.epoch in
-        let a = attempt serving (event_of party back) (entered world.state) in
-        let comes = back_comes serving world sound moments moment met party rest out back outcome now_was (λ test is. ap (list_any test) shows ∙ brings_so test (event_of party back) (wanted a) outcome (ordered world.state (chosen a outcome)).answer (ap (list_any test) (brought_back party back) ∙ is)) in
+        let a = attempt (event_of party back) (entered world.state) in
+        let comes = back_comes world sound moments moment met party rest out back outcome now_was (λ test is. ap (list_any test) shows ∙ brings_so test (event_of party back) (wanted a) outcome (ordered world.state (chosen a outcome)).answer (ap (list_any test) (brought_back party back) ∙ is)) in
         record {
           witnessed = then_witnessed name epoch (moments ++ moment ∷ []) world.state.transactions rest world.rows a outcome comes fewer (stored_in _ after);
           done = change_is_done world sound (moments ++ moment ∷ []) moment met (event_of party back) (wanted a) outcome (ordered world.state (chosen a outcome)).answer shows (λ key is. (removes_spelled name epoch (moments ++ moment ∷ []) world.state.transactions rest world.rows a outcome comes key is, finishes name epoch (moments ++ moment ∷ []) world.state.transactions rest world.rows a outcome comes key is));

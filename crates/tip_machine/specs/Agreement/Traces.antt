@@ -4,7 +4,6 @@ use Rattle.std.specs.List.{flat_map, list_any}
 use Rattle.tip_line.specs.declared.response.Response.{Response}
 use Rattle.tip_machine.specs.Moves.{Move, World, moved}
 use Rattle.tip_machine.specs.Outputs.{Output}
-use Rattle.tip_machine.specs.Served.{Serving}
 use Rattle.tip_machine.specs.States.{State, seated}
 use Rattle.tip_machine.specs.Types.{Connection}
 use Rattle.tip_machine.specs.declared.event.Event.TheVariants.{Line}
@@ -18,11 +17,11 @@ pub record Moment : Type 0 where
   pub after : World
 
 -- a run from a world, move by move
-abbrev pub traced : Serving → World → List Move → List Moment
-traced serving world [] = []
-traced serving world (move ∷ moves) =
-    let went = moved serving move world in
-    record { world = world; move = move; shown = went.shown; after = went.world } ∷ traced serving went.world moves
+abbrev pub traced : World → List Move → List Moment
+traced world [] = []
+traced world (move ∷ moves) =
+    let went = moved move world in
+    record { world = world; move = move; shown = went.shown; after = went.world } ∷ traced went.world moves
 
 -- all that was shown, in order
 abbrev pub shown_in : List Moment → List Output

@@ -27,9 +27,8 @@ use Rattle.tip_machine.specs.Invariants.{IsSound}
 use Rattle.tip_machine.specs.Moves.{Move, World, fresh, moved}
 use Rattle.tip_machine.specs.Outputs.{Output}
 use Rattle.tip_machine.specs.Returns.{Back, event_of}
-use Rattle.tip_machine.specs.Served.{everything}
 use Rattle.tip_machine.specs.Starting.{IsStart}
-use Rattle.tip_machine.specs.Steps.{wants_serving}
+use Rattle.tip_machine.specs.Steps.{wants}
 use Rattle.tip_machine.specs.Agreement.Traces.{Moment, traced}
 use Rattle.tip_machine.specs.declared.answer.Asked.{Asked}
 use Rattle.tip_machine.specs.declared.answer.Item.TheVariants.{Say, Ask, Close}
@@ -115,13 +114,13 @@ of_change outcome None = NoChange
 of_change outcome (Some change) = outcome
 
 abbrev pub happens : Outcome → Event → World → Move
-happens outcome event world = Move.Step event (of_change outcome (wants_serving everything world.state event))
+happens outcome event world = Move.Step event (of_change outcome (wants world.state event))
 
 abbrev pub goes : Outcome → List PartyNotes → World → Move
 goes outcome [] world = Move.Lose
 goes outcome (party ∷ errands) world =
     let back = answered_by party.errand party.members in
-    Move.Go back (of_change outcome (wants_serving everything world.state (event_of party back)))
+    Move.Go back (of_change outcome (wants world.state (event_of party back)))
 
 abbrev pub move_of : Line → World → Move
 move_of (Happens event) world = happens Stored event world
@@ -136,7 +135,7 @@ move_of Renews world = Move.Renew (adopted world.rows) Stored
 abbrev pub played : World → List Line → List Output
 played world [] = []
 played world (line ∷ lines) =
-    let went = moved everything (move_of line world) world in
+    let went = moved (move_of line world) world in
     went.shown ++ played went.world lines
 
 -- an example: the realm as it starts, what happens, and what it shows
@@ -157,10 +156,10 @@ play example = played (fresh example.head) example.lines
 -- the moves of a script
 abbrev pub moves_of : World → List Line → List Move
 moves_of world [] = []
-moves_of world (line ∷ lines) = move_of line world ∷ moves_of (moved everything (move_of line world) world).world lines
+moves_of world (line ∷ lines) = move_of line world ∷ moves_of (moved (move_of line world) world).world lines
 
 abbrev pub trace_of : Example → List Moment
-trace_of example = traced everything (fresh example.head) (moves_of (fresh example.head) example.lines)
+trace_of example = traced (fresh example.head) (moves_of (fresh example.head) example.lines)
 
 -- its first transaction is not half committed
 abbrev pub IsNeverHalf : Example → Type 0
@@ -168,12 +167,12 @@ IsNeverHalf example = IsAgreed (fresh example.head) (trace_of example) id
 
 -- it is an honest run from a start
 abbrev pub IsHonestRun : Example → Type 0
-IsHonestRun example = IsStart (fresh example.head) × (is_run everything (fresh example.head) (moves_of (fresh example.head) example.lines) ≡ true)
+IsHonestRun example = IsStart (fresh example.head) × (is_run (fresh example.head) (moves_of (fresh example.head) example.lines) ≡ true)
 
 -- the invariants hold at first, and in each state that is reached
 abbrev pub Reaches : World → List Line → Type 0
 Reaches world [] = IsSound world
-Reaches world (line ∷ lines) = IsSound world × Reaches (moved everything (move_of line world) world).world lines
+Reaches world (line ∷ lines) = IsSound world × Reaches (moved (move_of line world) world).world lines
 
 abbrev pub StaysSound : Example → Type 0
 StaysSound example = Reaches (fresh example.head) example.lines
