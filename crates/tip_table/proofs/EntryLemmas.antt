@@ -91,6 +91,18 @@ items_in-removed (x ∷ xs) (suc place) realm = step (standing_in xs place) (ite
   step None ih = grind (arith, nat_tests, ih)
   step (Some item) ih = grind (arith, nat_tests, ih)
 
+-- an entry that moves behind others is one of theirs
+pub moved-behind : {T : Type 0} (realm : ℕ) (before after : List (Entry T)) (entry : Entry T) → items_in (before ++ entry ∷ []) realm ++ items_in after realm ≡ items_in before realm ++ items_in (entry ∷ after) realm
+moved-behind realm [] after entry = grind (arith, nat_tests)
+moved-behind realm (x ∷ xs) after entry = grind (arith, nat_tests, moved-behind realm xs after entry)
+
+-- one of another realm is none of this
+pub is-other : {T : Type 0} (realm : ℕ) (entry : Entry T) (after : List (Entry T)) → (entry.realm == realm) ≡ false → items_in (entry ∷ after) realm ≡ items_in after realm
+is-other realm entry after differs = rw differs refl
+
+pub is-own : {T : Type 0} (realm : ℕ) (entry : Entry T) (after : List (Entry T)) → (entry.realm == realm) ≡ true → items_in (entry ∷ after) realm ≡ entry.item ∷ items_in after realm
+is-own realm entry after same = rw same refl
+
 -- what a search among the entries finds
 abbrev pub is_sought : {T : Type 0} → ℕ → (T → Bool) → Entry T → Bool
 is_sought realm test entry = (entry.realm == realm) && test entry.item

@@ -1,5 +1,5 @@
 //! One table for the items of many realms.
-ghost use Rattle.std.specs.Prelude.{◌≡◌, ◌≢◌, ◌↔◌, ◌==◌, ◌&&◌, ℕ, ◌+◌, ◌<◌, ◌≤◌, [], ◌∷◌, ◌++◌, Some, None, filter, length, map, position, count_by, IsSome, IsOk, IfSome, OnOk};
+ghost use Rattle.std.specs.Prelude.{◌≡◌, ◌≢◌, ◌↔◌, ◌==◌, ◌&&◌, ℕ, ◌+◌, ◌-◌, ◌<◌, ◌≤◌, [], ◌∷◌, ◌++◌, Some, None, filter, length, map, position, count_by, vec_len, vec_capacity, IsSome, IsOk, IfOk, IfSome, OnOk};
 ghost use Rattle.std.specs.List.{find};
 ghost use Rattle.tip_table.specs.Entries.{IsVisited, Item, items_in};
 ghost use Rattle.tip_table.specs.Kept.{StandsAt, capacity, of, places, item_at, taken_out};
@@ -45,6 +45,18 @@ impl<T: Drop, A: Allocator> Table<T, A> {
         Table {
             entries: Vec::new(alloc),
         }
+    }
+
+    /// A table without items that has room for as many as this one, and so many more.
+    #[tactic(auto, unfolding(crate::specs::Kept::of))]
+    pub fn with_room(&self, alloc: A, more: usize) -> Result<Self, AllocError>
+        ensures items { (realm : ℕ) → IfOk result (λ table. of table realm ≡ []) }
+        ensures room { IfOk result (λ table. capacity self.now + more ≤ table.free + self.now.free) }
+    {
+        let count = self.entries.len().checked_add(more).ok_or(AllocError)?;
+        Ok(Table {
+            entries: Vec::with_capacity(alloc, count)?,
+        })
     }
 
     /// How many items a realm has.
@@ -157,6 +169,47 @@ impl<T: Drop, A: Allocator> Table<T, A> {
     {
         self.entries.remove(place).item
     }
+
+    /// A realm's items leave, in the order made, and all others move behind those of `spare`, which takes this table's place.
+    #[tactic(auto, unfolding(crate::specs::Kept::of))]
+    pub fn part(self, realm: usize, spare: Table<T, A>, left: &mut Vec<T>) -> Table<T, A>
+        requires room { capacity self ≤ spare.free + self.free }
+        requires space { length (of self realm) ≤ vec_capacity left.old - vec_len left.old }
+        ensures left { left.new.items ≡ left.old.items ++ of self realm }
+        ensures own { of result realm ≡ of spare realm }
+        ensures others { (other : ℕ) → other ≢ realm → of result other ≡ of spare other ++ of self other }
+        ensures free { result.free + capacity self ≡ spare.free + self.free + length (of self realm) }
+    {
+        Table {
+            entries: part(self.entries, realm, spare.entries, left),
+        }
+    }
+}
+
+/// The items of a realm leave, and all other entries move behind those of `spare`.
+#[tactic(auto, using(crate::proofs::EntryLemmas::of_entries))]
+fn part<T: Drop, A: Allocator>(
+    entries: Vec<Entry<T>, A>,
+    realm: usize,
+    mut spare: Vec<Entry<T>, A>,
+    left: &mut Vec<T>,
+) -> Vec<Entry<T>, A>
+    requires room { length entries.items ≤ vec_capacity spare - vec_len spare }
+    requires space { length (items_in entries.items realm) ≤ vec_capacity left.old - vec_len left.old }
+    ensures left { left.new.items ≡ left.old.items ++ items_in entries.items realm }
+    ensures own { items_in result.items realm ≡ items_in spare.items realm }
+    ensures others { (other : ℕ) → other ≢ realm → items_in result.items other ≡ items_in spare.items other ++ items_in entries.items other }
+    ensures count { length result.items + length (items_in entries.items realm) ≡ length spare.items + length entries.items }
+    ensures capacity { vec_capacity result ≡ vec_capacity spare }
+{
+    for entry in entries {
+        if entry.realm != realm {
+            spare.push_reserved(entry);
+        } else {
+            left.push_reserved(entry.item);
+        }
+    }
+    spare
 }
 
 /// How many of the entries are a realm's.
