@@ -23,6 +23,7 @@ pub mod Turning
 pub mod Stepping
 pub mod Joining
 pub mod TakingUp
+pub mod Renewals
 pub mod Lending
 pub mod Isolated
 pub mod Naming

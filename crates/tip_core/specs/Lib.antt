@@ -11,4 +11,5 @@ pub mod Wanting
 pub mod Needs
 pub mod Hosted
 pub mod Recovering
+pub mod Renewing
 pub mod Isolation

@@ -25,6 +25,7 @@ mod reaction;
 mod realms;
 mod reconnecting;
 mod recovering;
+mod renewing;
 mod requesting;
 mod responding;
 mod returning;
@@ -39,5 +40,6 @@ mod work;
 
 pub use happened::Happened;
 pub use machine::{Core, Run};
+pub use renewing::{Left, Parting};
 pub use room::Room;
 pub use starts::{StartFault, Starts};

@@ -1,18 +1,23 @@
 //! The machines of all realms.
-ghost use Rattle.std.specs.Prelude.{◌≡◌, ◌≢◌, ℕ, ◌+◌, ◌≤◌, [], None, Some, true, IfOk, IsOk, OnOk, map, take, length, slice_get, option_map};
+ghost use Rattle.std.specs.Prelude.{◌≡◌, ◌≢◌, ℕ, ◌+◌, ◌≤◌, ◌<◌, [], None, Some, true, IfOk, IsOk, OnOk, map, take, length, slice_get, option_map};
 ghost use Rattle.tip_branch.specs.Always.{Always};
 ghost use Rattle.tip_machine.specs.Heads.{starting};
+ghost use Rattle.tip_machine.specs.Moves.{risen};
+ghost use Rattle.tip_machine.specs.Recovery.{restarted};
 ghost use Rattle.tip_machine.specs.Steps.{fits};
 ghost use Rattle.tip_machine.specs.States.{State, started};
 ghost use Rattle.tip_machine.specs.Types.{seen};
-ghost use Rattle.tip_recovery.specs.Adopting.{are_adopted};
+ghost use Rattle.tip_recovery.specs.Adopting.{are_adopted, loaded};
+ghost use Rattle.tip_rows.specs.Logs.{last_epoch};
 ghost use Rattle.tip_core.specs.Hosted.{realm as realm_at, room_in, may_take_in, must_wait_in, HaveNames, IsRoomFor, Steps};
 ghost use Rattle.tip_core.specs.Isolation.{IsIsolated};
 ghost use Rattle.tip_core.specs.Recovering.{IsOf, taking_up};
+ghost use Rattle.tip_core.specs.Renewing.{HasRoom};
 
 use crate::happened::Happened;
 use crate::realms::Realms;
 use crate::recovering::reopen_all;
+use crate::renewing::{Left, Parting};
 use crate::room::Room;
 use crate::starts::Starts;
 use crate::turns::Turns;
@@ -100,6 +105,34 @@ impl Core {
             epoch,
             recovery.into_rows(),
         );
+    }
+
+    /// Room for a realm to start again with so many rows.
+    pub fn room_to_renew(
+        &self,
+        alloc: Global,
+        realm: usize,
+        rows: usize,
+    ) -> Result<Parting, AllocError>
+        requires { Always }
+        ensures { IfOk result (HasRoom self.now.connections self.now.transactions realm rows) }
+    {
+        self.realms.room_to_renew(alloc, realm, rows)
+    }
+
+    /// A realm starts again in its next epoch, by these rows, and what it had leaves. It takes no memory.
+    pub fn renew(&mut self, realm: usize, recovery: Recovery, room: Parting) -> Left
+        requires always { Always }
+        requires here { (state : State) × (realm_at self.old realm ≡ Some state) × (state.head.epoch < last_epoch) }
+        requires room { HasRoom self.old.connections self.old.transactions realm (length recovery.rows) room }
+        requires adopted { are_adopted recovery.rows ≡ true }
+        ensures own { (state : State) → realm_at self.old realm ≡ Some state → IsOf recovery (risen state.head) → realm_at self.new realm ≡ Some (restarted (risen state.head) (map loaded recovery.rows)) }
+        ensures others { (other : ℕ) → other ≢ realm → realm_at self.new other ≡ realm_at self.old other }
+        ensures connections { (state : State) → realm_at self.old realm ≡ Some state → result.connections.items ≡ state.connections }
+        ensures transactions { (state : State) → realm_at self.old realm ≡ Some state → map seen result.transactions.items ≡ state.transactions }
+        ensures named { HaveNames self.new }
+    {
+        self.realms.renew(realm, recovery, room)
     }
 
     /// Room for an event. The realms stay as they are.

@@ -115,13 +115,13 @@ module _ {S : Type 0} (stands may_leave : S → Log → Type 0) (is_true : S →
 
 -- What was read
 
-pub theirs_more : (specs : List RealmSpec) (realms : List Recovery) (spec : RealmSpec) (recovery : Recovery) → AreTheirs specs realms → IsIts spec recovery → AreTheirs (specs ++ spec ∷ []) (realms ++ recovery ∷ [])
+pub theirs_more : (specs : List RealmSpec) (realms : List Recovery) (spec : RealmSpec) (recovery : Recovery) → AreTheirs specs realms → IsIts spec.name recovery → AreTheirs (specs ++ spec ∷ []) (realms ++ recovery ∷ [])
 theirs_more [] [] spec recovery own is = (is, tt)
 theirs_more [] (r ∷ realms) spec recovery own is = absurd own
 theirs_more (s ∷ specs) [] spec recovery own is = absurd own
 theirs_more (s ∷ specs) (r ∷ realms) spec recovery own is = (own.0, theirs_more specs realms spec recovery own.1 is)
 
-pub read_more : (log : Log) (specs : List RealmSpec) (realms : List Recovery) (spec : RealmSpec) (recovery : Recovery) → AreRead log specs realms → IsRead log spec recovery → AreRead log (specs ++ spec ∷ []) (realms ++ recovery ∷ [])
+pub read_more : (log : Log) (specs : List RealmSpec) (realms : List Recovery) (spec : RealmSpec) (recovery : Recovery) → AreRead log specs realms → IsRead log spec.name recovery → AreRead log (specs ++ spec ∷ []) (realms ++ recovery ∷ [])
 read_more log [] [] spec recovery read is = (is, tt)
 read_more log [] (r ∷ realms) spec recovery read is = absurd read
 read_more log (s ∷ specs) [] spec recovery read is = absurd read

@@ -7,7 +7,7 @@ use Rattle.std.proofs.lemmas.Bool.Decides.{nat_tests}
 use Rattle.std.proofs.lemmas.Option.{same_Some}
 use Rattle.std.proofs.lemmas.Slice.Eq.{bytes_eq-Decides}
 use Rattle.tip_rows.specs.Keys.{Key, is_same}
-use Rattle.tip_rows.specs.Logs.{Log, IsPart, IsSpoiled, known, last_epoch, raised, raised_number, with_all_raised, with_at, with_known}
+use Rattle.tip_rows.specs.Logs.{Log, IsPart, IsSpoiled, known, last_epoch, raised, raised_number, with_all_raised, with_at, with_known, with_raised}
 use Rattle.tip_rows.specs.declared.row.Row.{Row}
 use Rattle.tip_machine.proofs.Storing.{put_at, removed_at, rising_put, rising_removed}
 use Rattle.tip_machine.specs.Moves.{rows_after}
@@ -151,20 +151,27 @@ in_range log name epoch rows is = elim (cases_lt last_epoch epoch) [
   apart : last_epoch < epoch → (n : ℕ) → n ≤ last_epoch → epoch ≡ n → ⊥
   apart past n within same = omega (arith)
 
-raised_part : (log : Log) (name : List ℕ) (epoch : ℕ) (rows : List (Key × Row)) → IsKnownPart log name epoch rows → IsPart (with_all_raised log) name (raised_number epoch) rows
-raised_part log name epoch rows is = record {
-  epoch = ap (λ stored. unwrap_or (option_map raised stored) (pos 0)) is.number;
+-- where the realm's epoch rises, whatever becomes of others
+rising_part : (log : Log) (epochs : List ℕ → Option ℤ) (name : List ℕ) (epoch : ℕ) (rows : List (Key × Row)) → epochs name ≡ option_map raised (log.epochs name) → IsKnownPart log name epoch rows → IsPart (record log { epochs = epochs }) name (raised_number epoch) rows
+rising_part log epochs name epoch rows rises is = record {
+  epoch = ap (λ stored. unwrap_or stored (pos 0)) number;
   rising = is.part.rising;
   same = is.part.same;
   sound = sound;
 } where
+  number : epochs name ≡ Some (pos (raised_number epoch))
+  number = rises ∙ ap (option_map raised) is.number
+
   below : (b : Bool) → nat_lt epoch last_epoch ≡ b → cond b (epoch + 1) epoch ≤ last_epoch
   below true less = grind (arith, nat_tests)
   below false more = in_range log name epoch rows is
 
-  sound : ¬ IsSpoiled (with_all_raised log) name
-  sound (inl bad) = bad.2 (raised_number epoch) (below (nat_lt epoch last_epoch) refl) (sym (same_Some (pos (raised_number epoch)) bad.0 (sym (ap (option_map raised) is.number) ∙ bad.1)))
+  sound : ¬ IsSpoiled (record log { epochs = epochs }) name
+  sound (inl bad) = bad.2 (raised_number epoch) (below (nat_lt epoch last_epoch) refl) (sym (same_Some (pos (raised_number epoch)) bad.0 (sym number ∙ bad.1)))
   sound (inr more) = is.part.sound (inr more)
+
+raised_part : (log : Log) (name : List ℕ) (epoch : ℕ) (rows : List (Key × Row)) → IsKnownPart log name epoch rows → IsPart (with_all_raised log) name (raised_number epoch) rows
+raised_part log name epoch rows is = rising_part log (λ r. option_map raised (log.epochs r)) name epoch rows refl is
 
 -- IN THE LOG IN WHICH REALMS START each of them has its rows still, and its epoch has risen
 pub opened_part : (names : List (List ℕ)) (place : ℕ) (log : Log) (name : List ℕ) (epoch : ℕ) (rows : List (Key × Row)) → slice_get names place ≡ Some name → IsPart log name epoch rows → IsPart (opened names log) name (raised_number epoch) rows
@@ -173,15 +180,44 @@ opened_part names place log name epoch rows here part = raised_part (known_all n
 pub opened_known : (names : List (List ℕ)) (place : ℕ) (log : Log) (name : List ℕ) (epoch : ℕ) (rows : List (Key × Row)) → slice_get names place ≡ Some name → IsPart log name epoch rows → is_some ((opened names log).epochs name) ≡ true
 opened_known names place log name epoch rows here part = ap (λ stored. is_some (option_map raised stored)) (known_part names place log name epoch rows here part).number
 
+-- what is stored of a realm that is known is so with its number
+known_number_is : (stored : Option ℤ) (epoch : ℕ) → is_some stored ≡ true → unwrap_or stored (pos 0) ≡ pos epoch → stored ≡ Some (pos epoch)
+known_number_is None epoch known is = absurd (cc)
+known_number_is (Some z) epoch known is = ap Some is
+
+is_known : (log : Log) (name : List ℕ) (epoch : ℕ) (rows : List (Key × Row)) → IsPart log name epoch rows → is_some (log.epochs name) ≡ true → IsKnownPart log name epoch rows
+is_known log name epoch rows part known = record { part = part; number = known_number_is (log.epochs name) epoch known part.epoch }
+
+-- WHERE THE EPOCH OF ONE REALM RISES it has its rows still, and the others have theirs with their epochs
+pub renewed_part : (log : Log) (name : List ℕ) (epoch : ℕ) (rows : List (Key × Row)) → IsPart log name epoch rows → is_some (log.epochs name) ≡ true → IsPart (with_raised name log) name (raised_number epoch) rows
+renewed_part log name epoch rows part known = rising_part log (with_raised name log).epochs name epoch rows (rw (itself name) refl) (is_known log name epoch rows part known)
+
+pub renewed_others : (log : Log) (name other : List ℕ) (epoch : ℕ) (rows : List (Key × Row)) → bytes_eq name other ≡ false → IsPart log other epoch rows → IsPart (with_raised name log) other epoch rows
+renewed_others log name other epoch rows differ part = record {
+  epoch = ap (λ stored. unwrap_or stored (pos 0)) same_epoch ∙ part.epoch;
+  rising = part.rising;
+  same = part.same;
+  sound = sound;
+} where
+  same_epoch : (with_raised name log).epochs other ≡ log.epochs other
+  same_epoch = rw differ refl
+
+  sound : ¬ IsSpoiled (with_raised name log) other
+  sound (inl bad) = part.sound (inl (bad.0, sym same_epoch ∙ bad.1, bad.2))
+  sound (inr more) = part.sound (inr more)
+
+pub renewed_known : (log : Log) (name other : List ℕ) → is_some ((with_raised name log).epochs other) ≡ is_some (log.epochs other)
+renewed_known log name other = by (bytes_eq name other) (log.epochs other) where
+  by : (b : Bool) (stored : Option ℤ) → is_some (cond b (option_map raised stored) stored) ≡ is_some stored
+  by true None = refl
+  by true (Some z) = refl
+  by false stored = refl
+
 -- an epoch that is known and is not the last one can rise
 pub rises : (log : Log) (name : List ℕ) (epoch : ℕ) (rows : List (Key × Row)) → IsPart log name epoch rows → is_some (log.epochs name) ≡ true → (epoch == last_epoch) ≡ false → raised_number epoch ≡ epoch + 1
 rises log name epoch rows part known not_last = by (nat_lt epoch last_epoch) refl where
-  number : (stored : Option ℤ) → is_some stored ≡ true → unwrap_or stored (pos 0) ≡ pos epoch → stored ≡ Some (pos epoch)
-  number None known is = absurd (cc)
-  number (Some z) known is = ap Some is
-
   within : epoch ≤ last_epoch
-  within = in_range log name epoch rows (record { part = part; number = number (log.epochs name) known part.epoch })
+  within = in_range log name epoch rows (is_known log name epoch rows part known)
 
   by : (b : Bool) → nat_lt epoch last_epoch ≡ b → cond b (epoch + 1) epoch ≡ epoch + 1
   by true less = refl

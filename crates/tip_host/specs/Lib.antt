@@ -2,3 +2,4 @@ pub mod Keeping
 pub mod Errands
 pub mod Recovering
 pub mod Loading
+pub mod Renewing

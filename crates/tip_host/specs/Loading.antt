@@ -100,27 +100,27 @@ pub record Goes {S : Type 0} (stands may_leave : S → Log → Type 0) (is_true 
 -- What is read
 
 -- A REALM THAT WAS READ: its epoch and its rows are the log's, and nothing was adopted yet
-pub record IsRead (log : Log) (spec : RealmSpec) (recovery : Recovery) : Type 0 where
+pub record IsRead (log : Log) (name : List ℕ) (recovery : Recovery) : Type 0 where
   pub rows : List (Key × Row)
-  pub part : IsPart log spec.name recovery.epoch rows
-  pub unadopted : recovery.rows ≡ map (unadopted spec.name) rows
+  pub part : IsPart log name recovery.epoch rows
+  pub unadopted : recovery.rows ≡ map (unadopted name) rows
 
 -- the rows are of this realm, which starts in an epoch
-pub record IsIts (spec : RealmSpec) (recovery : Recovery) : Type 0 where
-  pub name : recovery.realm ≡ spec.name
+pub record IsIts (realm : List ℕ) (recovery : Recovery) : Type 0 where
+  pub name : recovery.realm ≡ realm
   pub epoch : 0 < recovery.epoch
 
 abbrev pub AreTheirs : List RealmSpec → List Recovery → Type 0
 AreTheirs [] [] = Unit {0}
 AreTheirs [] (recovery ∷ realms) = ⊥
 AreTheirs (spec ∷ specs) [] = ⊥
-AreTheirs (spec ∷ specs) (recovery ∷ realms) = IsIts spec recovery × AreTheirs specs realms
+AreTheirs (spec ∷ specs) (recovery ∷ realms) = IsIts spec.name recovery × AreTheirs specs realms
 
 abbrev pub AreRead : Log → List RealmSpec → List Recovery → Type 0
 AreRead log [] [] = Unit {0}
 AreRead log [] (recovery ∷ realms) = ⊥
 AreRead log (spec ∷ specs) [] = ⊥
-AreRead log (spec ∷ specs) (recovery ∷ realms) = IsRead log spec recovery × AreRead log specs realms
+AreRead log (spec ∷ specs) (recovery ∷ realms) = IsRead log spec.name recovery × AreRead log specs realms
 
 -- Faults
 

@@ -15,6 +15,7 @@ use crate::recovering::Recovering;
 use std::alloc::{AllocError, Global};
 use thiserror::Error;
 use tip_core::{Core, StartFault, Starts};
+use tip_line::Realm;
 use tip_machine::Start;
 use tip_recovery::Recovery;
 use tip_rows::{RaiseFault, Refused, RowLog};
@@ -124,15 +125,19 @@ fn know_all<S: RowLog>(store: &mut S, specs: &[RealmSpec]) -> Result<(), Refused
 }
 
 /// What is stored of one realm.
-fn read<S: RowLog>(alloc: Global, store: &mut S, spec: &RealmSpec) -> Result<Recovery, LoadFault>
+pub(crate) fn read<S: RowLog>(
+    alloc: Global,
+    store: &mut S,
+    name: &Realm,
+) -> Result<Recovery, LoadFault>
     ensures goes { Goes S.stands S.may_leave S.is_true S.faults S.is_due (refused_by result) Stays Never store.old store.new }
-    ensures own { IfOk result (IsIts spec.now) }
-    ensures read { (log : Log) → S.stands store.old log → S.is_true store.new → IfOk result (IsRead log spec.now) }
+    ensures own { IfOk result (IsIts name.now) }
+    ensures read { (log : Log) → S.stands store.old log → S.is_true store.new → IfOk result (IsRead log name.now) }
     ensures reason { (log : Log) → S.stands store.old log → S.is_true store.new → IfErr result (IsReasonToRead log) }
     ensures fault { IfErr result (λ fault. is_bad_realm fault ≡ false) }
     ensures settled { S.is_true store.new → OnOk result (IsSettled S.stands S.may_leave store.new) }
 {
-    let loaded = match store.load(&spec.name) {
+    let loaded = match store.load(name) {
         Ok(loaded) => loaded,
         Err(tip_rows::LoadFault::Refused) => return Err(LoadFault::Refused),
         Err(tip_rows::LoadFault::BadRow) => return Err(LoadFault::BadRow),
@@ -141,8 +146,7 @@ fn read<S: RowLog>(alloc: Global, store: &mut S, spec: &RealmSpec) -> Result<Rec
     if loaded.epoch == 0 {
         return Err(LoadFault::BadRow);
     }
-    let name = spec.name.copy()?;
-    Ok(Recovery::of(alloc, name, loaded, Vec::new(alloc))?)
+    Ok(Recovery::of(alloc, name.copy()?, loaded, Vec::new(alloc))?)
 }
 
 /// What is stored of each realm.
@@ -160,7 +164,7 @@ fn read_all<S: RowLog>(
 {
     let mut realms = Vec::with_capacity(alloc, specs.len())?;
     for spec in specs {
-        realms.push_reserved(read(alloc, store, spec)?);
+        realms.push_reserved(read(alloc, store, &spec.name)?);
     }
     Ok(realms)
 }

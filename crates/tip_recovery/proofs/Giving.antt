@@ -1,10 +1,15 @@
 -- Each of a list takes what stands at its place in another, one after another.
 use Rattle.std.proofs.Common.{◌≡◌, ℕ, zero, suc, ◌+◌, ◌<◌, Bool, true, false, List, [], ◌∷◌, ◌++◌, append_assoc, Some, drop, get_or, length, map, refl, ap, arith, sym, ◌∙◌}
-use Rattle.std.specs.Prelude.{◌&&◌, slice_get, slice_set}
+use Rattle.std.specs.Prelude.{◌&&◌, ◌==◌, is_none, not, slice_get, slice_set}
+use Rattle.std.proofs.lemmas.Bool.{and_parts}
+use Rattle.std.proofs.lemmas.Bool.Decides.{nat_tests}
 use Rattle.std.proofs.lemmas.List.{append-nil}
 use Rattle.std.proofs.lemmas.Option.{same_Some, slice_get-get_or}
 use Rattle.tip_branch.specs.declared.branch.Badge.{Badge}
-use Rattle.tip_recovery.specs.Adopting.{Unfinished, AreOf, adopted_all, fit, given}
+use Rattle.tip_rows.specs.Keys.{is_same}
+use Rattle.tip_rows.specs.Rows.{branches_of}
+use Rattle.tip_recovery.specs.Adopting.{Unfinished, AreOf, adopted_all, are_adopted, fit, given, waits}
+use Rattle.tip_recovery.specs.Renewing.{are_again, is_again, taking, taking_all}
 
 length_behind : {T : Type 0} (xs ys : List T) → length (xs ++ ys) ≡ length xs + length ys
 length_behind [] ys = grind (arith)
@@ -62,7 +67,7 @@ module _ {T B : Type 0} (give : B → T → T) (test : B → T → Bool) where
           let there : slice_get now place ≡ Some x = slice_get-get_or now place x within ∙ ap Some (sym is) in
           sym (next yielded old) ∙ ap (λ xs. slice_get xs (length yielded)) (sym giving.now_is) ∙ ap (slice_get now) (sym giving.counted) ∙ there
 
-      tested : fit test bs old ≡ (test b x && fit test rest (drop (suc place) old))
+      pub tested : fit test bs old ≡ (test b x && fit test rest (drop (suc place) old))
       tested = sym giving.fitting ∙ ap (λ l. fit test l (drop place old)) next_is ∙ fits_here place rest old b x (ap (slice_get old) giving.counted ∙ here)
 
       pub goes_on : test b x ≡ true → Giving bs old (slice_set now place (give b x)) (yielded ++ b ∷ []) rest (place + 1)
@@ -106,6 +111,13 @@ unequal test (b ∷ bs) (x ∷ xs) differ = after (test b x) (unequal test bs xs
   after true rest = rest
   after false rest = refl
 
+-- what fits is as long
+pub equal : {T B : Type 0} (test : B → T → Bool) (bs : List B) (xs : List T) → fit test bs xs ≡ true → length bs ≡ length xs
+equal test [] [] fits = refl
+equal test [] (x ∷ xs) fits = absurd (cc)
+equal test (b ∷ bs) [] fits = absurd (cc)
+equal test (b ∷ bs) (x ∷ xs) fits = ap suc (equal test bs xs (and_parts (test b x) (fit test bs xs) fits).1)
+
 -- the rows stay a realm's
 pub adopted_all_of : (realm : List ℕ) (boxes : List (List Badge)) (rows : List Unfinished) → AreOf realm rows → AreOf realm (adopted_all boxes rows)
 adopted_all_of realm [] rows own = own
@@ -119,3 +131,23 @@ set_of realm place row rows within is own = rw (set_same place rows (slice_get-g
   set_same place [] here = refl
   set_same zero (r ∷ rows) here = ap (λ x. x ∷ rows) (sym (same_Some r row here))
   set_same (suc place) (r ∷ rows) here = ap (λ l. r ∷ l) (set_same place rows here)
+
+pub taking_all_of : (realm : List ℕ) (earlier rows : List Unfinished) → AreOf realm rows → AreOf realm (taking_all earlier rows)
+taking_all_of realm [] rows own = own
+taking_all_of realm (e ∷ earlier) [] own = tt
+taking_all_of realm (e ∷ earlier) (row ∷ rows) own = (own.0, taking_all_of realm earlier rows own.1)
+
+-- no row waits that has the boxes of an earlier reading which did not wait
+one_adopted : (earlier row : Unfinished) → is_again earlier row ≡ true → waits (taking earlier row) ≡ waits earlier
+one_adopted earlier row again =
+    let same : length (branches_of earlier.row) ≡ length (branches_of row.row) = grind (arith, nat_tests, (and_parts (is_same earlier.key row.key) (length (branches_of earlier.row) == length (branches_of row.row)) again).1) in
+    ap (λ n. not (n == 0) && is_none earlier.boxes) (sym same)
+
+pub all_adopted : (earlier rows : List Unfinished) → are_again earlier rows ≡ true → are_adopted earlier ≡ true → are_adopted (taking_all earlier rows) ≡ true
+all_adopted [] [] again adopted = refl
+all_adopted [] (row ∷ rows) again adopted = absurd (cc)
+all_adopted (e ∷ earlier) [] again adopted = refl
+all_adopted (e ∷ earlier) (row ∷ rows) again adopted =
+    let parts = and_parts (is_again e row) (are_again earlier rows) again in
+    let none = and_parts (not (waits e)) (are_adopted earlier) adopted in
+    rw (one_adopted e row parts.0, none.0) (all_adopted earlier rows parts.1 none.1)

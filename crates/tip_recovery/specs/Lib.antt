@@ -1,1 +1,2 @@
 pub mod Adopting
+pub mod Renewing

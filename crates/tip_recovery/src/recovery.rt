@@ -1,8 +1,10 @@
 //! The rows of one realm that starts again.
-ghost use Rattle.std.specs.Prelude.{◌≡◌, ℕ, List, [], true, find, length, map, IfErr, IfOk, MatchOption, None, OnErr, OnOk, Some};
+ghost use Rattle.std.specs.Prelude.{◌≡◌, ℕ, ◌+◌, ◌<◌, List, [], true, find, length, map, IfErr, IfOk, MatchOption, None, OnErr, OnOk, Some};
 ghost use Rattle.tip_branch.specs.Always.{Always};
 ghost use Rattle.tip_table.specs.Lists.{IsFirst, changed};
+ghost use Rattle.tip_rows.specs.Logs.{last_epoch};
 ghost use Rattle.tip_recovery.specs.Adopting.{AreOf, adopted_all, adopted_for, adopting, are_adopted, are_for_all, is_named, refusal_of, unadopted};
+ghost use Rattle.tip_recovery.specs.Renewing.{are_again, is_read_again, taking_all};
 
 use crate::unfinished::{AdoptFault, Unfinished};
 use std::alloc::{AllocError, Global};
@@ -94,6 +96,35 @@ impl Recovery {
         boxes.len() == self.rows.len() && adopt_each(&mut self.rows, boxes)
     }
 
+    /// Whether this is a later reading of the same realm in the same epoch, with rows of the same transactions: the boxes that
+    /// were adopted before are boxes for these rows too.
+    pub fn is_read_again(&self, earlier: &Recovery) -> bool
+        ensures { result ≡ is_read_again earlier.now self.now }
+    {
+        self.realm == earlier.realm
+            && self.epoch == earlier.epoch
+            && are_again(&earlier.rows, &self.rows)
+    }
+
+    /// The boxes that were adopted for an earlier reading are adopted for this one. It takes no memory.
+    pub fn take_boxes(&mut self, earlier: Recovery)
+        requires { is_read_again earlier self.old ≡ true }
+        ensures same { self.new ≡ record self.old { rows = taking_all earlier.rows self.old.rows } }
+        ensures adopted { are_adopted earlier.rows ≡ true → are_adopted self.new.rows ≡ true }
+        ensures count { length self.new.rows ≡ length self.old.rows }
+    {
+        take_all(&mut self.rows, earlier.rows);
+    }
+
+    /// It starts in the next epoch.
+    pub fn raise(&mut self)
+        requires { self.old.epoch < last_epoch }
+        ensures { self.new ≡ record self.old { epoch = self.old.epoch + 1 } }
+    {
+        let Recovery { epoch, .. } = self;
+        *epoch += 1;
+    }
+
     /// Its rows, without taking memory.
     pub fn into_rows(self) -> Vec<Unfinished>
         requires { Always }
@@ -166,6 +197,37 @@ fn adopt_each(rows: &mut Vec<Unfinished>, boxes: Vec<HeldPrepared>) -> bool
         place += 1;
     }
     true
+}
+
+/// Whether these rows are those of an earlier reading.
+fn are_again(earlier: &[Unfinished], rows: &[Unfinished]) -> bool
+    ensures { result ≡ are_again earlier.now rows.now }
+{
+    let mut before = earlier;
+    let mut after = rows;
+    while let ([old, olds @ ..], [new, news @ ..]) = (before, after) {
+        if !new.is_again(old) {
+            return false;
+        }
+        before = olds;
+        after = news;
+    }
+    before.is_empty() && after.is_empty()
+}
+
+/// Each row takes the boxes of its earlier reading.
+fn take_all(rows: &mut Vec<Unfinished>, earlier: Vec<Unfinished>)
+    requires { are_again earlier.items rows.old.items ≡ true }
+    ensures same { rows.new.items ≡ taking_all earlier.items rows.old.items }
+    ensures own { (realm : List ℕ) → AreOf realm rows.old.items → AreOf realm rows.new.items }
+    ensures adopted { are_adopted earlier.items ≡ true → are_adopted rows.new.items ≡ true }
+    ensures count { length rows.new.items ≡ length rows.old.items }
+{
+    let mut at = 0;
+    for row in earlier {
+        rows[at].take_boxes(row);
+        at += 1;
+    }
 }
 
 /// The place of the row of an identifier.

@@ -7,6 +7,7 @@ ghost use Rattle.tip_machine.specs.Answers.{identifier};
 ghost use Rattle.tip_machine.specs.Recovery.{reopened};
 ghost use Rattle.tip_machine.specs.Types.{seen};
 ghost use Rattle.tip_machine.specs.declared.head.Head.{Head};
+ghost use Rattle.tip_recovery.specs.Renewing.{is_again, taking};
 ghost use Rattle.tip_recovery.specs.Adopting.{adopting, are_for, fault_of, is_named, loaded, origin_of, phase_of, subordinates_of, unadopted, waits, with_boxes};
 
 use std::alloc::{AllocError, Global};
@@ -136,6 +137,21 @@ impl Unfinished {
             self.boxes = Some(boxes);
         }
         true
+    }
+
+    /// Whether it is a later reading of the same transaction's row, with as many branches.
+    pub fn is_again(&self, earlier: &Unfinished) -> bool
+        ensures { result ≡ is_again earlier.now self.now }
+    {
+        self.key == earlier.key && self.numbers.len() == earlier.numbers.len()
+    }
+
+    /// The boxes that were adopted for an earlier reading, if any, are adopted for this one.
+    pub fn take_boxes(&mut self, earlier: Unfinished)
+        requires { is_again earlier self.old ≡ true }
+        ensures { self.new ≡ taking earlier self.old }
+    {
+        self.boxes = earlier.boxes;
     }
 
     /// Its transaction, in a realm that starts in this epoch.

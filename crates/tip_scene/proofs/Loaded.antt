@@ -36,10 +36,10 @@ name_at [] place spec here = absurd (none-some spec here)
 name_at (s ∷ specs) zero spec here = ap (λ (x : RealmSpec). Some x.name) (same_Some s spec here)
 name_at (s ∷ specs) (suc place) spec here = name_at specs place spec here
 
-read_at : (log : Log) (specs : List RealmSpec) (realms : List Recovery) (place : ℕ) (spec : RealmSpec) → AreRead log specs realms → slice_get specs place ≡ Some spec → (recovery : Recovery) × (slice_get realms place ≡ Some recovery) × IsRead log spec recovery
+read_at : (log : Log) (specs : List RealmSpec) (realms : List Recovery) (place : ℕ) (spec : RealmSpec) → AreRead log specs realms → slice_get specs place ≡ Some spec → (recovery : Recovery) × (slice_get realms place ≡ Some recovery) × IsRead log spec.name recovery
 read_at log [] realms place spec read here = absurd (none-some spec here)
 read_at log (s ∷ specs) [] place spec read here = absurd read
-read_at log (s ∷ specs) (r ∷ realms) zero spec read here = (r, refl, subst (λ x. IsRead log x r) (same_Some s spec here) read.0)
+read_at log (s ∷ specs) (r ∷ realms) zero spec read here = (r, refl, subst (λ (x : RealmSpec). IsRead log x.name r) (same_Some s spec here) read.0)
 read_at log (s ∷ specs) (r ∷ realms) (suc place) spec read here = read_at log specs realms place spec read.1 here
 
 start_at : (specs : List RealmSpec) (realms : List Recovery) (place : ℕ) (spec : RealmSpec) (recovery : Recovery) → slice_get specs place ≡ Some spec → slice_get realms place ≡ Some recovery → slice_get (starts_of specs realms) place ≡ Some (start_of spec recovery.epoch)
