@@ -183,7 +183,7 @@ has_refused host host' place actor actor' printed acting is core name readers er
       leaves = record {
         realms = λ other differ. ap (λ c. realm c other) core;
         due = λ other differ. demanded other ∙ ap (λ b. if b then is_some ((log_of host.store).epochs other) else is_due_in host.store other) differ;
-        known = λ other. ap (λ (l : Log). l.epochs other) log;
+        known = λ other. ap (λ (l : Log). is_some (l.epochs other)) log;
         parts = λ other epoch rows differ part. subst (λ l. IsPart l other epoch rows) (sym log) part;
       };
       name = name;

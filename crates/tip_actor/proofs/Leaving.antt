@@ -13,7 +13,7 @@ use Rattle.tip_transcript.specs.Printing.{output_text, shown_text}
 use Rattle.tip_actor.specs.Acting.{Acting, restarts}
 
 -- what is shown of each, one after another, is shown of all
-shown_each : {T : Type 0} (name : List ℕ) (f : T → List Output) (xs : List T) → flat_map (λ x. shown_text name (f x)) xs ≡ shown_text name (flat_map f xs)
+pub shown_each : {T : Type 0} (name : List ℕ) (f : T → List Output) (xs : List T) → flat_map (λ x. shown_text name (f x)) xs ≡ shown_text name (flat_map f xs)
 shown_each name f [] = refl
 shown_each name f (x ∷ xs) = flat_map-cons (λ x. shown_text name (f x)) x xs ∙ ap (λ rest. shown_text name (f x) ++ rest) (shown_each name f xs) ∙ sym (flat_map-append (output_text name) (f x) (flat_map f xs)) ∙ ap (shown_text name) (sym (flat_map-cons f x xs))
 

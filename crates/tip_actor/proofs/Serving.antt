@@ -81,7 +81,7 @@ serves old new place state due event happened served steps change fit names keep
       leaves = record {
         realms = steps.others;
         due = λ other differ. keeps.spent other ∙ ap (λ b. if is_change happened.change && b then false else is_due_in old.store other) differ ∙ ap (λ b. if b then false else is_due_in old.store other) (and_false (is_change happened.change));
-        known = λ other. ap (λ f. f other) epochs;
+        known = λ other. ap (λ f. is_some (f other)) epochs;
         parts = λ other epoch rows differ part. subst (λ l. IsPart l other epoch rows) (sym log) (part_stays state.head.name happened.change happened.outcome (log_of old.store) other epoch rows differ part);
       };
     }

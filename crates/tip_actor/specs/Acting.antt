@@ -10,7 +10,8 @@ use Rattle.tip_core.specs.Hosted.{must_wait_on}
 use Rattle.tip_line.specs.Reading.{Item, Text, Bad, items_of}
 use Rattle.tip_machine.specs.Answers.{identifier}
 use Rattle.tip_machine.specs.Events.{heard_of}
-use Rattle.tip_machine.specs.Moves.{World, Restart, moved, stepped}
+use Rattle.tip_line.specs.declared.refusal.Refusal.TheVariants.{EpochEnd}
+use Rattle.tip_machine.specs.Moves.{World, Moved, Renew, Restart, moved, stepped}
 use Rattle.tip_machine.specs.Outputs.{drops_of}
 use Rattle.tip_machine.specs.Returns.{event_of}
 use Rattle.tip_machine.specs.States.{State, seated}
@@ -31,7 +32,7 @@ use Rattle.tip_rows.specs.Logs.{last_epoch, row_at}
 use Rattle.tip_rows.specs.Rows.{branches_of}
 use Rattle.tip_rows.specs.declared.row.Row.{Row}
 use Rattle.tip_actor.specs.Promises.{answers_of, are_foretold}
-use Rattle.tip_transcript.specs.Printing.{adopted_text, idle_text, shown_text, start_text}
+use Rattle.tip_transcript.specs.Printing.{adopted_text, idle_text, refusal_text, shown_text, start_text}
 
 -- what has come on a connection since it was given, or since it failed, and the lines of it that were not yet taken
 pub record Reading : Type 0 where
@@ -257,3 +258,19 @@ adoption_text name stored = adopted_text name (identifier name stored.0) (branch
 
 abbrev pub opening_text : Acting → List ℕ
 opening_text acting = start_text acting.name acting.world.state.head.epoch ++ flat_map (adoption_text acting.name) acting.world.rows
+
+-- A renewal
+
+abbrev pub renewal : Outcome → Acting → Moved
+renewal outcome acting = moved (Renew (boxes_in acting.world.rows) outcome) acting.world
+
+-- the realm alone starts again: no connection is there, and the parties that are out stay out; a refusal that was due is spent
+abbrev pub renewed : Bool → Acting → Done
+renewed true acting = record { printed = shown_text acting.name (renewal Refused acting).shown; acting = record acting { due = false } }
+renewed false acting =
+    let now = record acting { world = (renewal Stored acting).world; readings = [] } in
+    record { printed = shown_text acting.name (renewal Stored acting).shown ++ opening_text now; acting = now }
+
+-- after the last epoch there is none
+abbrev pub renews : Acting → Done
+renews acting = if is_at_end acting then record { printed = refusal_text acting.name EpochEnd; acting = acting } else renewed acting.due acting

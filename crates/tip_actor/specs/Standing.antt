@@ -72,7 +72,7 @@ pub record IsServed (host : Host) (place : ℕ) (state : State) (due : Bool) : T
 pub record Leaves (old new : Host) (place : ℕ) (name : List ℕ) : Type 0 where
   pub realms : (other : ℕ) → other ≢ place → realm new.core other ≡ realm old.core other
   pub due : (other : List ℕ) → bytes_eq name other ≡ false → is_due_in new.store other ≡ is_due_in old.store other
-  pub known : (other : List ℕ) → (log_of new.store).epochs other ≡ (log_of old.store).epochs other
+  pub known : (other : List ℕ) → is_some ((log_of new.store).epochs other) ≡ is_some ((log_of old.store).epochs other)
   pub parts : (other : List ℕ) (epoch : ℕ) (rows : List (Key × Row)) → bytes_eq name other ≡ false → IsPart (log_of old.store) other epoch rows → IsPart (log_of new.store) other epoch rows
 
 -- one event of a realm has happened, and its change was refused exactly where that was due

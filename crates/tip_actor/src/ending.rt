@@ -70,7 +70,13 @@ fn print_out(
 }
 
 /// Prints the active branches of the parties of a realm that are here.
-fn print_here(printed: &mut String, name: &str, core: &Core, place: usize) -> Result<(), AllocError>
+pub fn print_here(
+    printed: &mut String,
+    name: &str,
+    core: &Core,
+    place: usize,
+) -> Result<(), AllocError>
+    requires { Always }
     ensures { (state : State) → realm_at core.now place ≡ Some state → OnOk result (string_bytes printed.new ≡ string_bytes printed.old ++ flat_map (λ transaction. shown_text name.now (drops_at transaction.place)) state.transactions) }
 {
     for transaction in core.transactions(place) {

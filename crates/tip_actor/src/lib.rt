@@ -10,4 +10,5 @@ mod reader;
 mod scripted;
 
 pub use actor::Actor;
+pub use ending::print_here;
 pub use scripted::Scripted;

@@ -41,7 +41,7 @@ boxes_of_rows rows = map (λ stored. willing_boxes stored.1) rows
 abbrev pub boxes_of_recovery : Recovery → List (List Badge)
 boxes_of_recovery recovery = map (λ row. willing_boxes row.row) recovery.rows
 
-boxes_unadopted : (name : List ℕ) (rows : List (Key × Row)) → map (λ (row : Unfinished). willing_boxes row.row) (map (unadopted name) rows) ≡ boxes_of_rows rows
+pub boxes_unadopted : (name : List ℕ) (rows : List (Key × Row)) → map (λ (row : Unfinished). willing_boxes row.row) (map (unadopted name) rows) ≡ boxes_of_rows rows
 boxes_unadopted name [] = refl
 boxes_unadopted name (stored ∷ rows) = ap (λ l. willing_boxes stored.1 ∷ l) (boxes_unadopted name rows)
 
@@ -60,7 +60,7 @@ abbrev with_found : Key × Row → Option Row → Loaded
 with_found stored found = record { key = stored.0; row = stored.1; boxes = option_map_or willing_boxes found [] }
 
 -- rows that rise have the boxes that a restart gives them
-loads_same : (name : List ℕ) (rows : List (Key × Row)) → is_rising rows ≡ true → Moves.loaded (boxes_in rows) rows ≡ map loaded (given with_boxes (boxes_of_rows rows) (map (unadopted name) rows))
+pub loads_same : (name : List ℕ) (rows : List (Key × Row)) → is_rising rows ≡ true → Moves.loaded (boxes_in rows) rows ≡ map loaded (given with_boxes (boxes_of_rows rows) (map (unadopted name) rows))
 loads_same name rows rising = each_found with_found rows rising ∙ sym (loaded_all name rows)
 
 -- One realm

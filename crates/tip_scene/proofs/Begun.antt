@@ -38,7 +38,7 @@ said_plain : (name : List ℕ) (rows : List (Key × Row)) → flat_map (row_text
 said_plain name [] = refl
 said_plain name (stored ∷ rows) = flat_map-cons (row_text name) (unadopted name stored) (map (unadopted name) rows) ∙ ap (λ rest. adoption_text name stored ++ rest) (said_plain name rows) ∙ sym (flat_map-cons (adoption_text name) stored rows)
 
-said_all : (name : List ℕ) (boxes : List (List Badge)) (rows : List (Key × Row)) → flat_map (row_text name) (given with_boxes boxes (map (unadopted name) rows)) ≡ flat_map (adoption_text name) rows
+pub said_all : (name : List ℕ) (boxes : List (List Badge)) (rows : List (Key × Row)) → flat_map (row_text name) (given with_boxes boxes (map (unadopted name) rows)) ≡ flat_map (adoption_text name) rows
 said_all name [] rows = said_plain name rows
 said_all name (b ∷ boxes) [] = refl
 said_all name (b ∷ boxes) (stored ∷ rows) =

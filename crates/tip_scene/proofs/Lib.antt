@@ -7,5 +7,6 @@ pub mod Loaded
 pub mod Begun
 pub mod Starting
 pub mod Again
+pub mod Renewed
 pub mod Staging
 pub mod Dialling

@@ -53,7 +53,7 @@ stays host host' place other actor x y leaves that differ apart names = record {
     state_is = leaves.realms other differ ∙ that.served.state_is;
     names = names;
     due_is = leaves.due y.world.state.head.name apart ∙ that.served.due_is;
-    known = ap is_some (leaves.known y.world.state.head.name) ∙ that.served.known;
+    known = leaves.known y.world.state.head.name ∙ that.served.known;
   };
   rows = leaves.parts y.world.state.head.name y.world.state.head.epoch y.world.rows apart that.rows;
   named = that.named;
@@ -92,10 +92,9 @@ becomes host host' actors scene place actor actor' acting acting' is a s leaves 
 
 -- Rows that are read
 
-pub reads : (host : Host) (store : Rows.Memory) (actors : List Actor) (scene : Scene) → Rows.log_of store ≡ Rows.log_of host.store → ((name : List ℕ) → Rows.is_due_in store name ≡ Rows.is_due_in host.store name) → IsScene host actors scene → IsScene (record host { store = store }) actors scene
-reads host store actors scene log due is = record {
-  count = is.count;
-  each = λ place actor acting a s. let acts = is.each place actor acting a s in record {
+module _ (host : Host) (store : Rows.Memory) (log : Rows.log_of store ≡ Rows.log_of host.store) (due : (name : List ℕ) → Rows.is_due_in store name ≡ Rows.is_due_in host.store name) where
+  pub reads_one : (place : ℕ) (actor : Actor) (acting : Acting) → IsActing host place actor acting → IsActing (record host { store = store }) place actor acting
+  reads_one place actor acting acts = record {
     served = record {
       state_is = acts.served.state_is;
       names = acts.served.names;
@@ -108,9 +107,22 @@ reads host store actors scene log due is = record {
     errands = acts.errands;
     due = acts.due;
     readings = acts.readings;
-  };
-  beyond = is.beyond;
-}
+  }
+
+  pub reads_leaves : (place : ℕ) (name : List ℕ) → Leaves host (record host { store = store }) place name
+  reads_leaves place name = record {
+    realms = λ other differ. refl;
+    due = λ other differ. due other;
+    known = λ other. ap (λ (l : Log). is_some (l.epochs other)) log;
+    parts = λ other epoch rows differ part. subst (λ l. IsPart l other epoch rows) (sym log) part;
+  }
+
+  pub reads : (actors : List Actor) (scene : Scene) → IsScene host actors scene → IsScene (record host { store = store }) actors scene
+  reads actors scene is = record {
+    count = is.count;
+    each = λ place actor acting a s. reads_one place actor acting (is.each place actor acting a s);
+    beyond = is.beyond;
+  }
 
 -- A line of a realm
 

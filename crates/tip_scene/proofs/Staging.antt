@@ -9,7 +9,8 @@ use Rattle.tip_line.specs.Words.{is_address, is_realm}
 use Rattle.tip_machine.specs.Heads.{are_allowed}
 use Rattle.tip_machine.specs.declared.head.Limits.{Limits}
 use Rattle.tip_script.specs.Moves.{move_by}
-use Rattle.tip_script.specs.Scripts.{Move, move_of}
+use Rattle.tip_script.specs.Scripts.{Move, is_start, move_of, realm_of}
+use Rattle.std.proofs.lemmas.Option.{none-some}
 use Rattle.tip_script.specs.declared.instruction.Instruction.{Instruction}
 use Rattle.tip_script.specs.declared.instruction.Instruction.TheVariants as instruction
 use Rattle.tip_scene.specs.Acts.{Stage, Declaring, Playing, Acted, acted, acted_by, acts, acts_if, declaration_of, declared, is_count, is_other, scene_of, starts_text}
@@ -67,7 +68,25 @@ starts_first declarations (instruction.Go realm) other unlabelled = refl
 starts_first declarations (instruction.Drop realm) other unlabelled = refl
 starts_first declarations (instruction.Resume realm id) other unlabelled = refl
 starts_first declarations (instruction.Refuse realm) other unlabelled = refl
+starts_first declarations (instruction.Renew realm) other unlabelled = refl
 starts_first declarations instruction.Restart other unlabelled = refl
+
+-- a line of one realm that renews none starts none again
+pub starts_none : (i : Instruction) (realm : List ℕ) → realm_of (move_by i) ≡ Some realm → ((r : _) → i ≢ instruction.Renew r) → is_start (move_by i) ≡ false
+starts_none (instruction.Realm name address branches limits) realm named other = refl
+starts_none (instruction.Labels r labels) realm named other = refl
+starts_none (instruction.Open r kinds) realm named other = refl
+starts_none (instruction.Dial r address kinds aim) realm named other = refl
+starts_none (instruction.Feed r connection octets) realm named other = refl
+starts_none (instruction.Lost r connection) realm named other = refl
+starts_none (instruction.Push asked) realm named other = refl
+starts_none (instruction.Pull asked) realm named other = refl
+starts_none (instruction.Go r) realm named other = refl
+starts_none (instruction.Drop r) realm named other = refl
+starts_none (instruction.Resume r id) realm named other = refl
+starts_none (instruction.Refuse r) realm named other = refl
+starts_none (instruction.Renew r) realm named other = absurd (other r refl)
+starts_none instruction.Restart realm named other = absurd (none-some realm named)
 
 pub plays_first : (playing' : APlaying) (declarations : List Declaration) (printed between printed' : List ℕ) (i : Instruction) → ((name : _) (address : _) (branches : ℕ) (limits : Limits) → i ≢ instruction.Realm name address branches limits) → ((realm : _) (labels : _) → i ≢ instruction.Labels realm labels) → between ≡ printed ++ starts_text declarations → IsMoved playing'.host playing'.actors.items between printed' (moved (move_by i) (scene_of declarations)) →
     (then_ : Stage) × ((acts (Declaring declarations) (move_by i)).stage ≡ Some then_) × IsStage (stage.Playing playing') then_ × (printed' ≡ printed ++ (acts (Declaring declarations) (move_by i)).printed)

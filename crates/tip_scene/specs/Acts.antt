@@ -13,7 +13,7 @@ use Rattle.tip_machine.specs.declared.head.Start.{Start}
 use Rattle.tip_actor.specs.Acting.{Acting}
 use Rattle.tip_scene.specs.Scenes.{Scene, Moved, moved, openings_text}
 use Rattle.tip_scene.specs.declared.declared.Declaration.{Declaration}
-use Rattle.tip_script.specs.Scripts.{Move, Declare, Label, Open, Dial, Feed, Lose, Push, Pull, Go, Drop, Resume, Refuse, Restart, move_of}
+use Rattle.tip_script.specs.Scripts.{Move, Declare, Label, Open, Dial, Feed, Lose, Push, Pull, Go, Drop, Resume, Refuse, Renew, Restart, move_of}
 
 -- the realms are declared, and the first other line starts them
 pub data Stage : Type 0 where
@@ -119,6 +119,7 @@ acts (Declaring declarations) (Go realm) = first_acts declarations (Go realm)
 acts (Declaring declarations) (Drop realm) = first_acts declarations (Drop realm)
 acts (Declaring declarations) (Resume realm id) = first_acts declarations (Resume realm id)
 acts (Declaring declarations) (Refuse realm) = first_acts declarations (Refuse realm)
+acts (Declaring declarations) (Renew realm) = first_acts declarations (Renew realm)
 acts (Declaring declarations) Restart = first_acts declarations Restart
 acts (Playing scene) move = acted_by [] (moved move scene)
 

@@ -4,11 +4,11 @@ use Rattle.tip_branch.specs.declared.branch.Badge.{Badge}
 use Rattle.tip_core.specs.Hosted.{realm}
 use Rattle.tip_machine.specs.Recovery.{restarted}
 use Rattle.tip_machine.specs.States.{started}
-use Rattle.tip_recovery.specs.Adopting.{Recovery, given, loaded, unadopted, with_boxes}
+use Rattle.tip_recovery.specs.Adopting.{Recovery, Unfinished, given, loaded, unadopted, with_boxes}
 use Rattle.tip_rows.specs.Logs.{IsPart}
 use Rattle.tip_rows.specs.Memory.{Memory, is_due_in, log_of}
 use Rattle.tip_host.specs.Recovering.{Recovering}
-use Rattle.tip_actor.specs.Acting.{Acting}
+use Rattle.tip_actor.specs.Acting.{Acting, willing_boxes}
 use Rattle.tip_actor.specs.Standing.{Actor}
 use Rattle.tip_scene.specs.Scenes.{Scene}
 
@@ -58,3 +58,12 @@ pub record AreRising (recovering : Recovering Memory) (scene : Scene) : Type 0 w
   pub each : (place : ℕ) (acting : Acting) → slice_get scene place ≡ Some acting → IsRising recovering place acting
   -- and there are no others
   pub beyond : (place : ℕ) → slice_get scene place ≡ None → realm recovering.core place ≡ None
+
+-- One realm alone
+
+-- the rows of a realm, and a willing box again for each of their branches
+abbrev pub willing_rows : Acting → List Unfinished
+willing_rows acting = given with_boxes (map (λ stored. willing_boxes stored.1) acting.world.rows) (map (unadopted acting.name) acting.world.rows)
+
+abbrev pub IsWilling : Recovery → Acting → Type 0
+IsWilling recovery acting = recovery.rows ≡ willing_rows acting

@@ -6,8 +6,8 @@ use Rattle.tip_line.specs.Words.{is_address, is_word}
 use Rattle.tip_machine.specs.declared.connection.Purpose.{Purpose}
 use Rattle.tip_machine.specs.declared.connection.Purpose.TheVariants as purpose
 use Rattle.tip_machine.specs.declared.event.Event.TheVariants as event
-use Rattle.tip_actor.specs.Acting.{Acting, Done, boxes_of, drops_from, feeds, goes_for, happens, is_at_end, loses, on_connection, opening_text, pulls, pushes, refuses, restarts, settles}
-use Rattle.tip_script.specs.Scripts.{Move, Declare, Label, Open, Dial, Feed, Lose, Push, Pull, Go, Drop, Resume, Refuse, Restart, realm_of}
+use Rattle.tip_actor.specs.Acting.{Acting, Done, boxes_of, drops_from, feeds, goes_for, happens, is_at_end, loses, on_connection, opening_text, pulls, pushes, refuses, renews, restarts, settles}
+use Rattle.tip_script.specs.Scripts.{Move, Declare, Label, Open, Dial, Feed, Lose, Push, Pull, Go, Drop, Resume, Refuse, Renew, Restart, realm_of}
 use Rattle.tip_transcript.specs.Printing.{idle_text, nowhere_text}
 
 -- all realms, in the order of their declarations
@@ -42,6 +42,7 @@ does (Go realm) acting = goes_for acting.world.errands acting
 does (Drop realm) acting = Some (drops_from acting.world.errands acting)
 does (Resume realm id) acting = if is_word id then Some (happens (event.Resume id) acting) else None
 does (Refuse realm) acting = Some (refuses acting)
+does (Renew realm) acting = Some (renews acting)
 does Restart acting = None
 
 -- what it prints of a realm that is not declared
@@ -58,6 +59,7 @@ elsewhere (Go realm) = Some (idle_text realm)
 elsewhere (Drop realm) = Some (idle_text realm)
 elsewhere (Resume realm id) = Some (nowhere_text realm)
 elsewhere (Refuse realm) = Some []
+elsewhere (Renew realm) = Some (nowhere_text realm)
 elsewhere Restart = None
 
 abbrev pub is_named : List ℕ → Acting → Bool

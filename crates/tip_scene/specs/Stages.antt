@@ -1,5 +1,5 @@
 -- How the code's stage stands for the script's.
-use Rattle.std.specs.Prelude.{◌≡◌, ℕ, List, ◌++◌, Option, Some, None, Result, Ok, Err}
+use Rattle.std.specs.Prelude.{◌≡◌, ℕ, List, ◌++◌, false, Option, Some, None, Result, Ok, Err}
 use Rattle.tip_actor.specs.Acting.{boxes_of}
 use Rattle.tip_actor.specs.Standing.{Actor, Host}
 use Rattle.tip_core.specs.Hosted.{Hosted}
@@ -7,7 +7,7 @@ use Rattle.tip_host.specs.declared.realm_spec.RealmSpec.{RealmSpec}
 use Rattle.tip_branch.specs.Lots.{badges_of}
 use Rattle.tip_branch.specs.declared.branch.Phase.TheVariants.{Active}
 use Rattle.tip_branch.specs.declared.branch.Standing.{Standing}
-use Rattle.tip_script.specs.Scripts.{Move, plans_of, plans_with, realm_of}
+use Rattle.tip_script.specs.Scripts.{Move, is_start, plans_of, plans_with}
 use Rattle.tip_scene.specs.Acts.{Stage, Declaring, Playing, Acted}
 use Rattle.tip_scene.specs.Scenes.{Moved}
 use Rattle.tip_scene.specs.Standing.{IsScene, IsMoved}
@@ -55,13 +55,13 @@ Moves printed printed' moved (Ok playing) = IsMoved playing.host playing.actors.
 Moves printed printed' moved (Err NotUnderstood) = (moved.scene ≡ None) × (printed' ≡ printed ++ moved.printed)
 Moves printed printed' moved (Err Memory) = Unit {0}
 
--- the boxes that come with a line are those that it names; a restart names none
+-- the boxes that come with a line are those that it names; those of a start are for the branches of stored rows
 abbrev pub ComeWith : Option Move → List Standing → Type 0
-ComeWith line boxes = (move : Move) (realm : List ℕ) → line ≡ Some move → realm_of move ≡ Some realm → badges_of boxes ≡ boxes_of (plans_with move)
+ComeWith line boxes = (move : Move) → line ≡ Some move → is_start move ≡ false → badges_of boxes ≡ boxes_of (plans_with move)
 
 -- and so do those that are wanted, by their letters
 abbrev pub AreWanted : Option Move → Wanted → Type 0
-AreWanted line wanted = (move : Move) (realm : List ℕ) → line ≡ Some move → realm_of move ≡ Some realm → (wanted.phase ≡ Active) × (plans_of wanted.kinds.items ≡ plans_with move)
+AreWanted line wanted = (move : Move) → line ≡ Some move → is_start move ≡ false → (wanted.phase ≡ Active) × (plans_of wanted.kinds.items ≡ plans_with move)
 
 abbrev pub ActsSo : List ℕ → List ℕ → Acted → Result AStage LineFault → Type 0
 ActsSo printed printed' acted (Ok code) = (now : Stage) × (acted.stage ≡ Some now) × IsStage code now × (printed' ≡ printed ++ acted.printed)

@@ -85,7 +85,7 @@ pub(crate) fn dealt_to_all(
 }
 
 /// Willing boxes for the branches of each row, out of these.
-fn dealt_to_rows(
+pub(crate) fn dealt_to_rows(
     alloc: Global,
     pool: &mut Vec<Box<dyn Branch + Send>>,
     rows: &[Unfinished],

@@ -6,6 +6,7 @@ mod branches;
 mod declared;
 mod fault;
 mod playing;
+mod renewing;
 mod requests;
 mod restarting;
 mod rising;

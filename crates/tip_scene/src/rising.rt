@@ -76,7 +76,11 @@ fn print_opening(
 }
 
 /// Prints the branches that were adopted for rows.
-fn print_adoptions(printed: &mut String, name: &str, rows: &[Unfinished]) -> Result<(), AllocError>
+pub(crate) fn print_adoptions(
+    printed: &mut String,
+    name: &str,
+    rows: &[Unfinished],
+) -> Result<(), AllocError>
     ensures { OnOk result (string_bytes printed.new ≡ string_bytes printed.old ++ flat_map (λ row. adopted_text name.now (identifier row.realm row.key) (branches_of row.row)) rows.now) }
 {
     for row in rows {

@@ -70,19 +70,20 @@ impl Stage<Declared, Playing> {
         ensures wanted { IfOk result (AreWanted (move_of line.now)) }
     {
         match Instruction::parse(line) {
-            Some(Instruction::Restart) => self.willing(alloc),
+            Some(Instruction::Restart) => self.willing(alloc, None),
+            Some(Instruction::Renew { realm }) => self.willing(alloc, Some(realm)),
             Some(instruction) => Wanted::active(alloc, instruction.kinds()),
             None => Wanted::active(alloc, b""),
         }
     }
 
-    /// A willing box for each branch of each stored row.
-    fn willing(&mut self, alloc: Global) -> Result<Wanted, AllocError>
+    /// A willing box for each branch of each stored row, of one realm or of all.
+    fn willing(&mut self, alloc: Global, only: Option<&str>) -> Result<Wanted, AllocError>
         ensures { (stage : AStage) → IsStage self.old stage → OnOk result (IsStage self.new stage) }
     {
         match self {
             Stage::Declaring(_) => Ok(Wanted::none_ready(alloc)),
-            Stage::Playing(playing) => playing.willing(alloc),
+            Stage::Playing(playing) => playing.willing(alloc, only),
         }
     }
 

@@ -3,7 +3,7 @@ use Rattle.std.specs.Prelude.{ℕ, List, [], ◌∷◌, ◌++◌}
 use Rattle.tip_line.specs.Fields.{fields_of}
 use Rattle.tip_machine.specs.declared.connection.Purpose.{Purpose}
 use Rattle.tip_machine.specs.declared.connection.Purpose.TheVariants as purpose
-use Rattle.tip_script.specs.Scripts.{Move, Declare, Label, Open, Dial, Feed, Lose, Push, Pull, Go, Drop, Resume, Refuse, Restart, Asking, octets_in, plans_of}
+use Rattle.tip_script.specs.Scripts.{Move, Declare, Label, Open, Dial, Feed, Lose, Push, Pull, Go, Drop, Resume, Refuse, Renew, Restart, Asking, octets_in, plans_of}
 use Rattle.tip_script.specs.declared.asking.Aim.{Aim}
 use Rattle.tip_script.specs.declared.asking.Aim.TheVariants as aim
 use Rattle.tip_script.specs.declared.asking.Asked.{Asked}
@@ -41,4 +41,5 @@ move_by (instruction.Go realm) = Go realm.now
 move_by (instruction.Drop realm) = Drop realm.now
 move_by (instruction.Resume realm id) = Resume realm.now id.now
 move_by (instruction.Refuse realm) = Refuse realm.now
+move_by (instruction.Renew realm) = Renew realm.now
 move_by instruction.Restart = Restart

@@ -1,5 +1,5 @@
 -- The lines of a script. Their fields stand between single spaces, and a line that is empty says nothing.
-use Rattle.std.specs.Prelude.{ℕ, ◌%◌, ◌==◌, List, [], ◌∷◌, ◌++◌, length, map, Bool, ◌&&◌, ◌||◌, nat_le, Option, Some, None, Result, Ok, Err, codes, if◌then◌else◌}
+use Rattle.std.specs.Prelude.{ℕ, ◌%◌, ◌==◌, List, [], ◌∷◌, ◌++◌, length, map, Bool, true, false, ◌&&◌, ◌||◌, nat_le, Option, Some, None, Result, Ok, Err, codes, if◌then◌else◌}
 use Rattle.std.specs.List.{list_all, join_with_byte}
 use Rattle.std.specs.Str.{bytes_eq}
 use Rattle.hex.specs.Hex.{decode_of}
@@ -39,6 +39,8 @@ pub data Move : Type 0 where
   Resume : (realm : List ℕ) → (id : List ℕ) → Move
   -- the realm's next change of rows is to be refused
   Refuse : (realm : List ℕ) → Move
+  -- the realm starts again while the others run
+  Renew : (realm : List ℕ) → Move
   -- the process starts again
   Restart : Move
 
@@ -56,9 +58,16 @@ realm_of (Go realm) = Some realm
 realm_of (Drop realm) = Some realm
 realm_of (Resume realm id) = Some realm
 realm_of (Refuse realm) = Some realm
+realm_of (Renew realm) = Some realm
 realm_of Restart = None
 
--- the boxes that come with a move
+-- does a realm start again? then the boxes that come with the move are for the branches of its stored rows
+abbrev pub is_start : Move → Bool
+is_start (Renew realm) = true
+is_start Restart = true
+is_start other = false
+
+-- the boxes that a move names
 abbrev pub plans_with : Move → List Plan
 plans_with (Open realm plans) = plans
 plans_with (Dial realm address plans purpose) = plans
@@ -236,12 +245,13 @@ unfoldable pub restarting : List (List ℕ) → Option Move
 restarting [] = Some Restart
 restarting fields = None
 
--- go REALM, drop REALM, refuse REALM, resume REALM ID, restart, and labels REALM LABELS; else what we ask of other managers
+-- go, drop, refuse or renew REALM, resume REALM ID, restart, and labels REALM LABELS; else what we ask of other managers
 unfoldable pub order_in : List ℕ → List (List ℕ) → Option Move
 order_in word fields =
     if bytes_eq word (codes "go") then realm_alone fields >>= (λ realm. Some (Go realm))
     else if bytes_eq word (codes "drop") then realm_alone fields >>= (λ realm. Some (Drop realm))
     else if bytes_eq word (codes "refuse") then realm_alone fields >>= (λ realm. Some (Refuse realm))
+    else if bytes_eq word (codes "renew") then realm_alone fields >>= (λ realm. Some (Renew realm))
     else if bytes_eq word (codes "resume") then resumption fields
     else if bytes_eq word (codes "restart") then restarting fields
     else if bytes_eq word (codes "labels") then labelling fields

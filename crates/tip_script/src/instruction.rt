@@ -80,6 +80,10 @@ pub enum Instruction<'a> {
     Refuse {
         realm: &'a str,
     },
+    /// `renew REALM`: the realm starts again while the others run.
+    Renew {
+        realm: &'a str,
+    },
     /// `restart`: the process starts again.
     Restart,
 }
@@ -117,12 +121,13 @@ impl<'a> Instruction<'a> {
             | Instruction::Go { realm }
             | Instruction::Drop { realm }
             | Instruction::Resume { realm, .. }
-            | Instruction::Refuse { realm } => Some(realm),
+            | Instruction::Refuse { realm }
+            | Instruction::Renew { realm } => Some(realm),
             Instruction::Restart => None,
         }
     }
 
-    /// The boxes that come with it, a letter for each; `plan_of` says what such a box promises.
+    /// The boxes that it names, a letter for each; `plan_of` says what such a box promises.
     pub fn kinds(self) -> &'a [u8]
         ensures { plans_of result.now ≡ plans_with (move_by self.entry) }
     {
@@ -138,6 +143,7 @@ impl<'a> Instruction<'a> {
             | Instruction::Drop { .. }
             | Instruction::Resume { .. }
             | Instruction::Refuse { .. }
+            | Instruction::Renew { .. }
             | Instruction::Restart => b"",
         }
     }
@@ -251,6 +257,9 @@ fn order<'a>(word: &[u8], fields: Fields<'a, b' '>) -> Option<Instruction<'a>>
     } else if word == b"refuse".as_slice() {
         let realm = realm_alone(fields)?;
         Some(Instruction::Refuse { realm })
+    } else if word == b"renew".as_slice() {
+        let realm = realm_alone(fields)?;
+        Some(Instruction::Renew { realm })
     } else if word == b"resume".as_slice() {
         resumption(fields)
     } else if word == b"restart".as_slice() {

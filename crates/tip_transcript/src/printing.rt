@@ -49,7 +49,8 @@ fn print_front(printed: &mut String, realm: &str, answer: &Answer) -> Result<(),
     }
 }
 
-fn print_refusal(printed: &mut String, realm: &str, why: Refusal) -> Result<(), AllocError>
+/// Prints a refusal.
+pub fn print_refusal(printed: &mut String, realm: &str, why: Refusal) -> Result<(), AllocError>
     ensures { OnOk result (string_bytes printed.new ≡ string_bytes printed.old ++ refusal_text realm.now why) }
 {
     writeln!(printed, "{realm} refused {why}")

@@ -53,7 +53,7 @@ returns-in_err-stage g c =
     let left' = g.R.Read.remaining c.read.new.input in
     let reads : Reads left left' text (Ok c.in_ok-end.end) = subst (λ l. Reads left left' l (Ok c.in_ok-end.end)) (sym c.as_slice-text.ensures) c.in_ok-end.ensures in
     rw (e.1, e.2) (line_fails c.loop-number.stage c.loop-number.number (g.R.Read.remaining c.args.input.now) left left' (g.W.Write.contents c.args.output.now) (g.W.Write.contents c.loop-number.output) (g.W.Write.contents c.act.new.output)
-    text c.in_ok-end.end c.in_err-stage.field-0.0 c.loop-number.invariant (c.is_too_long.ensures.no c.if-is_too_long.false) reads (λ now is. c.in_err-stage.ensures now (subst (λ s. IsStage s now) (sym c.loop-kind.invariant) (c.in_ok-wanted.ensures.stands now is)) (λ move realm said named. come_with _ c.deref.ensures.value (c.are_of.ensures c.if-not-are_of.false) c.deref-in-loop-number.ensures.value (c.in_ok-wanted.ensures.wanted move realm said named).1)))
+    text c.in_ok-end.end c.in_err-stage.field-0.0 c.loop-number.invariant (c.is_too_long.ensures.no c.if-is_too_long.false) reads (λ now is. c.in_err-stage.ensures now (subst (λ s. IsStage s now) (sym c.loop-kind.invariant) (c.in_ok-wanted.ensures.stands now is)) (λ move said goes_on. come_with _ c.deref.ensures.value (c.are_of.ensures c.if-not-are_of.false) c.deref-in-loop-number.ensures.value (c.in_ok-wanted.ensures.wanted move said goes_on).1)))
 
 pub returns-then-is_last : goal.returns-then-is_last
 returns-then-is_last g c =
@@ -62,7 +62,7 @@ returns-then-is_last g c =
     let left' = g.R.Read.remaining c.read.new.input in
     let reads : Reads left left' text (Ok c.in_ok-end.end) = subst (λ l. Reads left left' l (Ok c.in_ok-end.end)) (sym c.as_slice-text.ensures) c.in_ok-end.ensures in
     script_ends c.loop-number.stage c.in_ok-stage.stage c.loop-number.number (g.R.Read.remaining c.args.input.now) left left' (g.W.Write.contents c.args.output.now) (g.W.Write.contents c.loop-number.output) (g.W.Write.contents c.act.new.output) (g.W.Write.contents c.finish.new.output)
-    text c.in_ok-end.end c.finish.result c.loop-number.invariant (c.is_last.ensures.yes c.if-is_last.true) reads (λ now is. c.in_ok-stage.ensures now (subst (λ s. IsStage s now) (sym c.loop-kind.invariant) (c.in_ok-wanted.ensures.stands now is)) (λ move realm said named. come_with _ c.deref.ensures.value (c.are_of.ensures c.if-not-are_of.false) c.deref-in-loop-number.ensures.value (c.in_ok-wanted.ensures.wanted move realm said named).1)) c.finish.ensures
+    text c.in_ok-end.end c.finish.result c.loop-number.invariant (c.is_last.ensures.yes c.if-is_last.true) reads (λ now is. c.in_ok-stage.ensures now (subst (λ s. IsStage s now) (sym c.loop-kind.invariant) (c.in_ok-wanted.ensures.stands now is)) (λ move said goes_on. come_with _ c.deref.ensures.value (c.are_of.ensures c.if-not-are_of.false) c.deref-in-loop-number.ensures.value (c.in_ok-wanted.ensures.wanted move said goes_on).1)) c.finish.ensures
 
 pub loop-number-preserved : goal.loop-number-preserved
 loop-number-preserved g c =
@@ -71,7 +71,7 @@ loop-number-preserved g c =
     let left' = g.R.Read.remaining c.read.new.input in
     let reads : Reads left left' text (Ok c.in_ok-end.end) = subst (λ l. Reads left left' l (Ok c.in_ok-end.end)) (sym c.as_slice-text.ensures) c.in_ok-end.ensures in
     line_plays c.loop-number.stage c.in_ok-stage.stage c.loop-number.number (g.R.Read.remaining c.args.input.now) left left' (g.W.Write.contents c.args.output.now) (g.W.Write.contents c.loop-number.output) (g.W.Write.contents c.act.new.output)
-    text c.in_ok-end.end c.loop-number.invariant (c.is_too_long.ensures.no c.if-is_too_long.false) (c.is_last.ensures.no c.if-is_last.false) reads (λ now is. c.in_ok-stage.ensures now (subst (λ s. IsStage s now) (sym c.loop-kind.invariant) (c.in_ok-wanted.ensures.stands now is)) (λ move realm said named. come_with _ c.deref.ensures.value (c.are_of.ensures c.if-not-are_of.false) c.deref-in-loop-number.ensures.value (c.in_ok-wanted.ensures.wanted move realm said named).1))
+    text c.in_ok-end.end c.loop-number.invariant (c.is_too_long.ensures.no c.if-is_too_long.false) (c.is_last.ensures.no c.if-is_last.false) reads (λ now is. c.in_ok-stage.ensures now (subst (λ s. IsStage s now) (sym c.loop-kind.invariant) (c.in_ok-wanted.ensures.stands now is)) (λ move said goes_on. come_with _ c.deref.ensures.value (c.are_of.ensures c.if-not-are_of.false) c.deref-in-loop-number.ensures.value (c.in_ok-wanted.ensures.wanted move said goes_on).1))
 
 pub returns : goal.returns
 returns g c = stays_front c.loop-number.stage c.loop-number.number (g.R.Read.remaining c.args.input.now) (g.R.Read.remaining c.loop-number.input) (g.W.Write.contents c.args.output.now) (g.W.Write.contents c.loop-number.output) c.loop-number.invariant

@@ -1,0 +1,235 @@
+-- One realm that starts again while the others run.
+use Rattle.std.proofs.Common.{◌≡◌, ◌≢◌, ◌+◌, ◌++◌, if◌then◌else◌, ◌==◌, ◌∷◌, ℕ, Bool, true, false, List, [], Option, Some, None, append-nil, append_assoc, map, refl, sym, ap, subst, ◌∙◌}
+use Rattle.std.specs.Prelude.{Err, IsTrue, Ok, OnOk, Result, is_some}
+use Rattle.std.specs.List.{flat_map}
+use Rattle.std.specs.Option.{option_and_then}
+use Rattle.std.specs.Str.{bytes_eq}
+use Rattle.std.proofs.lemmas.Option.{none-some, same_Some}
+use Rattle.tip_branch.specs.declared.branch.Badge.{Badge}
+use Rattle.tip_core.specs.Hosted.{HaveNames, realm}
+use Rattle.tip_host.proofs.Parts.{renewed_known, renewed_others, renewed_part, rises}
+use Rattle.tip_host.specs.Loading.{IsRead}
+use Rattle.tip_host.specs.Renewing.{IsRenewed}
+use Rattle.tip_machine.proofs.Storing.{same_rows}
+use Rattle.tip_machine.specs.Moves as Moves
+use Rattle.tip_machine.specs.Recovery.{restarted}
+use Rattle.tip_machine.specs.Types.{Transaction}
+use Rattle.tip_machine.specs.declared.head.Head.{Head}
+use Rattle.tip_recovery.specs.Adopting.{Recovery, Unfinished, adopted_all, given, loaded, unadopted, with_boxes}
+use Rattle.tip_recovery.specs.Renewing.{taking, taking_all}
+use Rattle.tip_rows.specs.Keys.{Key}
+use Rattle.tip_rows.specs.Logs.{IsPart, IsSpent, Log, last_epoch, with_raised}
+use Rattle.tip_rows.specs.Memory.{Memory, is_due_in, log_of}
+use Rattle.tip_rows.specs.declared.row.Row.{Row}
+use Rattle.tip_transcript.specs.Printing.{refusal_text, shown_text, start_text}
+use Rattle.tip_line.specs.declared.refusal.Refusal.TheVariants.{EpochEnd, Refused}
+use Rattle.tip_actor.proofs.Doing.{leaves_on, stays}
+use Rattle.tip_actor.proofs.Leaving.{left_here, shown_each}
+use Rattle.tip_actor.proofs.Serving.{itself}
+use Rattle.tip_actor.specs.Acting.{Acting, boxes_in, renewed, renews, willing_boxes}
+use Rattle.tip_actor.specs.Standing.{Actor, AreReadings, Host, IsActing, IsDone, Leaves}
+use Rattle.tip_scene.proofs.Again.{boxes_of_rows, boxes_unadopted, loads_same}
+use Rattle.tip_scene.proofs.Begun.{row_text, said_all}
+use Rattle.tip_scene.specs.Rising.{IsWilling, willing_rows}
+
+-- Rows that were read twice
+
+-- a row takes its own boxes
+taking_own : (boxes : List Badge) (row : Unfinished) → taking (with_boxes boxes row) row ≡ with_boxes boxes row
+taking_own [] row = refl
+taking_own (box ∷ boxes) row = refl
+
+taking_selves : (rows : List Unfinished) → taking_all rows rows ≡ rows
+taking_selves [] = refl
+taking_selves (row ∷ rows) = ap (λ l. row ∷ l) (taking_selves rows)
+
+taking_same : (boxes : List (List Badge)) (rows : List Unfinished) → taking_all (given with_boxes boxes rows) rows ≡ given with_boxes boxes rows
+taking_same [] rows = taking_selves rows
+taking_same (b ∷ boxes) [] = refl
+taking_same (b ∷ boxes) (row ∷ rows) = ap (λ r. r ∷ taking_all (given with_boxes boxes rows) rows) (taking_own b row) ∙ ap (λ l. with_boxes b row ∷ l) (taking_same boxes rows)
+
+-- what is read of a realm is what the script says of it
+pub read_rows : (log : Log) (name : List ℕ) (epoch : ℕ) (rows : List (Key × Row)) (recovery : Recovery) → IsPart log name epoch rows → IsRead log name recovery → recovery.rows ≡ map (unadopted name) rows
+read_rows log name epoch rows recovery part read = read.unadopted ∙ ap (map (unadopted name)) (same_rows read.rows rows read.part.rising part.rising (λ key. read.part.same key ∙ sym (part.same key)))
+
+-- the rows have willing boxes
+pub has_willing : (acting : Acting) (name : List ℕ) (old new : List Unfinished) (lots : List (List Badge)) → name ≡ acting.name → old ≡ map (unadopted name) acting.world.rows → lots ≡ map (λ row. willing_boxes row.row) old → new ≡ adopted_all lots old → new ≡ willing_rows acting
+has_willing acting name old new lots named old_is lots_are adopted =
+    let own : old ≡ map (unadopted acting.name) acting.world.rows = old_is ∙ ap (λ n. map (unadopted n) acting.world.rows) named in
+    adopted ∙ ap (λ b. adopted_all b old) (lots_are ∙ ap (map (λ (row : Unfinished). willing_boxes row.row)) own ∙ boxes_unadopted acting.name acting.world.rows) ∙ ap (adopted_all (boxes_of_rows acting.world.rows)) own
+
+-- What is printed
+
+pub three : (old a b c one two new : List ℕ) → one ≡ old ++ a → two ≡ one ++ b → new ≡ two ++ c → new ≡ old ++ (a ++ (b ++ c))
+three old a b c one two new first second third = third ∙ ap (λ t. t ++ c) second ∙ ap (λ t. (t ++ b) ++ c) first ∙ append_assoc (old ++ a) b c ∙ append_assoc old a (b ++ c)
+
+pub said_anew : (acting : Acting) (name : List ℕ) (epoch : ℕ) (rows : List Unfinished) → name ≡ acting.name → acting.due ≡ false → epoch ≡ acting.world.state.head.epoch + 1 → rows ≡ willing_rows acting →
+    left_here name acting.world.state.transactions ++ (start_text name epoch ++ flat_map (row_text name) rows) ≡ (renewed acting.due acting).printed
+said_anew acting name epoch rows named due epoch_is rows_are =
+    ap (λ n. left_here n acting.world.state.transactions ++ (start_text n epoch ++ flat_map (row_text n) rows)) named
+    ∙ ap (λ text. text ++ (start_text acting.name epoch ++ flat_map (row_text acting.name) rows)) (shown_each acting.name (λ (transaction : Transaction). Moves.drops_at transaction.place) acting.world.state.transactions)
+    ∙ ap (λ e. shown_text acting.name (Moves.drops_here acting.world.state) ++ (start_text acting.name e ++ flat_map (row_text acting.name) rows)) epoch_is
+    ∙ ap (λ r. shown_text acting.name (Moves.drops_here acting.world.state) ++ (start_text acting.name (acting.world.state.head.epoch + 1) ++ flat_map (row_text acting.name) r)) rows_are
+    ∙ ap (λ text. shown_text acting.name (Moves.drops_here acting.world.state) ++ (start_text acting.name (acting.world.state.head.epoch + 1) ++ text)) (said_all acting.name (boxes_of_rows acting.world.rows) acting.world.rows)
+    ∙ sym (ap (λ b. (renewed b acting).printed) due)
+
+-- The realm afterwards
+
+pub not_due : (b : Bool) → (IsTrue b → ⊥) → b ≡ false
+not_due true never = absurd (never refl)
+not_due false never = refl
+
+module _ (host new : Host) (place : ℕ) (actor actor' : Actor) (acting : Acting) (is : IsActing host place actor acting) where
+  own_name : actor.name ≡ acting.world.state.head.name
+  own_name = is.name ∙ sym is.named
+
+  -- it has started again, by what is stored of it
+  module _ (recovery : Recovery) (willing : IsWilling recovery acting) (after : IsRenewed {S = Memory} (λ s log. log_of s ≡ log) (λ s. Unit {0}) recovery acting.world.state host.store new.store (realm new.core place)) where
+    rows_again : taking_all recovery.rows after.fresh.rows ≡ willing_rows acting
+    rows_again =
+        let rows = acting.world.rows in
+        let fresh : after.fresh.rows ≡ map (unadopted acting.name) rows = read_rows (log_of host.store) acting.world.state.head.name acting.world.state.head.epoch rows after.fresh is.rows (after.read (log_of host.store) refl tt) ∙ ap (λ n. map (unadopted n) rows) is.named in
+        ap (taking_all recovery.rows) fresh ∙ ap (λ r. taking_all r (map (unadopted acting.name) rows)) willing ∙ taking_same (boxes_of_rows rows) (map (unadopted acting.name) rows)
+
+    state_again : realm new.core place ≡ Some (Moves.restarted_from (boxes_in acting.world.rows) acting.world)
+    state_again = after.state_is ∙ ap (λ rows. Some (restarted (Moves.risen acting.world.state.head) rows)) (ap (map loaded) rows_again ∙ sym (loads_same acting.name acting.world.rows is.rows.rising))
+
+  module _ (log : log_of new.store ≡ with_raised acting.world.state.head.name (log_of host.store)) (spent : IsSpent (is_due_in host.store) (is_due_in new.store) acting.world.state.head.name) where
+    leaves_renewed : ((other : ℕ) → other ≢ place → realm new.core other ≡ realm host.core other) → Leaves host new place actor.name
+    leaves_renewed others =
+        let name = acting.world.state.head.name in record {
+          realms = others;
+          due = λ other differ. spent other ∙ ap (λ n. if bytes_eq n other then false else is_due_in host.store other) (sym own_name) ∙ rw differ refl;
+          known = λ other. ap (λ (l : Log). is_some (l.epochs other)) log ∙ renewed_known (log_of host.store) name other;
+          parts = λ other epoch rows differ part. subst (λ l. IsPart l other epoch rows) (sym log) (renewed_others (log_of host.store) name other epoch rows (ap (λ n. bytes_eq n other) (sym own_name) ∙ differ) part);
+        }
+
+    pub renews_so : (recovery : Recovery) → IsWilling recovery acting → IsRenewed {S = Memory} (λ s log. log_of s ≡ log) (λ s. Unit {0}) recovery acting.world.state host.store new.store (realm new.core place) →
+        (IsTrue (is_due_in host.store acting.world.state.head.name) → ⊥) → (acting.world.state.head.epoch == last_epoch) ≡ false →
+        ((other : ℕ) → other ≢ place → realm new.core other ≡ realm host.core other) → HaveNames new.core →
+        actor'.name ≡ actor.name → actor'.readers.items ≡ [] → actor'.errands ≡ actor.errands → actor'.is_due ≡ actor.is_due →
+        (printed printed' : List ℕ) → printed' ≡ printed ++ (renewed acting.due acting).printed → IsDone host new place actor actor' printed printed' (renewed acting.due acting)
+    renews_so recovery willing after never not_last others names name' readers' errands' due' printed printed' text =
+        let name = acting.world.state.head.name in
+        let rows = acting.world.rows in
+        let due : acting.due ≡ false = sym is.served.due_is ∙ not_due (is_due_in host.store name) never in
+        let epoch = rises (log_of host.store) name acting.world.state.head.epoch rows is.rows is.served.known not_last in
+        subst (λ b. IsDone host new place actor actor' printed printed' (renewed b acting)) (sym due) (record {
+          own = record {
+            served = record {
+              state_is = state_again recovery willing after;
+              names = names;
+              due_is = spent name ∙ rw (itself name) (sym due);
+              known = ap (λ (l : Log). is_some (l.epochs name)) log ∙ renewed_known (log_of host.store) name name ∙ is.served.known;
+            };
+            rows = subst (λ l. IsPart l name (acting.world.state.head.epoch + 1) rows) (sym log) (subst (λ e. IsPart (with_raised name (log_of host.store)) name e rows) epoch (renewed_part (log_of host.store) name acting.world.state.head.epoch rows is.rows is.served.known));
+            named = is.named;
+            name = name' ∙ is.name;
+            errands = ap (λ e. e.items) errands' ∙ is.errands;
+            due = due' ∙ is.due;
+            readings = subst (λ rs. AreReadings rs []) (sym readers') tt;
+          };
+          leaves = leaves_renewed others;
+          name = name';
+          text = subst (λ b. printed' ≡ printed ++ (renewed b acting).printed) due text;
+        })
+
+  -- the store was to refuse it
+  pub refuses_so : log_of new.store ≡ log_of host.store → IsSpent (is_due_in host.store) (is_due_in new.store) acting.world.state.head.name → ((other : ℕ) → realm new.core other ≡ realm host.core other) →
+      actor.is_due ≡ true → actor'.name ≡ actor.name → actor'.readers ≡ actor.readers → actor'.errands ≡ actor.errands → actor'.is_due ≡ false →
+      (printed printed' : List ℕ) → printed' ≡ printed ++ refusal_text actor.name Refused → IsDone host new place actor actor' printed printed' (renewed acting.due acting)
+  refuses_so log spent same due name' readers' errands' due' printed printed' text =
+      let name = acting.world.state.head.name in
+      let was_due : acting.due ≡ true = sym is.due ∙ due in
+      subst (λ b. IsDone host new place actor actor' printed printed' (renewed b acting)) (sym was_due) (record {
+        own = record {
+          served = record {
+            state_is = same place ∙ is.served.state_is;
+            names = λ p q this that here there. is.served.names p q this that (sym (same p) ∙ here) (sym (same q) ∙ there);
+            due_is = spent name ∙ rw (itself name) refl;
+            known = ap (λ (l : Log). is_some (l.epochs name)) log ∙ is.served.known;
+          };
+          rows = subst (λ l. IsPart l name acting.world.state.head.epoch acting.world.rows) (sym log) is.rows;
+          named = is.named;
+          name = name' ∙ is.name;
+          errands = ap (λ e. e.items) errands' ∙ is.errands;
+          due = due';
+          readings = subst (λ (rs : _). AreReadings rs.items acting.readings) (sym readers') is.readings;
+        };
+        leaves = record {
+          realms = λ other differ. same other;
+          due = λ other differ. spent other ∙ ap (λ n. if bytes_eq n other then false else is_due_in host.store other) (sym own_name) ∙ rw differ refl;
+          known = λ other. ap (λ (l : Log). is_some (l.epochs other)) log;
+          parts = λ other epoch rows differ part. subst (λ l. IsPart l other epoch rows) (sym log) part;
+        };
+        name = name';
+        text = text ∙ ap (λ n. printed ++ refusal_text n Refused) is.name ∙ ap (λ t. printed ++ t) (sym (append-nil (refusal_text acting.name Refused)));
+      })
+
+-- The next epoch
+
+module _ (head : Head) (found : Option Head) (result : Option ℕ) (there : found ≡ Some head) (is : result ≡ option_and_then (λ (h : Head). if h.epoch == last_epoch then None else Some (h.epoch + 1)) found) where
+  of_head : result ≡ (if head.epoch == last_epoch then None else Some (head.epoch + 1))
+  of_head = is ∙ ap (option_and_then (λ (h : Head). if h.epoch == last_epoch then None else Some (h.epoch + 1))) there
+
+  pub was_last : result ≡ None → (head.epoch == last_epoch) ≡ true
+  was_last none = by (head.epoch == last_epoch) (sym of_head ∙ none) where
+    by : (b : Bool) → (if b then None else Some (head.epoch + 1)) ≡ None → b ≡ true
+    by true same = refl
+    by false same = absurd (none-some (head.epoch + 1) (sym same))
+
+  pub not_last : (epoch : ℕ) → result ≡ Some epoch → (epoch ≡ head.epoch + 1) × ((head.epoch == last_epoch) ≡ false)
+  not_last epoch some = by (head.epoch == last_epoch) (sym of_head ∙ some) where
+    by : (b : Bool) → (if b then None else Some (head.epoch + 1)) ≡ Some epoch → (epoch ≡ head.epoch + 1) × (b ≡ false)
+    by true same = absurd (none-some epoch same)
+    by false same = (sym (same_Some (head.epoch + 1) epoch same), refl)
+
+-- The whole
+
+module _ (host : Host) (place : ℕ) (actor : Actor) (acting : Acting) (is : IsActing host place actor acting) where
+  pub at_its_end : (printed printed' : List ℕ) → (acting.world.state.head.epoch == last_epoch) ≡ true → printed' ≡ printed ++ refusal_text actor.name EpochEnd → IsDone host host place actor actor printed printed' (renews acting)
+  at_its_end printed printed' last text = rw last (record {
+    own = is;
+    leaves = stays host place actor.name;
+    name = refl;
+    text = text ∙ ap (λ n. printed ++ refusal_text n EpochEnd) is.name;
+  })
+
+  pub renews_all : (mid host' : Host) (actor' : Actor) (printed printed' : List ℕ) → (acting.world.state.head.epoch == last_epoch) ≡ false → Leaves host mid place actor.name → IsDone mid host' place actor actor' printed printed' (renewed acting.due acting) → IsDone host host' place actor actor' printed printed' (renews acting)
+  renews_all mid host' actor' printed printed' not_last first done = rw not_last (record {
+    own = done.own;
+    leaves = leaves_on host mid host' place actor.name first done.leaves;
+    name = done.name;
+    text = done.text;
+  })
+
+-- where nothing but a reading was done
+module _ (host mid : Host) (core : mid.core ≡ host.core) (log : log_of mid.store ≡ log_of host.store) (due : (name : List ℕ) → is_due_in mid.store name ≡ is_due_in host.store name) (place : ℕ) where
+  pub acts_still : (actor : Actor) (acting : Acting) → IsActing host place actor acting → IsActing mid place actor acting
+  acts_still actor acting acts = record {
+    served = record {
+      state_is = ap (λ c. realm c place) core ∙ acts.served.state_is;
+      names = subst HaveNames (sym core) acts.served.names;
+      due_is = due acting.world.state.head.name ∙ acts.served.due_is;
+      known = ap (λ (l : Log). is_some (l.epochs acting.world.state.head.name)) log ∙ acts.served.known;
+    };
+    rows = subst (λ l. IsPart l acting.world.state.head.name acting.world.state.head.epoch acting.world.rows) (sym log) acts.rows;
+    named = acts.named;
+    name = acts.name;
+    errands = acts.errands;
+    due = acts.due;
+    readings = acts.readings;
+  }
+
+  pub leaves_still : (name : List ℕ) → Leaves host mid place name
+  leaves_still name = record {
+    realms = λ other differ. ap (λ c. realm c other) core;
+    due = λ other differ. due other;
+    known = λ other. ap (λ (l : Log). is_some (l.epochs other)) log;
+    parts = λ other epoch rows differ part. subst (λ l. IsPart l other epoch rows) (sym log) part;
+  }
+
+-- of each realm that it may be
+pub for_each : {T E A : Type 0} (Q P : A → Type 0) (result : Result T E) → ((a : A) → Q a → OnOk result (P a)) → OnOk result ((a : A) → Q a → P a)
+for_each Q P (Ok x) all = all
+for_each Q P (Err fault) all = tt

@@ -1,0 +1,124 @@
+//! One realm of a script starts again while the others run.
+ghost use Rattle.std.specs.Prelude.{◌≡◌, ◌+◌, ◌++◌, ◌==◌, None, Some, OnOk, if◌then◌else◌, slice_get, string_bytes};
+ghost use Rattle.std.specs.List.{flat_map};
+ghost use Rattle.std.specs.Option.{option_and_then};
+ghost use Rattle.tip_actor.specs.Acting.{Acting, renewed, renews};
+ghost use Rattle.tip_actor.specs.Standing.{Acts, IsActing, IsDone};
+ghost use Rattle.tip_core.specs.Hosted.{realm as realm_at};
+ghost use Rattle.tip_machine.specs.Answers.{identifier};
+ghost use Rattle.tip_machine.specs.Moves.{drops_at};
+ghost use Rattle.tip_machine.specs.States.{State};
+ghost use Rattle.tip_rows.specs.Logs.{last_epoch};
+ghost use Rattle.tip_rows.specs.Rows.{branches_of};
+ghost use Rattle.tip_transcript.specs.Printing.{adopted_text, shown_text, start_text};
+ghost use Rattle.tip_scene.specs.Rising.{IsWilling};
+
+use crate::boxes::dealt_to_rows;
+use crate::rising::print_adoptions;
+use std::alloc::{AllocError, Global};
+use tip_actor::{Actor, print_here};
+use tip_branch::Branch;
+use tip_core::Core;
+use tip_host::{Host, RenewFault};
+use tip_line::Refusal;
+use tip_machine::Head;
+use tip_recovery::{Recovery, Unfinished};
+use tip_rows::MemRows;
+use tip_transcript::{print_refusal, print_start};
+
+/// The realm starts again, and each branch of its rows has one of these boxes. After the last epoch it does not.
+pub(crate) fn renew(
+    actor: &mut Actor,
+    alloc: Global,
+    host: &mut Host<MemRows>,
+    place: usize,
+    mut boxes: Vec<Box<dyn Branch + Send>>,
+    printed: &mut String,
+) -> Result<(), AllocError>
+    ensures { OnOk result (Acts host.old host.new place actor.old actor.new (string_bytes printed.old) (string_bytes printed.new) renews) }
+{
+    let Some(epoch) = next_epoch(host.core.heads(), place) else {
+        return print_refusal(printed, actor.name.as_str(), Refusal::EpochEnd);
+    };
+    let Ok(mut recovery) = host.doubts(alloc, place) else {
+        return Err(AllocError);
+    };
+    let lots = dealt_to_rows(alloc, &mut boxes, recovery.rows())?;
+    if !recovery.adopt_all(lots) {
+        return Err(AllocError);
+    }
+    renew_by(actor, alloc, host, place, epoch, recovery, printed)
+}
+
+/// The epoch in which a realm would start again; None after the last.
+fn next_epoch(heads: &[Head], place: usize) -> Option<u32>
+    ensures { result ≡ option_and_then (λ head. if head.epoch == last_epoch then None else Some (head.epoch + 1)) (slice_get heads.now place) }
+{
+    match heads.get(place) {
+        Some(head) => epoch_after(head.epoch),
+        None => None,
+    }
+}
+
+/// The epoch after this one, if it is not the last.
+fn epoch_after(epoch: u32) -> Option<u32>
+    ensures { result ≡ (if epoch == last_epoch then None else Some (epoch + 1)) }
+{
+    if epoch == u32::MAX {
+        None
+    } else {
+        Some(epoch + 1)
+    }
+}
+
+/// The realm starts again in this epoch, by its rows and their boxes, unless the store is to refuse that.
+fn renew_by(
+    actor: &mut Actor,
+    alloc: Global,
+    host: &mut Host<MemRows>,
+    place: usize,
+    epoch: u32,
+    recovery: Recovery,
+    printed: &mut String,
+) -> Result<(), AllocError>
+    ensures { (acting : Acting) → IsActing host.old place actor.old acting → IsWilling recovery acting → epoch ≡ acting.world.state.head.epoch + 1 → OnOk result (IsDone host.old host.new place actor.old actor.new (string_bytes printed.old) (string_bytes printed.new) (renewed acting.due acting)) }
+{
+    let mut opening = String::new(alloc);
+    let name = actor.name.as_str();
+    print_opening(
+        &mut opening,
+        name,
+        &host.core,
+        place,
+        epoch,
+        recovery.rows(),
+    )?;
+    match host.renew(alloc, place, recovery) {
+        Ok(_left) => {
+            printed.push_str(&opening)?;
+            actor.readers.clear();
+            Ok(())
+        }
+        Err((RenewFault::NotRaised, _)) if actor.is_due => {
+            actor.is_due = false;
+            print_refusal(printed, actor.name.as_str(), Refusal::Refused)
+        }
+        Err(_) => Err(AllocError),
+    }
+}
+
+/// Prints what a realm lets go that starts again, the epoch in which it does, and the branches that were adopted for its rows.
+fn print_opening(
+    printed: &mut String,
+    name: &str,
+    core: &Core,
+    place: usize,
+    epoch: u32,
+    rows: &[Unfinished],
+) -> Result<(), AllocError>
+    ensures { (state : State) → realm_at core.now place ≡ Some state → OnOk result (string_bytes printed.new ≡ string_bytes printed.old ++ (flat_map (λ transaction. shown_text name.now (drops_at transaction.place)) state.transactions ++ (start_text name.now epoch ++ flat_map (λ row. adopted_text name.now (identifier row.realm row.key) (branches_of row.row)) rows.now))) }
+{
+    print_here(printed, name, core, place)?;
+    print_start(printed, name, epoch)?;
+    print_adoptions(printed, name, rows)
+}
