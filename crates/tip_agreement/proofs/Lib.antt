@@ -50,6 +50,7 @@ pub mod Restarts
 pub mod Resuming
 pub mod Returned
 pub mod Rows
+pub mod Runs
 pub mod Sound
 pub mod Speaking
 pub mod Spelling
