@@ -12,8 +12,9 @@ use std::env;
 use std::fmt::Display;
 use std::io::{self, BufReader, BufWriter};
 use std::process::ExitCode;
+use tip_history::play;
 use tip_listing::RowsFault;
-use tip_play::{PlayFault, play};
+use tip_play::PlayFault;
 
 /// Says what is wrong, and how the process ends: where the text can't be written, the status still tells.
 fn fail<F: Display + Drop>(rt: &HostRuntime, fault: F, status: u8) -> ExitCode {

@@ -1,0 +1,41 @@
+-- A REALM IS ALONE (ours): it prints what it prints where no other realm is there, by the lines of the script that concern it.
+use Rattle.std.specs.Prelude.{◌≡◌, ℕ, Bool, true, false, List, [], ◌∷◌, ◌++◌, filter, Option, Some, None, slice_get}
+use Rattle.std.specs.List.{list_any}
+use Rattle.std.specs.Option.{option_map_or}
+use Rattle.std.specs.Str.{bytes_eq}
+use Rattle.tip_line.specs.Words.{is_realm}
+use Rattle.tip_actor.specs.Acting.{Acting}
+use Rattle.tip_scene.specs.Scenes.{Moved, Scene, is_named, moved}
+use Rattle.tip_script.specs.Scripts.{Move, realm_of}
+use Rattle.tip_history.specs.Sayings.{Line, are_spelled, lines_on, lines_text, shown_of}
+
+-- a line concerns the realm that it names, and a restart concerns all
+abbrev pub concerns : List ℕ → Move → Bool
+concerns name move = option_map_or (bytes_eq name) (realm_of move) true
+
+abbrev pub own : List ℕ → List Move → List Move
+own name moves = filter (concerns name) moves
+
+-- it names a realm as realms are spelled
+abbrev pub is_spelled : Move → Bool
+is_spelled move = option_map_or is_realm (realm_of move) true
+
+-- lines one after another, until one may not stand
+abbrev pub and_then : List ℕ → Option Scene → (Scene → Moved) → Moved
+and_then printed None later = record { printed = printed; scene = None }
+and_then printed (Some scene) later = record { printed = printed ++ (later scene).printed; scene = (later scene).scene }
+
+abbrev pub all_moved : List Move → Scene → Moved
+all_moved [] scene = record { printed = []; scene = Some scene }
+all_moved (move ∷ moves) scene = and_then (moved move scene).printed (moved move scene).scene (all_moved moves)
+
+-- what is printed is said of realms; what is said of one is what it prints alone, and it is then as it is alone; of a realm that is
+-- not there nothing is shown
+pub record IsAlone (moves : List Move) (scene next : Scene) (printed : List ℕ) : Type 0 where
+  pub lines : List Line
+  pub text_is : printed ≡ lines_text lines
+  pub spelled : are_spelled lines ≡ true
+  pub each : (place : ℕ) (acting : Acting) → slice_get scene place ≡ Some acting →
+      (now : Acting) × (slice_get next place ≡ Some now)
+      × (all_moved (own acting.name moves) (acting ∷ []) ≡ record { printed = lines_text (lines_on acting.name lines); scene = Some (now ∷ []) })
+  pub silent : (name : List ℕ) → list_any (is_named name) scene ≡ false → shown_of name lines ≡ []

@@ -1,0 +1,3 @@
+pub mod Sayings
+pub mod Histories
+pub mod Alone
