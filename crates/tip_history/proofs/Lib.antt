@@ -5,3 +5,4 @@ pub mod Declaring
 pub mod Spelling
 pub mod Playing
 pub mod Apart
+pub mod Naming

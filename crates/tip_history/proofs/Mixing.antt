@@ -110,7 +110,7 @@ spelled_by name [] is = refl
 spelled_by name (saying ∷ said) is = and_from (is_realm name) _ is (spelled_by name said is)
 
 -- a realm that starts has a name as realms have
-named_so : (world : World) → IsStart world → is_realm world.state.head.name ≡ true
+pub named_so : (world : World) → IsStart world → is_realm world.state.head.name ≡ true
 named_so world start =
     let head = world.state.head in
     let entries = and_parts _ (head.entries == 0) start.head in
