@@ -1,13 +1,9 @@
--- The items of a stream, as more of it comes and as they are taken.
-use Rattle.std.proofs.Common.{◌≡◌, ℕ, List, [], ◌∷◌, ◌++◌, length, drop, Bool, true, false, Option, Some, None, option_map, subst, refl, sym, ap, ◌∙◌}
-use Rattle.std.proofs.lemmas.List.{append_assoc, append-nil, drop_at}
+-- The items of a stream, as more of it comes.
+use Rattle.std.proofs.Common.{◌≡◌, ℕ, List, [], ◌∷◌, ◌++◌, length, drop, Bool, true, false, Option, Some, None, refl, sym, ap, ◌∙◌}
+use Rattle.std.proofs.lemmas.List.{append_assoc, drop_at}
 use Rattle.tip_line.specs.Octets.{is_end}
-use Rattle.std.specs.Borrow.{Bor}
-use Rattle.tip_line.specs.Reading.{Item, Text, Bad, Leaves, Gives, said, item_of, items_from, items_of, cause_of}
-use Rattle.tip_line.specs.declared.lines.Line.{Line}
-use Rattle.tip_line.specs.declared.lines.Line.TheVariants as line
+use Rattle.tip_line.specs.Reading.{Item, said, items_from, items_of, cause_of}
 use Rattle.tip_line.specs.declared.lines.Cause.{Cause}
-use Rattle.tip_line.proofs.ReadingLaws.{reads_items, reads_one}
 use Rattle.tip_actor.specs.Acting.{lines_of}
 
 -- what was given stays, whatever comes
@@ -35,20 +31,3 @@ pub lines_behind : (heard octets more : List ℕ) → lines_of heard (octets ++ 
 lines_behind heard octets more =
     let whole = items_behind (heard ++ octets) more ∙ ap (λ items. items ++ lines_of (heard ++ octets) more) (items_behind heard octets) ∙ append_assoc (items_of heard) (lines_of heard octets) (lines_of (heard ++ octets) more) in
     ap (λ o. drop (length (items_of heard)) (items_of o)) (sym (append_assoc heard octets more)) ∙ ap (drop (length (items_of heard))) whole ∙ drop_at (items_of heard) (lines_of heard octets ++ lines_of (heard ++ octets) more) (length (items_of heard)) refl
-
--- what a reader of lines gives behind items that it gave
-pub given_behind : (old : List ℕ) (items : List Item) (new : List ℕ) → Leaves old items new → (more : List ℕ) → items_of (old ++ more) ≡ items ++ items_of (new ++ more)
-given_behind old items new leaves more = reads_one (old ++ more) (items_of (old ++ more)) (items ++ items_of (new ++ more)) (reads_items (old ++ more)) ((leaves.same more (items_of (new ++ more))).0 (reads_items (new ++ more)))
-
--- What the result of a reader of lines says of what it still gives
-
-pub text_given : (old new : List ℕ) (r : Option Line) (text : Bor (List ℕ)) → Gives old (option_map item_of r) new → r ≡ Some (line.Text text) → (more : List ℕ) → items_of (old ++ more) ≡ Text text.now ∷ items_of (new ++ more)
-text_given old new r text given is more = given_behind old (Text text.now ∷ []) new (subst (λ s. Gives old (option_map item_of s) new) is given).0 more
-
-pub fault_given : (old new : List ℕ) (r : Option Line) (cause : Cause) → Gives old (option_map item_of r) new → r ≡ Some (line.Bad cause) → (more : List ℕ) → items_of (old ++ more) ≡ Bad cause ∷ []
-fault_given old new r cause given is more = reads_one (old ++ more) (items_of (old ++ more)) (Bad cause ∷ []) (reads_items (old ++ more)) ((subst (λ s. Gives old (option_map item_of s) new) is given).0 more)
-
-pub nothing_given : (old new : List ℕ) (r : Option Line) → Gives old (option_map item_of r) new → r ≡ None → (items_of (old ++ []) ≡ []) × ((more : List ℕ) → items_of (new ++ more) ≡ items_of (old ++ more))
-nothing_given old new r given is =
-    let g = subst (λ s. Gives old (option_map item_of s) new) is given in
-    (ap items_of (append-nil old) ∙ reads_one old (items_of old) [] (reads_items old) g.0, λ more. sym (given_behind old [] new g.1 more))

@@ -14,6 +14,7 @@ use Rattle.tip_rows.specs.declared.row.Row.TheVariants as row
 use Rattle.tip_rows.proofs.MemoryLemmas.{bytes_eq-self, same_text}
 use Rattle.tip_txn.specs.declared.answer.Phase.{Phase}
 use Rattle.tip_txn.specs.declared.answer.Phase.TheVariants.{Active, Asking, Prepared, Committed, Aborted}
+use Rattle.tip_machine.proofs.Storing.{before_apart}
 use Rattle.tip_machine.specs.Given.{was_given}
 use Rattle.tip_machine.specs.Heads.{are_allowed, is_within}
 use Rattle.tip_machine.specs.Honest.{can_start, is_honest}
@@ -37,7 +38,7 @@ use Rattle.tip_rows.proofs.OrderLemmas.{same_key}
 use Rattle.tip_agreement.proofs.Apart.{all_found, all_more, kept_apart}
 use Rattle.tip_agreement.proofs.Keys.{key_self}
 use Rattle.tip_line.specs.Words.{is_address, is_realm}
-use Rattle.tip_agreement.proofs.Starts.{back, backs, before_apart, has_bounds, skipped, starts_sound}
+use Rattle.tip_agreement.proofs.Starts.{back, backs, has_bounds, skipped, starts_sound}
 
 -- The epoch of a key that was given
 

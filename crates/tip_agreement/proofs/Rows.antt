@@ -16,12 +16,11 @@ use Rattle.tip_machine.specs.Transactions.{has_key}
 use Rattle.tip_machine.specs.Types.{Transaction}
 use Rattle.tip_machine.specs.declared.event.Change.{Change}
 use Rattle.tip_machine.specs.declared.event.Change.TheVariants.{Put, Remove}
-use Rattle.tip_machine.proofs.Storing.{put_at, removed_at, rising_put, rising_removed}
+use Rattle.tip_machine.proofs.Storing.{before_apart, put_at, removed_at, rising_put, rising_removed}
 use Rattle.tip_machine.proofs.Walks.{found_passes}
 use Rattle.tip_agreement.proofs.Apart.{all_found}
 use Rattle.tip_agreement.proofs.Keys.{key_self, keys_of}
 use Rattle.tip_agreement.proofs.Onward.{row_in, says}
-use Rattle.tip_agreement.proofs.Starts.{before_apart}
 use Rattle.tip_agreement.proofs.Around.{turned_about}
 
 -- what is stored then

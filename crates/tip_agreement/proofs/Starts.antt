@@ -18,6 +18,7 @@ use Rattle.tip_txn.specs.declared.answer.Ballot.TheVariants.{Yes}
 use Rattle.tip_txn.specs.declared.part.Participant.{Participant}
 use Rattle.tip_agreement.proofs.Keys.{key_self}
 use Rattle.tip_agreement.proofs.Apart.{all_more}
+use Rattle.tip_machine.proofs.Storing.{before_apart}
 use Rattle.tip_machine.specs.Answers.{identifier}
 use Rattle.tip_machine.specs.Given.{was_given}
 use Rattle.tip_machine.specs.Heads.{are_allowed, is_within}
@@ -39,9 +40,6 @@ use Rattle.tip_txn.specs.declared.answer.Decision.TheVariants as decisions
 use Rattle.tip_txn.specs.declared.answer.Phase.TheVariants.{Prepared, Committed}
 
 -- Keys
-
-pub before_apart : (this that : Key) → comes_before this that ≡ true → is_same this that ≡ false
-before_apart this that before = grind (arith, nat_tests)
 
 pub skipped : (e : Key × Row) (rows : List (Key × Row)) (key : Key) → is_same e.0 key ≡ false → row_at key (e ∷ rows) ≡ row_at key rows
 skipped e rows key apart = rw apart refl

@@ -10,7 +10,7 @@ use Rattle.tip_line.specs.declared.lines.Cause.{Cause}
 use Rattle.tip_line.specs.declared.lines.Line.{Line}
 use Rattle.tip_line.specs.declared.lines.Line.TheVariants as line
 use Rattle.tip_line.specs.declared.response.Response.{Response}
-use Rattle.tip_line.proofs.ReadingLaws.{reads_items, reads_one}
+use Rattle.tip_line.proofs.GivenLines.{given_behind, text_given, fault_given, nothing_given}
 use Rattle.tip_line.proofs.ReadingLemmas.{nothing_left}
 use Rattle.tip_client.specs.Hearing.{Adds, AnswersBy, Begins, BeginsWith, GivesSame, Hears, Takes}
 use Rattle.tip_client.specs.declared.fault.ClientFault.{ClientFault}
@@ -18,19 +18,17 @@ use Rattle.tip_client.specs.declared.fault.ClientFault.TheVariants.{Unexpected, 
 
 -- A reader of lines gives what its stream gives
 
-given_behind : (old : List ℕ) (items : List Item) (new : List ℕ) → Leaves old items new → (more : List ℕ) → items_of (old ++ more) ≡ items ++ items_of (new ++ more)
-given_behind old items new leaves more = reads_one (old ++ more) (items_of (old ++ more)) (items ++ items_of (new ++ more)) (reads_items (old ++ more)) ((leaves.same more (items_of (new ++ more))).0 (reads_items (new ++ more)))
-
 pub text_begins : (old new : List ℕ) (r : Option Line) (text : Bor (List ℕ)) → Gives old (option_map item_of r) new → r ≡ Some (line.Text text) → Begins old (Text text.now) new
-text_begins old new r text given is more = given_behind old (Text text.now ∷ []) new (subst (λ s. Gives old (option_map item_of s) new) is given).0 more
+text_begins old new r text given is = text_given old new r text given is
 
 pub fault_begins : (old new : List ℕ) (r : Option Line) (cause : Cause) → Gives old (option_map item_of r) new → r ≡ Some (line.Bad cause) → BeginsWith old (Bad cause)
-fault_begins old new r cause given is more = ([], reads_one (old ++ more) (items_of (old ++ more)) (Bad cause ∷ []) (reads_items (old ++ more)) ((subst (λ s. Gives old (option_map item_of s) new) is given).0 more))
+fault_begins old new r cause given is more = ([], fault_given old new r cause given is more)
 
 pub nothing_begins : (old new : List ℕ) (r : Option Line) → Gives old (option_map item_of r) new → r ≡ None → Reads new [] × (items_of old ≡ []) × GivesSame old new
 nothing_begins old new r given is =
-    let g = subst (λ s. Gives old (option_map item_of s) new) is given in
-    (nothing_left old new g.1 g.0, reads_one old (items_of old) [] (reads_items old) g.0, λ more. sym (given_behind old [] new g.1 more))
+    let none = nothing_given old new r given is in
+    let left = subst (λ s. Gives old (option_map item_of s) new) is given in
+    (nothing_left old new left.1 left.0, ap items_of (sym (append-nil old)) ∙ none.0, none.1)
 
 pub begins_with : (octets : List ℕ) (item : Item) (others : List ℕ) → Begins octets item others → BeginsWith octets item
 begins_with octets item others begins more = (items_of (others ++ more), begins more)

@@ -8,5 +8,6 @@ pub mod Texts
 pub mod Responses
 pub mod IdLemmas
 pub mod ReadingLaws
+pub mod GivenLines
 pub mod Printing
 pub mod FieldLemmas

@@ -17,7 +17,7 @@ use Rattle.tip_machine.specs.Moves.{row_put}
 before_then : (a b c : Key) → comes_before a b ≡ true → comes_before b c ≡ true → comes_before a c ≡ true
 before_then a b c first next = grind (arith, nat_tests)
 
-before_apart : (a b : Key) → comes_before a b ≡ true → is_same a b ≡ false
+pub before_apart : (a b : Key) → comes_before a b ≡ true → is_same a b ≡ false
 before_apart a b before = grind (arith, nat_tests)
 
 turned_about : (a b : Key) → is_same a b ≡ false → is_same b a ≡ false

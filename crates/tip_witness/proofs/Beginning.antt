@@ -25,7 +25,7 @@ use Rattle.tip_machine.specs.declared.head.Head.{Head}
 use Rattle.tip_machine.specs.declared.transaction.PartyPlace.TheVariants.{Here, Out, Spent}
 use Rattle.tip_agreement.proofs.Apart.{all_more}
 use Rattle.tip_agreement.proofs.Keys.{key_self}
-use Rattle.tip_agreement.proofs.Starts.{before_apart}
+use Rattle.tip_machine.proofs.Storing.{before_apart}
 use Rattle.tip_witness.proofs.Keeping.{AreCared, AreShown, Cares, in_all, is_cared, is_shown, waits_among}
 use Rattle.tip_witness.proofs.Walking.{In}
 

@@ -1,7 +1,7 @@
 -- A reader says what its lines give.
 use Rattle.std.proofs.Common.{Some, ap, ◌∙◌}
 use Rattle.tip_line.specs.Reading.{Text, Bad}
-use Rattle.tip_actor.proofs.Hearing.{text_given, fault_given, nothing_given}
+use Rattle.tip_line.proofs.GivenLines.{text_given, fault_given, nothing_given}
 use Rattle.tip_actor.proofs.reader.Reader.next.Goals as goal
 
 pub returns-in_ok-of-in-Some-Text-clause-says : goal.returns-in_ok-of-in-Some-Text-clause-says
