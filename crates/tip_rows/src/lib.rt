@@ -9,20 +9,18 @@ mod log;
 mod medium;
 mod memory;
 mod reading;
-#[cfg(test)]
-mod refusals;
 mod row;
 mod subordinates;
-#[cfg(test)]
-mod tests;
 mod text;
 
 pub use branches::Branches;
+pub use heap_row::HeapRow;
 pub use key::Key;
 pub use label::{Label, LabelFault};
 pub use log::{LoadFault, Loaded, RaiseFault, Refused, RowLog};
 pub use medium::{Medium, OwnMemory};
 pub use memory::MemRows;
+pub use reading::row_on;
 pub use row::Row;
 pub use subordinates::Subordinates;
 pub use text::RowFault;

@@ -114,11 +114,7 @@ impl<A: Allocator> MemRows<A> {
     }
 
     /// What is stored of a realm, in a list on this heap; the lists of its rows are on `Global`.
-    pub(crate) fn load_in<B: Allocator>(
-        &self,
-        heap: B,
-        realm: &Realm,
-    ) -> Result<Loaded<B>, LoadFault>
+    pub fn load_in<B: Allocator>(&self, heap: B, realm: &Realm) -> Result<Loaded<B>, LoadFault>
         ensures part { IfOk result (λ loaded. IsPart (log_of self.now) realm.now loaded.epoch loaded.rows.items) }
         ensures memory { IfErr result (λ fault. fault ≡ LoadFault.Memory) }
     {
@@ -132,7 +128,7 @@ impl<A: Allocator> MemRows<A> {
     }
 
     /// The names of the known realms, rising, in a list on this heap.
-    pub(crate) fn realms_in<B: Allocator>(&self, heap: B) -> Result<Vec<Realm, B>, LoadFault>
+    pub fn realms_in<B: Allocator>(&self, heap: B) -> Result<Vec<Realm, B>, LoadFault>
         ensures names { IfOk result (λ names. AreNames (log_of self.now) names.items) }
         ensures memory { IfErr result (λ fault. fault ≡ LoadFault.Memory) }
     {

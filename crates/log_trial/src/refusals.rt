@@ -1,11 +1,9 @@
 //! Rows in memory on a heap of a fixed size, where each growth is refused in turn and then made.
-use crate::heap_row::HeapRow;
-use crate::reading::row_on;
-use crate::{Key, LoadFault, MemRows, Refused, Row, RowFault, RowLog};
 use linked_list_allocator::LocalHeap;
 use std::alloc::{AllocError, Global};
 use std::test::Fail;
 use tip_line::Realm;
+use tip_rows::{HeapRow, Key, LoadFault, MemRows, Refused, Row, RowFault, RowLog, row_on};
 
 /// How many octets the heap has.
 const HEAP_LEN: usize = 8192;

@@ -1,11 +1,11 @@
 //! Rows in memory on their happy path.
-use crate::{
-    Branches, Key, Label, LabelFault, MemRows, RaiseFault, Refused, Row, RowFault, RowLog,
-    Subordinates,
-};
 use std::alloc::Global;
 use std::test::Fail;
 use tip_line::Realm;
+use tip_rows::{
+    Branches, Key, Label, LabelFault, MemRows, RaiseFault, Refused, Row, RowFault, RowLog,
+    Subordinates,
+};
 
 fn row(alloc: Global) -> Result<Row, Fail> {
     let mut items = Vec::new(alloc);
