@@ -6,28 +6,19 @@ use Rattle.std.proofs.lemmas.Bool.{false≢true}
 use Rattle.std.proofs.lemmas.Slice.Eq.{bytes_eq-Decides}
 use Rattle.tip_core.specs.Hosted.{HaveNames, Steps}
 use Rattle.tip_host.specs.Keeping.{Keeps, is_change, log_after}
-use Rattle.tip_host.proofs.Parts.{part_after, part_stays}
+use Rattle.tip_host.proofs.Parts.{epochs_stay, part_after, part_stays}
 use Rattle.tip_machine.proofs.Stepping.{step-named}
 use Rattle.tip_machine.specs.Moves.{rows_after}
 use Rattle.tip_machine.specs.States.{State}
 use Rattle.tip_machine.specs.Steps.{fits, step, wants}
 use Rattle.tip_machine.specs.Types.{Event}
 use Rattle.tip_machine.specs.declared.event.Change.{Change}
-use Rattle.tip_machine.specs.declared.event.Change.TheVariants.{Put, Remove}
 use Rattle.tip_machine.specs.declared.event.Outcome.{Outcome}
 use Rattle.tip_machine.specs.declared.event.Outcome.TheVariants.{NoChange, Stored, Refused}
 use Rattle.tip_rows.specs.Logs.{IsPart, Log}
 use Rattle.tip_rows.specs.Memory.{Memory, is_due_in, log_of}
 use Rattle.tip_actor.specs.Acting.{outcome_of, still_due}
 use Rattle.tip_actor.specs.Standing.{Happened, Host, IsServed, Serves}
-
--- a change of rows leaves the realms known, with their epochs
-epochs_stay : (name : List ℕ) (change : Option Change) (outcome : Outcome) (log : Log) → (log_after name change outcome log).epochs ≡ log.epochs
-epochs_stay name None outcome log = refl
-epochs_stay name (Some (Put key row)) Stored log = refl
-epochs_stay name (Some (Remove key)) Stored log = refl
-epochs_stay name (Some change) NoChange log = refl
-epochs_stay name (Some change) Refused log = refl
 
 -- the outcome is that of a store which refuses where that is due alone
 outcome_is : (due : Bool) (change : Option Change) (outcome : Outcome) → fits change outcome ≡ true → (due ≡ true → outcome ≢ Stored) → (outcome ≡ Refused → due ≡ true) → outcome ≡ outcome_of due change

@@ -1,5 +1,5 @@
 -- A store that is led along a way of logs, call by call.
-use Rattle.std.proofs.Common.{arith, ◌≡◌, ℕ, zero, suc, ◌+◌, ◌<◌, Bool, true, false, List, [], ◌∷◌, ◌++◌, length, take, get_or, refl, ap, sym, subst, ◌∙◌, inl, inr}
+use Rattle.std.proofs.Common.{arith, ◌≡◌, ℕ, zero, suc, ◌+◌, ◌<◌, Bool, true, false, List, [], ◌∷◌, ◌++◌, Some, None, length, take, get_or, refl, ap, sym, subst, ◌∙◌, inl, inr}
 use Rattle.std.specs.Prelude.{Err, IfErr, IsErrAnd, Ok, OnErr, OnOk, Result, is_err, not, option_map, slice_get}
 use Rattle.std.specs.List.{list_all}
 use Rattle.std.specs.Str.{bytes_eq}
@@ -8,6 +8,7 @@ use Rattle.tip_machine.specs.Heads.{is_other, starting}
 use Rattle.tip_machine.specs.States.{started}
 use Rattle.tip_host.specs.Recovering.{HasBegun}
 use Rattle.std.proofs.lemmas.List.{take_all, take_more}
+use Rattle.std.proofs.lemmas.Option.{none-some, same_Some}
 use Rattle.tip_rows.specs.Logs.{LeavesOne, Log, counted, with_known}
 use Rattle.tip_recovery.specs.Adopting.{Recovery}
 use Rattle.tip_host.specs.Loading.{AreKnown, AreRead, AreTheirs, Goes, IsIts, IsKnown, IsRead, Never, Stays, known_all, names_differ, names_of, start_of, starts_of}
@@ -170,3 +171,28 @@ has_begun [] (r ∷ realms) own place = absurd own
 has_begun (s ∷ specs) [] own place = absurd own
 has_begun (s ∷ specs) (r ∷ realms) own zero = (starting (start_of s r.epoch), refl, record { name = sym own.0.name; epoch = refl })
 has_begun (s ∷ specs) (r ∷ realms) own (suc place) = has_begun specs realms own.1 place
+
+-- Each realm at its place
+
+pub named_at : (specs : List RealmSpec) (place : ℕ) (spec : RealmSpec) → slice_get specs place ≡ Some spec → slice_get (names_of specs) place ≡ Some spec.name
+named_at [] place spec here = absurd (none-some spec here)
+named_at (s ∷ specs) zero spec here = ap (λ (x : RealmSpec). Some x.name) (same_Some s spec here)
+named_at (s ∷ specs) (suc place) spec here = named_at specs place spec here
+
+pub read_at : (log : Log) (specs : List RealmSpec) (realms : List Recovery) (place : ℕ) (spec : RealmSpec) → AreRead log specs realms → slice_get specs place ≡ Some spec → (recovery : Recovery) × (slice_get realms place ≡ Some recovery) × IsRead log spec.name recovery
+read_at log [] realms place spec read here = absurd (none-some spec here)
+read_at log (s ∷ specs) [] place spec read here = absurd read
+read_at log (s ∷ specs) (r ∷ realms) zero spec read here = (r, refl, subst (λ (x : RealmSpec). IsRead log x.name r) (same_Some s spec here) read.0)
+read_at log (s ∷ specs) (r ∷ realms) (suc place) spec read here = read_at log specs realms place spec read.1 here
+
+pub start_at : (specs : List RealmSpec) (realms : List Recovery) (place : ℕ) (spec : RealmSpec) (recovery : Recovery) → slice_get specs place ≡ Some spec → slice_get realms place ≡ Some recovery → slice_get (starts_of specs realms) place ≡ Some (start_of spec recovery.epoch)
+start_at [] realms place spec recovery here there = absurd (none-some spec here)
+start_at (s ∷ specs) [] place spec recovery here there = absurd (none-some recovery there)
+start_at (s ∷ specs) (r ∷ realms) zero spec recovery here there = ap (λ (x : RealmSpec). Some (start_of x r.epoch)) (same_Some s spec here) ∙ ap (λ (x : Recovery). Some (start_of spec x.epoch)) (same_Some r recovery there)
+start_at (s ∷ specs) (r ∷ realms) (suc place) spec recovery here there = start_at specs realms place spec recovery here there
+
+pub no_start : (specs : List RealmSpec) (realms : List Recovery) (place : ℕ) → slice_get specs place ≡ None → slice_get (starts_of specs realms) place ≡ None
+no_start [] realms place none = refl
+no_start (s ∷ specs) [] place none = refl
+no_start (s ∷ specs) (r ∷ realms) zero none = absurd (none-some s (sym none))
+no_start (s ∷ specs) (r ∷ realms) (suc place) none = no_start specs realms place none

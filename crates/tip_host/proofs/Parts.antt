@@ -7,7 +7,7 @@ use Rattle.std.proofs.lemmas.Bool.Decides.{nat_tests}
 use Rattle.std.proofs.lemmas.Option.{same_Some}
 use Rattle.std.proofs.lemmas.Slice.Eq.{bytes_eq-Decides}
 use Rattle.tip_rows.specs.Keys.{Key, is_same}
-use Rattle.tip_rows.specs.Logs.{Log, IsPart, IsSpoiled, known, last_epoch, raised, raised_number, with_all_raised, with_at, with_known, with_raised}
+use Rattle.tip_rows.specs.Logs.{Log, IsAtEnd, IsPart, IsSpoiled, known, last_epoch, raised, raised_number, with_all_raised, with_at, with_known, with_raised}
 use Rattle.tip_rows.specs.declared.row.Row.{Row}
 use Rattle.tip_machine.proofs.Storing.{put_at, removed_at, rising_put, rising_removed}
 use Rattle.tip_machine.specs.Moves.{rows_after}
@@ -78,6 +78,14 @@ part_stays name (Some change) Refused log other epoch rows differ part = part
 part_stays name (Some (Put key row)) Stored log other epoch rows differ part = other_stays name key (Some row) log other epoch rows differ part
 part_stays name (Some (Remove key)) Stored log other epoch rows differ part = other_stays name key None log other epoch rows differ part
 
+-- and the realms known, with their epochs
+pub epochs_stay : (name : List ℕ) (change : Option Change) (outcome : Outcome) (log : Log) → (log_after name change outcome log).epochs ≡ log.epochs
+epochs_stay name None outcome log = refl
+epochs_stay name (Some (Put key row)) Stored log = refl
+epochs_stay name (Some (Remove key)) Stored log = refl
+epochs_stay name (Some change) NoChange log = refl
+epochs_stay name (Some change) Refused log = refl
+
 -- A start
 
 known_number : (stored : Option ℤ) → unwrap_or (known stored) (pos 0) ≡ unwrap_or stored (pos 0)
@@ -139,15 +147,15 @@ known_part (n ∷ names) zero log name epoch rows here part = record {
 }
 known_part (n ∷ names) (suc place) log name epoch rows here part = known_part names place (with_known n log) name epoch rows here (part_known n log name epoch rows part)
 
+pub number_of : {a b : ℕ} → pos a ≡ pos b → a ≡ b
+number_of same = cc
+
 -- a number that is stored is one of the epochs
 in_range : (log : Log) (name : List ℕ) (epoch : ℕ) (rows : List (Key × Row)) → IsKnownPart log name epoch rows → epoch ≤ last_epoch
 in_range log name epoch rows is = elim (cases_lt last_epoch epoch) [
   | inl past ↦ absurd (is.part.sound (inl (pos epoch, is.number, λ n within same. apart past n within (number_of same))))
   | inr within ↦ within
 ] where
-  number_of : {a b : ℕ} → pos a ≡ pos b → a ≡ b
-  number_of same = cc
-
   apart : last_epoch < epoch → (n : ℕ) → n ≤ last_epoch → epoch ≡ n → ⊥
   apart past n within same = omega (arith)
 
@@ -179,6 +187,17 @@ opened_part names place log name epoch rows here part = raised_part (known_all n
 
 pub opened_known : (names : List (List ℕ)) (place : ℕ) (log : Log) (name : List ℕ) (epoch : ℕ) (rows : List (Key × Row)) → slice_get names place ≡ Some name → IsPart log name epoch rows → is_some ((opened names log).epochs name) ≡ true
 opened_known names place log name epoch rows here part = ap (λ stored. is_some (option_map raised stored)) (known_part names place log name epoch rows here part).number
+
+-- where no known epoch is at its end, that of a realm can rise
+pub can_open : (names : List (List ℕ)) (place : ℕ) (log : Log) (name : List ℕ) (epoch : ℕ) (rows : List (Key × Row)) → slice_get names place ≡ Some name → IsPart log name epoch rows → ¬ IsAtEnd (known_all names log) name → epoch < last_epoch
+can_open names place log name epoch rows here part not_end =
+    let is = known_part names place log name epoch rows here part in
+    elim (cases_lt epoch last_epoch) [
+      | inl less ↦ less
+      | inr last ↦ absurd (not_end (is.number ∙ ap (λ e. Some (pos e)) (at_last (in_range (known_all names log) name epoch rows is) last)))
+    ] where
+      at_last : epoch ≤ last_epoch → last_epoch ≤ epoch → epoch ≡ last_epoch
+      at_last within last = omega (arith)
 
 -- what is stored of a realm that is known is so with its number
 known_number_is : (stored : Option ℤ) (epoch : ℕ) → is_some stored ≡ true → unwrap_or stored (pos 0) ≡ pos epoch → stored ≡ Some (pos epoch)

@@ -162,6 +162,8 @@ pub record Loads {S : Type 0} (stands may_leave : S → Log → Type 0) (is_true
   pub ok : IfOk result (λ loaded. Goes stands may_leave is_true faults is_due false (AreOpened (names_of specs)) (IsOnTheWay (names_of specs)) store loaded.store)
   pub realms : IfOk result (λ loaded. (place : ℕ) → realm loaded.core place ≡ option_map (λ start. started (starting start)) (slice_get (starts_of specs loaded.realms) place))
   pub read : (log : Log) → stands store log → IfOk result (λ loaded. is_true loaded.store → AreRead (opened (names_of specs) log) specs loaded.realms)
+  -- each known epoch could rise
+  pub risen : (log : Log) → stands store log → IfOk result (λ loaded. is_true loaded.store → (known : List ℕ) → ¬ IsAtEnd (known_all (names_of specs) log) known)
   -- and a stop leaves that log alone
   pub settled : IfOk result (λ loaded. is_true loaded.store → IsSettled stands may_leave loaded.store)
   pub hostable : OnOk result (are_hostable specs ≡ true)

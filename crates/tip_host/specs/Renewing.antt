@@ -1,11 +1,11 @@
 -- A realm that starts again while the others run: what is asked of the store, and why it may be refused.
-use Rattle.std.specs.Prelude.{◌≡◌, ◌⊎◌, ℕ, Bool, IsTrue, true, false, ◌&&◌, ◌==◌, List, map, Option, Some, Result, Ok, Err}
+use Rattle.std.specs.Prelude.{◌≡◌, ◌⊎◌, ◌<◌, ℕ, Bool, IsTrue, true, false, ◌&&◌, ◌==◌, List, map, Option, Some, Result, Ok, Err}
 use Rattle.tip_machine.specs.Moves.{risen}
 use Rattle.tip_machine.specs.Recovery.{restarted}
 use Rattle.tip_machine.specs.States.{State}
 use Rattle.tip_recovery.specs.Adopting.{Recovery, are_adopted, loaded}
 use Rattle.tip_recovery.specs.Renewing.{is_read_again, taking_all}
-use Rattle.tip_rows.specs.Logs.{Log, IsAtEnd, IsSpent, counted, with_raised}
+use Rattle.tip_rows.specs.Logs.{Log, IsAtEnd, IsSpent, counted, last_epoch, with_raised}
 use Rattle.tip_rows.specs.declared.log.RaiseFault.{RaiseFault}
 use Rattle.tip_rows.specs.declared.log.RaiseFault.TheVariants as raise
 use Rattle.tip_host.specs.Loading.{IsBad, IsRead}
@@ -65,10 +65,18 @@ pub record Rises {S T F : Type 0} (stands may_leave : S → Log → Type 0) (is_
 pub record IsRenewed {S : Type 0} (stands : S → Log → Type 0) (is_true : S → Type 0) (recovery : Recovery) (state : State) (old new : S) (now : Option State) : Type 0 where
   pub fresh : Recovery
   pub epoch : fresh.epoch ≡ state.head.epoch
+  pub rises : state.head.epoch < last_epoch
   pub again : is_read_again recovery fresh ≡ true
   pub adopted : are_adopted recovery.rows ≡ true
   pub read : (log : Log) → stands old log → is_true new → IsRead log state.head.name fresh
   pub state_is : now ≡ Some (restarted (risen state.head) (map loaded (taking_all recovery.rows fresh.rows)))
+
+-- the reason why what is stored of a realm was not read
+abbrev pub IsReasonToDoubt : Log → RenewFault → Type 0
+IsReasonToDoubt log BadRow = (realm : List ℕ) × IsBad log realm
+IsReasonToDoubt log NotRead = Unit {0}
+IsReasonToDoubt log Memory = Unit {0}
+IsReasonToDoubt log other = ⊥
 
 -- what was read is no more what is stored, or the realm has started again since
 pub record IsOutdated (log : Log) (state : State) (recovery : Recovery) : Type 0 where

@@ -1,10 +1,11 @@
 //! The core of all realms over a store of their rows.
-ghost use Rattle.std.specs.Prelude.{◌≡◌, ℕ, None, Some, true, false, IfOk, IfErr};
+ghost use Rattle.std.specs.Prelude.{◌≡◌, ◌↔◌, ℕ, None, Some, true, false, IfOk, IfErr};
 ghost use Rattle.tip_branch.specs.Always.{Always};
 ghost use Rattle.tip_core.specs.Hosted.{realm as realm_at, HaveNames, Steps};
 ghost use Rattle.tip_machine.specs.States.{State};
 ghost use Rattle.tip_machine.specs.Steps.{fits, wants};
 ghost use Rattle.tip_host.specs.Keeping.{Keeps};
+ghost use Rattle.tip_host.specs.declared.host.HostFault.TheVariants.{Stopped};
 
 use crate::keeping::keep;
 use std::alloc::Global;
@@ -66,6 +67,7 @@ impl<S: RowLog> Host<S, Core> {
         ensures names { IfOk result (λ happened. HaveNames self.new.core) }
         ensures stopped { self.new.is_stopped ≡ self.old.is_stopped }
         ensures running { IfOk result (λ happened. self.old.is_stopped ≡ false) }
+        ensures stopping { IfErr result (λ fault. (fault.0 ≡ Stopped) ↔ (self.old.is_stopped ≡ true)) }
     {
         if self.is_stopped {
             return Err((HostFault::Stopped, event));
@@ -86,5 +88,14 @@ impl<S: RowLog> Host<S, Core> {
         ensures { self.new ≡ record self.old { is_stopped = true } }
     {
         self.is_stopped = true;
+    }
+
+    /// Ends the host, stopped or not: all connections, boxes and parties are dropped, which calls their branches, and the store
+    /// comes back with its rows and epochs as they are.
+    pub fn shut(self) -> S
+        requires { Always }
+        ensures { result ≡ self.store }
+    {
+        self.store
     }
 }

@@ -1,13 +1,13 @@
 //! Realms that are loaded from a store.
-ghost use Rattle.std.specs.Prelude.{◌≡◌, ℕ, ◌<◌, [], ◌∷◌, ◌++◌, false, true, option_map, not, slice_get, IfErr, IfOk, OnErr, OnOk};
+ghost use Rattle.std.specs.Prelude.{◌≡◌, ℕ, ◌<◌, List, [], ◌∷◌, ◌++◌, false, true, option_map, not, slice_get, IfErr, IfOk, OnErr, OnOk};
 ghost use Rattle.std.specs.List.{list_all};
 ghost use Rattle.tip_branch.specs.Always.{Always};
 ghost use Rattle.tip_machine.specs.Heads.{is_other, starting};
 ghost use Rattle.tip_machine.specs.States.{started};
 ghost use Rattle.tip_core.specs.Hosted.{realm as realm_at};
 ghost use Rattle.tip_host.specs.Recovering.{HaveBegun, count_rows};
-ghost use Rattle.tip_rows.specs.Logs.{IsSettled, Log};
-ghost use Rattle.tip_host.specs.Loading.{AreKnown, AreOpened, AreRead, AreTheirs, Goes, Loads, IsIts, IsKnown, IsOnTheWay, IsRead, IsReason, IsReasonToRead, Never, Stays, is_refusal_to_load, are_hostable, is_bad_realm, names_differ, names_of, opened, refused_by, spec_of, starts_of};
+ghost use Rattle.tip_rows.specs.Logs.{IsAtEnd, IsSettled, Log};
+ghost use Rattle.tip_host.specs.Loading.{AreKnown, AreOpened, AreRead, AreTheirs, Goes, Loads, IsIts, IsKnown, IsOnTheWay, IsRead, IsReason, IsReasonToRead, Never, Stays, is_refusal_to_load, are_hostable, is_bad_realm, known_all, names_differ, names_of, opened, refused_by, spec_of, starts_of};
 
 use crate::host::Host;
 use crate::realm_spec::{RealmSpec, declared, names_differ};
@@ -98,6 +98,7 @@ fn load<S: RowLog>(
     ensures realms { IfOk result (λ loaded. (place : ℕ) → realm_at loaded.core place ≡ option_map (λ start. started (starting start)) (slice_get (starts_of specs.items loaded.realms) place)) }
     ensures read { (log : Log) → S.stands store log → IfOk result (λ loaded. S.is_true loaded.store → AreRead (opened (names_of specs.items) log) specs.items loaded.realms) }
     ensures reason { (log : Log) → S.stands store log → IfErr result (λ fault. S.is_true fault.1 → IsReason specs.items log fault.0) }
+    ensures risen { (log : Log) → S.stands store log → IfOk result (λ loaded. S.is_true loaded.store → (known : List ℕ) → ¬ IsAtEnd (known_all (names_of specs.items) log) known) }
     ensures hostable { OnOk result (are_hostable specs.items ≡ true) }
     ensures bad_realm { IfErr result (λ fault. is_bad_realm fault.0 ≡ not (are_hostable specs.items)) }
     ensures settled { IfOk result (λ loaded. S.is_true loaded.store → IsSettled S.stands S.may_leave loaded.store) }
@@ -174,6 +175,7 @@ fn open<S: RowLog>(store: &mut S, specs: &[RealmSpec]) -> Result<(), LoadFault>
     ensures ok { OnOk result (Goes S.stands S.may_leave S.is_true S.faults S.is_due false (AreOpened (names_of specs.now)) (IsOnTheWay (names_of specs.now)) store.old store.new) }
     ensures err { IfErr result (λ fault. Goes S.stands S.may_leave S.is_true S.faults S.is_due (is_refusal_to_load fault) (IsOnTheWay (names_of specs.now)) (IsOnTheWay (names_of specs.now)) store.old store.new) }
     ensures reason { (log : Log) → S.stands store.old log → S.is_true store.new → IfErr result (IsReason specs.now log) }
+    ensures risen { (log : Log) → S.stands store.old log → S.is_true store.new → OnOk result ((known : List ℕ) → ¬ IsAtEnd (known_all (names_of specs.now) log) known) }
     ensures fault { IfErr result (λ fault. is_bad_realm fault ≡ false) }
     ensures settled { S.is_true store.new → OnOk result (IsSettled S.stands S.may_leave store.new) }
 {
@@ -269,6 +271,7 @@ fn open_and_read<S: RowLog>(
     ensures own { IfOk result (λ realms. AreTheirs specs.now realms.items) }
     ensures read { (log : Log) → S.stands store.old log → S.is_true store.new → IfOk result (λ realms. AreRead (opened (names_of specs.now) log) specs.now realms.items) }
     ensures reason { (log : Log) → S.stands store.old log → S.is_true store.new → IfErr result (IsReason specs.now log) }
+    ensures risen { (log : Log) → S.stands store.old log → S.is_true store.new → OnOk result ((known : List ℕ) → ¬ IsAtEnd (known_all (names_of specs.now) log) known) }
     ensures hostable { OnOk result (are_hostable specs.now ≡ true) }
     ensures bad_realm { IfErr result (λ fault. is_bad_realm fault ≡ not (are_hostable specs.now)) }
     ensures settled { S.is_true store.new → OnOk result (IsSettled S.stands S.may_leave store.new) }

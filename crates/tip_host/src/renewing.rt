@@ -1,5 +1,5 @@
 //! A realm that starts again while the others run.
-ghost use Rattle.std.specs.Prelude.{◌≡◌, ◌≢◌, ◌<◌, ◌+◌, ℕ, None, Some, false, true, length, map, IfErr, IfOk, OnOk};
+ghost use Rattle.std.specs.Prelude.{◌≡◌, ◌≢◌, ◌↔◌, ◌<◌, ◌+◌, ℕ, None, Some, Err, false, true, length, map, IfErr, IfOk, OnOk};
 ghost use Rattle.tip_branch.specs.Always.{Always};
 ghost use Rattle.tip_core.specs.Hosted.{realm as realm_at, HaveNames};
 ghost use Rattle.tip_core.specs.Renewing.{HasRoom};
@@ -11,8 +11,8 @@ ghost use Rattle.tip_recovery.specs.Adopting.{are_adopted, loaded};
 ghost use Rattle.tip_recovery.specs.Renewing.{is_read_again, taking_all};
 ghost use Rattle.tip_rows.specs.Logs.{Log, IsSettled, last_epoch};
 ghost use Rattle.tip_host.specs.Loading.{Goes, IsRead, Never, Stays};
-ghost use Rattle.tip_host.specs.Renewing.{IsReasonToRenew, IsRenewed, Rises, renew_fault_of, was_refused};
-ghost use Rattle.tip_host.specs.declared.renewing.RenewFault.TheVariants.{NotRaised};
+ghost use Rattle.tip_host.specs.Renewing.{IsReasonToDoubt, IsReasonToRenew, IsRenewed, Rises, renew_fault_of, was_refused};
+ghost use Rattle.tip_host.specs.declared.renewing.RenewFault.TheVariants.{NoRealm, NotRaised, Stopped};
 
 use crate::host::Host;
 use crate::loading::{LoadFault, read};
@@ -93,7 +93,9 @@ impl<S: RowLog> Host<S, Core> {
         ensures core { self.new.core ≡ self.old.core }
         ensures stopped { self.new.is_stopped ≡ self.old.is_stopped }
         ensures here { OnOk result (realm_at self.old.core realm ≢ None) }
+        ensures absent { realm_at self.old.core realm ≡ None → result ≡ Err RenewFault.NoRealm }
         ensures read { (log : Log) (state : State) → S.stands self.old.store log → realm_at self.old.core realm ≡ Some state → S.is_true self.new.store → IfOk result (IsRead log state.head.name) }
+        ensures reason { (log : Log) (state : State) → S.stands self.old.store log → realm_at self.old.core realm ≡ Some state → S.is_true self.new.store → IfErr result (IsReasonToDoubt log) }
     {
         match self.core.name(realm) {
             Some(name) => Ok(read(alloc, &mut self.store, name)?),
@@ -121,8 +123,10 @@ impl<S: RowLog> Host<S, Core> {
         ensures back { IfErr result (λ fault. fault.1 ≡ recovery) }
         ensures reason { (log : Log) (state : State) → S.stands self.old.store log → realm_at self.old.core realm ≡ Some state → S.is_true self.new.store → IfErr result (λ fault. IsReasonToRenew log state recovery fault.0) }
         ensures here { OnOk result (realm_at self.old.core realm ≢ None) }
+        ensures nowhere { realm_at self.old.core realm ≡ None → self.old.is_stopped ≡ false → IfErr result (λ fault. fault.0 ≡ NoRealm) }
         ensures names { OnOk result (HaveNames self.new.core) }
         ensures running { OnOk result (self.old.is_stopped ≡ false) }
+        ensures stopping { IfErr result (λ fault. (fault.0 ≡ Stopped) ↔ (self.old.is_stopped ≡ true)) }
         ensures stopped { self.new.is_stopped ≡ self.old.is_stopped }
     {
         match self.prepare(alloc, realm, &recovery) {
@@ -153,6 +157,8 @@ impl<S: RowLog> Host<S, Core> {
         ensures room { IfOk result (λ ready. HasRoom self.old.core.connections self.old.core.transactions realm (length ready.0.rows) ready.1) }
         ensures reason { (log : Log) (state : State) → S.stands self.old.store log → realm_at self.old.core realm ≡ Some state → S.is_true self.new.store → IfErr result (IsReasonToRenew log state recovery.now) }
         ensures not_raised { IfErr result (λ fault. fault ≢ NotRaised) }
+        ensures nowhere { realm_at self.old.core realm ≡ None → self.old.is_stopped ≡ false → IfErr result (λ fault. fault ≡ NoRealm) }
+        ensures stopping { IfErr result (λ fault. (fault ≡ Stopped) ↔ (self.old.is_stopped ≡ true)) }
     {
         if self.is_stopped {
             return Err(RenewFault::Stopped);
@@ -196,6 +202,7 @@ impl<S: RowLog> Host<S, Core> {
         ensures back { IfErr result (λ fault. fault.1 ≡ recovery) }
         ensures reason { (log : Log) (state : State) → S.stands self.old.store log → realm_at self.old.core realm ≡ Some state → S.is_true self.new.store → IfErr result (λ fault. IsReasonToRenew log state recovery fault.0) }
         ensures names { OnOk result (HaveNames self.new.core) }
+        ensures running { IfErr result (λ fault. fault.0 ≢ Stopped) }
         ensures stopped { self.new.is_stopped ≡ self.old.is_stopped }
     {
         let Some(name) = self.core.name(realm) else {

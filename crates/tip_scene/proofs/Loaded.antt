@@ -1,10 +1,10 @@
 -- Realms that were loaded, each at its place.
-use Rattle.std.proofs.Common.{◌≡◌, ℕ, zero, suc, true, List, [], ◌∷◌, Some, None, map, option_map, refl, sym, ap, subst, ◌∙◌}
-use Rattle.std.specs.Prelude.{Ok, is_some, pos, slice_get}
-use Rattle.std.proofs.lemmas.Option.{none-some, same_Some}
+use Rattle.std.proofs.Common.{◌≡◌, ℕ, true, List, Some, None, map, option_map, refl, sym, ap, subst, ◌∙◌}
+use Rattle.std.specs.Prelude.{Ok, is_some, slice_get}
 use Rattle.tip_core.specs.Hosted.{realm}
-use Rattle.tip_host.proofs.Parts.{opened_known, opened_part}
-use Rattle.tip_host.specs.Loading.{AreRead, IsRead, Loads, names_of, opened, start_of, starts_of}
+use Rattle.tip_host.proofs.Opening.{named_at, no_start, read_at, start_at}
+use Rattle.tip_host.proofs.Parts.{number_of, opened_known, opened_part}
+use Rattle.tip_host.specs.Loading.{Loads, names_of, opened, start_of}
 use Rattle.tip_host.specs.Recovering.{Recovering}
 use Rattle.tip_host.specs.declared.realm_spec.RealmSpec.{RealmSpec}
 use Rattle.tip_machine.proofs.Storing.{same_rows}
@@ -31,32 +31,6 @@ pub record IsLoaded (store : Memory) (recovering : Recovering Memory) (place : �
   pub due : is_due_in recovering.store spec.name ≡ is_due_in store spec.name
   pub core : realm recovering.core place ≡ Some (started (starting (start_of spec recovery.epoch)))
 
-name_at : (specs : List RealmSpec) (place : ℕ) (spec : RealmSpec) → slice_get specs place ≡ Some spec → slice_get (names_of specs) place ≡ Some spec.name
-name_at [] place spec here = absurd (none-some spec here)
-name_at (s ∷ specs) zero spec here = ap (λ (x : RealmSpec). Some x.name) (same_Some s spec here)
-name_at (s ∷ specs) (suc place) spec here = name_at specs place spec here
-
-read_at : (log : Log) (specs : List RealmSpec) (realms : List Recovery) (place : ℕ) (spec : RealmSpec) → AreRead log specs realms → slice_get specs place ≡ Some spec → (recovery : Recovery) × (slice_get realms place ≡ Some recovery) × IsRead log spec.name recovery
-read_at log [] realms place spec read here = absurd (none-some spec here)
-read_at log (s ∷ specs) [] place spec read here = absurd read
-read_at log (s ∷ specs) (r ∷ realms) zero spec read here = (r, refl, subst (λ (x : RealmSpec). IsRead log x.name r) (same_Some s spec here) read.0)
-read_at log (s ∷ specs) (r ∷ realms) (suc place) spec read here = read_at log specs realms place spec read.1 here
-
-start_at : (specs : List RealmSpec) (realms : List Recovery) (place : ℕ) (spec : RealmSpec) (recovery : Recovery) → slice_get specs place ≡ Some spec → slice_get realms place ≡ Some recovery → slice_get (starts_of specs realms) place ≡ Some (start_of spec recovery.epoch)
-start_at [] realms place spec recovery here there = absurd (none-some spec here)
-start_at (s ∷ specs) [] place spec recovery here there = absurd (none-some recovery there)
-start_at (s ∷ specs) (r ∷ realms) zero spec recovery here there = ap (λ (x : RealmSpec). Some (start_of x r.epoch)) (same_Some s spec here) ∙ ap (λ (x : Recovery). Some (start_of spec x.epoch)) (same_Some r recovery there)
-start_at (s ∷ specs) (r ∷ realms) (suc place) spec recovery here there = start_at specs realms place spec recovery here there
-
-no_start : (specs : List RealmSpec) (realms : List Recovery) (place : ℕ) → slice_get specs place ≡ None → slice_get (starts_of specs realms) place ≡ None
-no_start [] realms place none = refl
-no_start (s ∷ specs) [] place none = refl
-no_start (s ∷ specs) (r ∷ realms) zero none = absurd (none-some s (sym none))
-no_start (s ∷ specs) (r ∷ realms) (suc place) none = no_start specs realms place none
-
-number_of : {a b : ℕ} → pos a ≡ pos b → a ≡ b
-number_of same = cc
-
 module _ (specs : List RealmSpec) (store : Memory) (recovering : Recovering Memory) (loads : LoadsRows specs store recovering) where
   -- no other realm has started
   pub beyond : (place : ℕ) → slice_get specs place ≡ None → realm recovering.core place ≡ None
@@ -67,14 +41,14 @@ module _ (specs : List RealmSpec) (store : Memory) (recovering : Recovering Memo
       let way = loads.ok.rows (log_of store) refl in
       let log : log_of recovering.store ≡ opened (names_of specs) (log_of store) = way.2 ∙ way.1 in
       let read = read_at (opened (names_of specs) (log_of store)) specs recovering.realms place spec (loads.read (log_of store) refl tt) here in
-      let own = opened_part (names_of specs) place (log_of store) spec.name epoch rows (name_at specs place spec here) part in
+      let own = opened_part (names_of specs) place (log_of store) spec.name epoch rows (named_at specs place spec here) part in
       record {
         recovery = read.0;
         there = read.1;
         risen = number_of (sym read.2.part.epoch ∙ own.epoch);
         unadopted_are = read.2.unadopted ∙ ap (map (unadopted spec.name)) (same_rows read.2.rows rows read.2.part.rising own.rising (λ key. read.2.part.same key ∙ sym (own.same key)));
         part = subst (λ l. IsPart l spec.name (raised_number epoch) rows) (sym log) own;
-        known = ap (λ (l : Log). is_some (l.epochs spec.name)) log ∙ opened_known (names_of specs) place (log_of store) spec.name epoch rows (name_at specs place spec here) part;
+        known = ap (λ (l : Log). is_some (l.epochs spec.name)) log ∙ opened_known (names_of specs) place (log_of store) spec.name epoch rows (named_at specs place spec here) part;
         due = loads.ok.due (log_of store) refl spec.name;
         core = loads.realms place ∙ ap (option_map (λ start. started (starting start))) (start_at specs recovering.realms place spec read.0 here read.1);
       }

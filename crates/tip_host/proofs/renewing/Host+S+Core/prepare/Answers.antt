@@ -1,19 +1,17 @@
 -- What was read of the realm that is there.
-use Rattle.std.proofs.Common.{◌≡◌, ◌∙◌, Some, ap, arith, rules, subst, sym}
-use Rattle.std.specs.Prelude.{slice_get}
+use Rattle.std.proofs.Common.{◌≡◌, ◌∙◌, ap, arith, rules, subst}
 use Rattle.std.proofs.lemmas.Bool.Decides.{nat_tests}
-use Rattle.std.proofs.lemmas.Option.{slice_get-get_or}
 use Rattle.tip_core.specs.Hosted.{realm as realm_at}
 use Rattle.tip_machine.specs.declared.head.Head.{Head}
 use Rattle.tip_host.specs.Loading.{IsRead}
-use Rattle.tip_host.proofs.Renewals.{is_there, its_head, other_epoch, other_rows}
+use Rattle.tip_host.proofs.Renewals.{is_there, its_head, looked_up, other_epoch, other_rows}
 use Rattle.tip_host.proofs.renewing.Host+S+Core.prepare.Goals.{then-not-is_read_again-via-then-not-is_read_again, then-not-is_read_again-via-else-not-is_read_again+then-epoch-head}
 use Rattle.tip_host.proofs.renewing.Host+S+Core.prepare.Goals as goal
 
 pub returns-then-not-is_read_again-clause-reason : goal.returns-then-not-is_read_again-clause-reason
 returns-then-not-is_read_again-clause-reason g c = λ log state stood there true_now.
-    let first : slice_get c.heads.result.now c.args.realm ≡ Some c.in-Some.head.now = slice_get-get_or c.heads.result.now c.args.realm c.in-Some.head.now c.in-Some.ensures.lookup.3.0 ∙ ap Some (sym c.in-Some.ensures.lookup.1) in
-    let head = its_head (realm_at c.args.self.now.core c.args.realm) c.in-Some.head.now (sym first ∙ c.heads.ensures c.args.realm) state there in
+    let here = looked_up c.heads.result.now c.args.realm c.in-Some.head.now (realm_at c.args.self.now.core c.args.realm) c.in-Some.ensures.lookup.3.0 c.in-Some.ensures.lookup.1 (c.heads.ensures c.args.realm) in
+    let head = its_head (realm_at c.args.self.now.core c.args.realm) c.in-Some.head.now here state there in
     elim c.then-not-is_read_again.branch [
       | then-not-is_read_again-via-then-not-is_read_again w ↦
           let read = c.in_ok-fresh.ensures.read log stood (search rules) in
@@ -26,38 +24,38 @@ returns-then-not-is_read_again-clause-reason g c = λ log state stood there true
 
 pub returns-then-not-is_adopted-clause-absent : goal.returns-then-not-is_adopted-clause-absent
 returns-then-not-is_adopted-clause-absent g c =
-    let first : slice_get c.heads.result.now c.args.realm ≡ Some c.in-Some.head.now = slice_get-get_or c.heads.result.now c.args.realm c.in-Some.head.now c.in-Some.ensures.lookup.3.0 ∙ ap Some (sym c.in-Some.ensures.lookup.1) in
-    λ none. absurd (is_there (realm_at c.args.self.now.core c.args.realm) c.in-Some.head.now (sym first ∙ c.heads.ensures c.args.realm) none)
+    let here = looked_up c.heads.result.now c.args.realm c.in-Some.head.now (realm_at c.args.self.now.core c.args.realm) c.in-Some.ensures.lookup.3.0 c.in-Some.ensures.lookup.1 (c.heads.ensures c.args.realm) in
+    λ none. absurd (is_there (realm_at c.args.self.now.core c.args.realm) c.in-Some.head.now here none)
 
 pub returns-in_err-room-clause-absent : goal.returns-in_err-room-clause-absent
 returns-in_err-room-clause-absent g c =
-    let first : slice_get c.heads.result.now c.args.realm ≡ Some c.in-Some.head.now = slice_get-get_or c.heads.result.now c.args.realm c.in-Some.head.now c.in-Some.ensures.lookup.3.0 ∙ ap Some (sym c.in-Some.ensures.lookup.1) in
-    λ none. absurd (is_there (realm_at c.args.self.now.core c.args.realm) c.in-Some.head.now (sym first ∙ c.heads.ensures c.args.realm) none)
+    let here = looked_up c.heads.result.now c.args.realm c.in-Some.head.now (realm_at c.args.self.now.core c.args.realm) c.in-Some.ensures.lookup.3.0 c.in-Some.ensures.lookup.1 (c.heads.ensures c.args.realm) in
+    λ none. absurd (is_there (realm_at c.args.self.now.core c.args.realm) c.in-Some.head.now here none)
 
 pub returns-clause-here : goal.returns-clause-here
 returns-clause-here g c =
-    let first : slice_get c.heads.result.now c.args.realm ≡ Some c.in-Some.head.now = slice_get-get_or c.heads.result.now c.args.realm c.in-Some.head.now c.in-Some.ensures.lookup.3.0 ∙ ap Some (sym c.in-Some.ensures.lookup.1) in
-    is_there (realm_at c.args.self.now.core c.args.realm) c.in-Some.head.now (sym first ∙ c.heads.ensures c.args.realm)
+    let here = looked_up c.heads.result.now c.args.realm c.in-Some.head.now (realm_at c.args.self.now.core c.args.realm) c.in-Some.ensures.lookup.3.0 c.in-Some.ensures.lookup.1 (c.heads.ensures c.args.realm) in
+    is_there (realm_at c.args.self.now.core c.args.realm) c.in-Some.head.now here
 
 pub returns-clause-absent : goal.returns-clause-absent
 returns-clause-absent g c =
-    let first : slice_get c.heads.result.now c.args.realm ≡ Some c.in-Some.head.now = slice_get-get_or c.heads.result.now c.args.realm c.in-Some.head.now c.in-Some.ensures.lookup.3.0 ∙ ap Some (sym c.in-Some.ensures.lookup.1) in
-    λ none. absurd (is_there (realm_at c.args.self.now.core c.args.realm) c.in-Some.head.now (sym first ∙ c.heads.ensures c.args.realm) none)
+    let here = looked_up c.heads.result.now c.args.realm c.in-Some.head.now (realm_at c.args.self.now.core c.args.realm) c.in-Some.ensures.lookup.3.0 c.in-Some.ensures.lookup.1 (c.heads.ensures c.args.realm) in
+    λ none. absurd (is_there (realm_at c.args.self.now.core c.args.realm) c.in-Some.head.now here none)
 
 pub returns-clause-read : goal.returns-clause-read
 returns-clause-read g c =
-    let first : slice_get c.heads.result.now c.args.realm ≡ Some c.in-Some.head.now = slice_get-get_or c.heads.result.now c.args.realm c.in-Some.head.now c.in-Some.ensures.lookup.3.0 ∙ ap Some (sym c.in-Some.ensures.lookup.1) in
-    λ log state stood there true_now. subst (λ (h : Head). IsRead log h.name c.in_ok-fresh.fresh) (its_head (realm_at c.args.self.now.core c.args.realm) c.in-Some.head.now (sym first ∙ c.heads.ensures c.args.realm) state there) (c.in_ok-fresh.ensures.read log stood true_now)
+    let here = looked_up c.heads.result.now c.args.realm c.in-Some.head.now (realm_at c.args.self.now.core c.args.realm) c.in-Some.ensures.lookup.3.0 c.in-Some.ensures.lookup.1 (c.heads.ensures c.args.realm) in
+    λ log state stood there true_now. subst (λ (h : Head). IsRead log h.name c.in_ok-fresh.fresh) (its_head (realm_at c.args.self.now.core c.args.realm) c.in-Some.head.now here state there) (c.in_ok-fresh.ensures.read log stood true_now)
 
 pub returns-clause-named : goal.returns-clause-named
 returns-clause-named g c =
-    let first : slice_get c.heads.result.now c.args.realm ≡ Some c.in-Some.head.now = slice_get-get_or c.heads.result.now c.args.realm c.in-Some.head.now c.in-Some.ensures.lookup.3.0 ∙ ap Some (sym c.in-Some.ensures.lookup.1) in
-    λ state there. c.in_ok-fresh.ensures.own.name ∙ ap (λ (h : Head). h.name) (its_head (realm_at c.args.self.now.core c.args.realm) c.in-Some.head.now (sym first ∙ c.heads.ensures c.args.realm) state there)
+    let here = looked_up c.heads.result.now c.args.realm c.in-Some.head.now (realm_at c.args.self.now.core c.args.realm) c.in-Some.ensures.lookup.3.0 c.in-Some.ensures.lookup.1 (c.heads.ensures c.args.realm) in
+    λ state there. c.in_ok-fresh.ensures.own.name ∙ ap (λ (h : Head). h.name) (its_head (realm_at c.args.self.now.core c.args.realm) c.in-Some.head.now here state there)
 
 pub returns-clause-epoch : goal.returns-clause-epoch
 returns-clause-epoch g c =
-    let first : slice_get c.heads.result.now c.args.realm ≡ Some c.in-Some.head.now = slice_get-get_or c.heads.result.now c.args.realm c.in-Some.head.now c.in-Some.ensures.lookup.3.0 ∙ ap Some (sym c.in-Some.ensures.lookup.1) in
+    let here = looked_up c.heads.result.now c.args.realm c.in-Some.head.now (realm_at c.args.self.now.core c.args.realm) c.in-Some.ensures.lookup.3.0 c.in-Some.ensures.lookup.1 (c.heads.ensures c.args.realm) in
     λ state there.
-    let same : c.in-Some.head.now.epoch ≡ state.head.epoch = ap (λ (h : Head). h.epoch) (its_head (realm_at c.args.self.now.core c.args.realm) c.in-Some.head.now (sym first ∙ c.heads.ensures c.args.realm) state there) in
+    let same : c.in-Some.head.now.epoch ≡ state.head.epoch = ap (λ (h : Head). h.epoch) (its_head (realm_at c.args.self.now.core c.args.realm) c.in-Some.head.now here state there) in
     let now : c.in_ok-fresh.fresh.epoch ≡ state.head.epoch = grind (arith, same) in
     (now, grind (arith, now, c.epoch.ensures, c.epoch.type_inv))

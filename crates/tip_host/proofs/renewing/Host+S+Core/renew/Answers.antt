@@ -17,6 +17,7 @@ returns-in-Ok-clause-renewed g c = λ state there.
     IfOk-weaker c.renew_by.result _ _ (λ left own. record {
       fresh = c.in-Ok.fresh;
       epoch = (c.in-Ok.ensures.epoch state there).0;
+      rises = (c.in-Ok.ensures.epoch state there).1;
       again = c.in-Ok.ensures.again;
       adopted = c.in-Ok.ensures.adopted;
       read = λ log stood true_now. c.in-Ok.ensures.read log state stood there ((c.renew_by.ensures.store state still).truth true_now);
