@@ -6,7 +6,7 @@ use Rattle.tip_branch.specs.declared.branch.Badge.{Badge}
 use Rattle.tip_branch.specs.declared.branch.Plan.{Plan}
 use Rattle.tip_branch.specs.declared.branch.Plan.TheVariants.{Yes}
 use Rattle.tip_branch.specs.Notes.{PartyNotes}
-use Rattle.tip_core.specs.Hosted.{must_wait_on}
+use Rattle.tip_rules.specs.Works.{must_wait_on}
 use Rattle.tip_line.specs.Reading.{Item, Text, Bad, items_of}
 use Rattle.tip_machine.specs.Answers.{identifier}
 use Rattle.tip_machine.specs.Events.{heard_of}

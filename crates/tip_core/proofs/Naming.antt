@@ -15,7 +15,7 @@ use Rattle.tip_machine.specs.declared.head.Start.{Start}
 use Rattle.tip_machine.proofs.Stepping.{step-named}
 use Rattle.tip_table.specs.Kept.{of}
 use Rattle.tip_core.specs.Hosted.{HasEpoch, Hosted, HaveNames, Steps, realm}
-use Rattle.tip_core.specs.Works.{Realms}
+use Rattle.tip_rules.specs.Works.{Realms}
 use Rattle.tip_core.proofs.Stepping.{hosted, new_realm}
 
 -- Realms that are to start

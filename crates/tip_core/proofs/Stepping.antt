@@ -24,13 +24,13 @@ use Rattle.tip_machine.specs.declared.head.Start.{Start}
 use Rattle.tip_machine.proofs.Counting.{counts_stay}
 use Rattle.tip_machine.proofs.Identifiers.{none_numbered}
 use Rattle.tip_table.specs.Kept.{of}
-use Rattle.tip_core.proofs.Turning.{in_turn_of_state}
+use Rattle.tip_rules.proofs.Turning.{in_turn_of_state}
 use Rattle.tip_core.specs.Hosted.{HasEpoch, Hosted, IsRoomFor, Steps, realm}
-use Rattle.tip_core.specs.Makings.{Made}
-use Rattle.tip_core.specs.Needs.{Granted, HasNeeds, Suits, happened}
-use Rattle.tip_core.specs.Turns.{noted, turn_in}
-use Rattle.tip_core.specs.declared.turns.Turn.{Turn}
-use Rattle.tip_core.specs.Works.{Does, HaveCounts, Realms, no_head, state_in, working}
+use Rattle.tip_rules.specs.Makings.{Made}
+use Rattle.tip_rules.specs.Needs.{Granted, HasNeeds, Suits, happened}
+use Rattle.tip_rules.specs.Turns.{noted, turn_in}
+use Rattle.tip_rules.specs.declared.turns.Turn.{Turn}
+use Rattle.tip_rules.specs.Works.{Does, HaveCounts, Realms, no_head, state_in, working}
 
 -- what the tables stand for, with room to note so many turns
 abbrev pub hosted : Realms → ℕ → Hosted

@@ -1,5 +1,5 @@
 -- What a core stands for, and what one event does to it.
-use Rattle.std.specs.Prelude.{ℕ, Bool, false, not, ◌≡◌, ◌≢◌, ◌≤◌, ◌<◌, List, Option, Some, None, length, map, option_map, slice_get}
+use Rattle.std.specs.Prelude.{ℕ, Bool, false, ◌≡◌, ◌≢◌, ◌≤◌, ◌<◌, List, Option, Some, None, length, map, option_map, slice_get}
 use Rattle.tip_table.specs.Kept.{Kept, capacity, of}
 use Rattle.tip_machine.specs.States.{State, seated}
 use Rattle.tip_machine.specs.Requests.{may_take_on}
@@ -9,8 +9,8 @@ use Rattle.tip_machine.specs.declared.head.Head.{Head}
 use Rattle.tip_machine.specs.declared.head.Start.{Start}
 use Rattle.tip_machine.specs.declared.event.Outcome.{Outcome}
 use Rattle.tip_machine.specs.declared.event.Seat.{Seat}
-use Rattle.tip_core.specs.Needs.{Granted, Suits}
-use Rattle.tip_core.specs.Works.{HeldTransaction}
+use Rattle.tip_rules.specs.Needs.{Granted, Suits}
+use Rattle.tip_rules.specs.Works.{HeldTransaction, must_wait_on}
 
 -- all realms in shared tables; clauses speak of them by `realm` and `room_in`
 pub record Hosted : Type 0 where
@@ -57,11 +57,6 @@ pub record IsRoomFor (hosted : Hosted) (place : ℕ) (event : Event) (room : Gra
 abbrev pub may_take_in : Seat → Option State → Bool
 may_take_in seat None = false
 may_take_in seat (Some state) = may_take_on (seated seat state)
-
--- must a line on this connection wait? where none may be taken; on one that is gone it is refused at once
-abbrev pub must_wait_on : Option Connection → Bool
-must_wait_on None = false
-must_wait_on (Some connection) = not (may_take_on (Some connection))
 
 abbrev pub must_wait_in : Seat → Option State → Bool
 must_wait_in seat None = false

@@ -1,14 +1,3 @@
-pub mod Rooms
-pub mod Makings
-pub mod Turns
-pub mod Works
-pub mod Growing
-pub mod Reacting
-pub mod Noting
-pub mod Deciding
-pub mod Pursuing
-pub mod Wanting
-pub mod Needs
 pub mod Hosted
 pub mod Recovering
 pub mod Renewing

@@ -9,24 +9,23 @@ ghost use Rattle.tip_machine.specs.States.{State, started};
 ghost use Rattle.tip_machine.specs.Types.{seen};
 ghost use Rattle.tip_recovery.specs.Adopting.{are_adopted, loaded};
 ghost use Rattle.tip_rows.specs.Logs.{last_epoch};
+ghost use Rattle.tip_table.specs.Kept.{of};
 ghost use Rattle.tip_core.specs.Hosted.{realm as realm_at, room_in, may_take_in, must_wait_in, HaveNames, IsRoomFor, Steps};
 ghost use Rattle.tip_core.specs.Isolation.{IsIsolated};
 ghost use Rattle.tip_core.specs.Recovering.{IsOf, taking_up};
 ghost use Rattle.tip_core.specs.Renewing.{HasRoom};
 
 use crate::happened::Happened;
-use crate::realms::Realms;
 use crate::recovering::reopen_all;
-use crate::renewing::{Left, Parting};
-use crate::room::Room;
+use crate::renewing::{Left, Parting, renew, room_to_renew};
 use crate::starts::Starts;
-use crate::turns::Turns;
 use std::alloc::{AllocError, Global};
 use std::marker::Model;
 use tip_line::{Realm, Refusal};
-use tip_machine::{Answer, Event, Head, InRealm, Outcome, Seat, Start, Transaction};
+use tip_machine::{Answer, Connection, Event, Head, InRealm, Outcome, Seat, Start, Transaction};
 use tip_recovery::Recovery;
-use tip_table::Items;
+use tip_rules::{Realms, Room, Turns};
+use tip_table::{Items, Table};
 
 /// What a list of events came to.
 #[derive(Drop)]
@@ -46,7 +45,7 @@ pub struct Core {
 
 impl Model for Core {
     ghost use Rattle.tip_core.specs.Hosted.{HaveNames, Hosted};
-    ghost use Rattle.tip_core.specs.Works.{HaveCounts};
+    ghost use Rattle.tip_rules.specs.Works.{HaveCounts};
 
     ghost Value = { Hosted };
 
@@ -62,7 +61,7 @@ impl Core {
         ensures { (place : ℕ) → realm_at result place ≡ None }
     {
         Core {
-            realms: Realms::of(alloc, Vec::new(alloc)),
+            realms: realms_of(alloc, Vec::new(alloc)),
             turns: Turns::new(alloc),
         }
     }
@@ -74,7 +73,7 @@ impl Core {
         ensures named { IfOk result HaveNames }
     {
         Ok(Core {
-            realms: Realms::of(alloc, heads_of(alloc, starts.into_vec())?),
+            realms: realms_of(alloc, heads_of(alloc, starts.into_vec())?),
             turns: Turns::new(alloc),
         })
     }
@@ -117,7 +116,7 @@ impl Core {
         requires { Always }
         ensures { IfOk result (HasRoom self.now.connections self.now.transactions realm rows) }
     {
-        self.realms.room_to_renew(alloc, realm, rows)
+        room_to_renew(&self.realms, alloc, realm, rows)
     }
 
     /// A realm starts again in its next epoch, by these rows, and what it had leaves. It takes no memory.
@@ -132,7 +131,7 @@ impl Core {
         ensures transactions { (state : State) → realm_at self.old realm ≡ Some state → map seen result.transactions.items ≡ state.transactions }
         ensures named { HaveNames self.new }
     {
-        self.realms.renew(realm, recovery, room)
+        renew(&mut self.realms, realm, recovery, room)
     }
 
     /// Room for an event. The realms stay as they are.
@@ -247,6 +246,20 @@ impl Core {
             answers.push_reserved(InRealm { realm, item });
         }
         Ok(())
+    }
+}
+
+/// These realms, at their start.
+fn realms_of(alloc: Global, heads: Vec<Head>) -> Realms<Connection, Transaction>
+    ensures heads { result.heads ≡ heads }
+    ensures connections { (realm : ℕ) → of result.connections realm ≡ [] }
+    ensures transactions { (realm : ℕ) → of result.transactions realm ≡ [] }
+{
+    Realms {
+        heads,
+        connections: Table::new(alloc),
+        transactions: Table::new(alloc),
+        alloc,
     }
 }
 

@@ -9,14 +9,14 @@ ghost use Rattle.tip_recovery.specs.Adopting.{are_adopted, loaded};
 ghost use Rattle.tip_rows.specs.Logs.{last_epoch};
 ghost use Rattle.tip_core.specs.Recovering.{IsOf};
 ghost use Rattle.tip_core.specs.Renewing.{HasRoom};
-ghost use Rattle.tip_core.specs.Works.{state_in};
+ghost use Rattle.tip_rules.specs.Works.{state_in};
 
-use crate::realms::Realms;
 use crate::recovering::reopen_all;
 use std::alloc::{AllocError, Global};
 use std::mem;
 use tip_machine::{Connection, Transaction};
 use tip_recovery::Recovery;
+use tip_rules::Realms;
 use tip_table::Table;
 
 /// What a realm had before it started again. Whoever drops it drops boxes.
@@ -36,73 +36,71 @@ pub struct Parting<C = Connection, T = Transaction> {
     pub(crate) left: Left<C, T>,
 }
 
-impl Realms<Connection, Transaction> {
-    /// Room for a realm to start again with so many rows.
-    pub fn room_to_renew(
-        &self,
-        alloc: Global,
-        realm: usize,
-        rows: usize,
-    ) -> Result<Parting, AllocError>
-        ensures { IfOk result (HasRoom self.now.connections self.now.transactions realm rows) }
-    {
-        Ok(Parting {
-            connections: self.connections.with_room(alloc, 0)?,
-            transactions: self.transactions.with_room(alloc, rows)?,
-            left: Left {
-                connections: Vec::with_capacity(alloc, self.connections.count(realm))?,
-                transactions: Vec::with_capacity(alloc, self.transactions.count(realm))?,
-            },
-        })
-    }
+/// Room for a realm to start again with so many rows.
+pub fn room_to_renew(
+    realms: &Realms,
+    alloc: Global,
+    realm: usize,
+    rows: usize,
+) -> Result<Parting, AllocError>
+    ensures { IfOk result (HasRoom realms.now.connections realms.now.transactions realm rows) }
+{
+    Ok(Parting {
+        connections: realms.connections.with_room(alloc, 0)?,
+        transactions: realms.transactions.with_room(alloc, rows)?,
+        left: Left {
+            connections: Vec::with_capacity(alloc, realms.connections.count(realm))?,
+            transactions: Vec::with_capacity(alloc, realms.transactions.count(realm))?,
+        },
+    })
+}
 
-    /// A realm starts again in its next epoch, by these rows, and what it had leaves. Every other realm stays.
-    pub fn renew(&mut self, realm: usize, recovery: Recovery, room: Parting) -> Left
-        requires here { realm < length self.old.heads.items }
-        requires epoch { (state_in realm self.old).head.epoch < last_epoch }
-        requires room { HasRoom self.old.connections self.old.transactions realm (length recovery.rows) room }
-        requires adopted { are_adopted recovery.rows ≡ true }
-        ensures own { IsOf recovery (risen (state_in realm self.old).head) → state_in realm self.new ≡ restarted (risen (state_in realm self.old).head) (map loaded recovery.rows) }
-        ensures head { (state_in realm self.new).head ≡ risen (state_in realm self.old).head }
-        ensures none { of self.new.connections realm ≡ [] }
-        ensures others { (other : ℕ) → other ≢ realm → state_in other self.new ≡ state_in other self.old }
-        ensures count { length self.new.heads.items ≡ length self.old.heads.items }
-        ensures connections { result.connections.items ≡ of self.old.connections realm }
-        ensures transactions { map seen result.transactions.items ≡ (state_in realm self.old).transactions }
-    {
-        let left = self.clear(realm, room);
-        let epoch = recovery.epoch();
-        reopen_all(&mut self.transactions, realm, epoch, recovery.into_rows());
-        left
-    }
+/// A realm starts again in its next epoch, by these rows, and what it had leaves. Every other realm stays.
+pub fn renew(realms: &mut Realms, realm: usize, recovery: Recovery, room: Parting) -> Left
+    requires here { realm < length realms.old.heads.items }
+    requires epoch { (state_in realm realms.old).head.epoch < last_epoch }
+    requires room { HasRoom realms.old.connections realms.old.transactions realm (length recovery.rows) room }
+    requires adopted { are_adopted recovery.rows ≡ true }
+    ensures own { IsOf recovery (risen (state_in realm realms.old).head) → state_in realm realms.new ≡ restarted (risen (state_in realm realms.old).head) (map loaded recovery.rows) }
+    ensures head { (state_in realm realms.new).head ≡ risen (state_in realm realms.old).head }
+    ensures none { of realms.new.connections realm ≡ [] }
+    ensures others { (other : ℕ) → other ≢ realm → state_in other realms.new ≡ state_in other realms.old }
+    ensures count { length realms.new.heads.items ≡ length realms.old.heads.items }
+    ensures connections { result.connections.items ≡ of realms.old.connections realm }
+    ensures transactions { map seen result.transactions.items ≡ (state_in realm realms.old).transactions }
+{
+    let left = clear(realms, realm, room);
+    let epoch = recovery.epoch();
+    reopen_all(&mut realms.transactions, realm, epoch, recovery.into_rows());
+    left
+}
 
-    /// A realm starts in its next epoch, with nothing but what was declared of it.
-    fn clear(&mut self, realm: usize, room: Parting) -> Left
-        requires here { realm < length self.old.heads.items }
-        requires epoch { (state_in realm self.old).head.epoch < last_epoch }
-        requires room { (rows : ℕ) × HasRoom self.old.connections self.old.transactions realm rows room }
-        ensures own { state_in realm self.new ≡ started (risen (state_in realm self.old).head) }
-        ensures none { of self.new.connections realm ≡ [] }
-        ensures no_transactions { of self.new.transactions realm ≡ [] }
-        ensures others { (other : ℕ) → other ≢ realm → state_in other self.new ≡ state_in other self.old }
-        ensures count { length self.new.heads.items ≡ length self.old.heads.items }
-        ensures connections { result.connections.items ≡ of self.old.connections realm }
-        ensures transactions { result.transactions.items ≡ of self.old.transactions realm }
-        ensures room { (rows : ℕ) → HasRoom self.old.connections self.old.transactions realm rows room → rows ≤ self.new.transactions.free }
-    {
-        let Parting {
-            connections,
-            transactions,
-            mut left,
-        } = room;
-        let head = &mut self.heads[realm];
-        head.epoch += 1;
-        head.given = 0;
-        head.entries = 0;
-        let before = mem::replace(&mut self.connections, Table::new(self.alloc));
-        self.connections = before.part(realm, connections, &mut left.connections);
-        let before = mem::replace(&mut self.transactions, Table::new(self.alloc));
-        self.transactions = before.part(realm, transactions, &mut left.transactions);
-        left
-    }
+/// A realm starts in its next epoch, with nothing but what was declared of it.
+fn clear(realms: &mut Realms, realm: usize, room: Parting) -> Left
+    requires here { realm < length realms.old.heads.items }
+    requires epoch { (state_in realm realms.old).head.epoch < last_epoch }
+    requires room { (rows : ℕ) × HasRoom realms.old.connections realms.old.transactions realm rows room }
+    ensures own { state_in realm realms.new ≡ started (risen (state_in realm realms.old).head) }
+    ensures none { of realms.new.connections realm ≡ [] }
+    ensures no_transactions { of realms.new.transactions realm ≡ [] }
+    ensures others { (other : ℕ) → other ≢ realm → state_in other realms.new ≡ state_in other realms.old }
+    ensures count { length realms.new.heads.items ≡ length realms.old.heads.items }
+    ensures connections { result.connections.items ≡ of realms.old.connections realm }
+    ensures transactions { result.transactions.items ≡ of realms.old.transactions realm }
+    ensures room { (rows : ℕ) → HasRoom realms.old.connections realms.old.transactions realm rows room → rows ≤ realms.new.transactions.free }
+{
+    let Parting {
+        connections,
+        transactions,
+        mut left,
+    } = room;
+    let head = &mut realms.heads[realm];
+    head.epoch += 1;
+    head.given = 0;
+    head.entries = 0;
+    let before = mem::replace(&mut realms.connections, Table::new(realms.alloc));
+    realms.connections = before.part(realm, connections, &mut left.connections);
+    let before = mem::replace(&mut realms.transactions, Table::new(realms.alloc));
+    realms.transactions = before.part(realm, transactions, &mut left.transactions);
+    left
 }

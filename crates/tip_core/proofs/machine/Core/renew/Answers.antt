@@ -22,8 +22,8 @@ invariant_of-self g c =
     let old = c.self.inside.realms in
     let turns = c.self.inside.turns.capacity in
     let here = (inside old turns c.args.realm c.requires.here.0 (subst (λ h. realm h c.args.realm ≡ Some c.requires.here.0) (sym c.self.view_is) c.requires.here.1)).0 in (
-      counts_renewed old c.renew.new.self turns turns c.args.realm here c.renew.ensures.head c.renew.ensures.others c.renew.ensures.count c.renew.ensures.none c.self.invariant.0,
-      names_renewed old c.renew.new.self turns turns c.args.realm here c.renew.ensures.head c.renew.ensures.others c.renew.ensures.count c.self.invariant.1,
+      counts_renewed old c.renew.new.realms turns turns c.args.realm here c.renew.ensures.head c.renew.ensures.others c.renew.ensures.count c.renew.ensures.none c.self.invariant.0,
+      names_renewed old c.renew.new.realms turns turns c.args.realm here c.renew.ensures.head c.renew.ensures.others c.renew.ensures.count c.self.invariant.1,
     )
 
 pub returns-clause-own : goal.returns-clause-own
@@ -33,16 +33,16 @@ returns-clause-own g c =
     let here = (inside old turns c.args.realm c.requires.here.0 (subst (λ h. realm h c.args.realm ≡ Some c.requires.here.0) (sym c.self.view_is) c.requires.here.1)).0 in
     λ state is is_of.
     let there = subst (λ h. realm h c.args.realm ≡ Some state) (sym c.self.view_is) is in
-    let was = was_so old c.renew.new.self turns turns c.args.realm here c.renew.ensures.head c.renew.ensures.others c.renew.ensures.count state there in
+    let was = was_so old c.renew.new.realms turns turns c.args.realm here c.renew.ensures.head c.renew.ensures.others c.renew.ensures.count state there in
     let same = c.renew.ensures.own (subst (λ (s : State). IsOf c.args.recovery (risen s.head)) (sym was) is_of) ∙ ap (λ (s : State). restarted (risen s.head) (map loaded c.args.recovery.rows)) was in
-    own_renewed old c.renew.new.self turns turns c.args.realm here c.renew.ensures.head c.renew.ensures.others c.renew.ensures.count state (restarted (risen state.head) (map loaded c.args.recovery.rows)) there same
+    own_renewed old c.renew.new.realms turns turns c.args.realm here c.renew.ensures.head c.renew.ensures.others c.renew.ensures.count state (restarted (risen state.head) (map loaded c.args.recovery.rows)) there same
 
 pub returns-clause-others : goal.returns-clause-others
 returns-clause-others g c =
     let old = c.self.inside.realms in
     let turns = c.self.inside.turns.capacity in
     let here = (inside old turns c.args.realm c.requires.here.0 (subst (λ h. realm h c.args.realm ≡ Some c.requires.here.0) (sym c.self.view_is) c.requires.here.1)).0 in
-    rw (← c.self.view_is) (others_renewed old c.renew.new.self turns turns c.args.realm here c.renew.ensures.head c.renew.ensures.others c.renew.ensures.count)
+    rw (← c.self.view_is) (others_renewed old c.renew.new.realms turns turns c.args.realm here c.renew.ensures.head c.renew.ensures.others c.renew.ensures.count)
 
 pub returns-clause-connections : goal.returns-clause-connections
 returns-clause-connections g c = λ state is.
@@ -59,4 +59,4 @@ returns-clause-named g c =
     let old = c.self.inside.realms in
     let turns = c.self.inside.turns.capacity in
     let here = (inside old turns c.args.realm c.requires.here.0 (subst (λ h. realm h c.args.realm ≡ Some c.requires.here.0) (sym c.self.view_is) c.requires.here.1)).0 in
-    names_renewed old c.renew.new.self turns turns c.args.realm here c.renew.ensures.head c.renew.ensures.others c.renew.ensures.count c.self.invariant.1
+    names_renewed old c.renew.new.realms turns turns c.args.realm here c.renew.ensures.head c.renew.ensures.others c.renew.ensures.count c.self.invariant.1

@@ -2,7 +2,7 @@ use Rattle.std.proofs.Common.{◌≤◌, ◌<◌, ap, arith, List, length, rules
 use Rattle.std.proofs.lemmas.Result.{IfOk-weaker}
 use Rattle.tip_machine.specs.States.{State}
 use Rattle.tip_machine.specs.declared.head.Head.{Head}
-use Rattle.tip_core.specs.Works.{state_in}
+use Rattle.tip_rules.specs.Works.{state_in}
 use Rattle.tip_core.proofs.Naming.{named_alike}
 use Rattle.tip_core.proofs.Stepping.{alike, hosted, room_for_it, still_counted}
 use Rattle.tip_core.proofs.machine.Core.room.Goals as goal

@@ -1,5 +1,0 @@
-use Rattle.tip_core.proofs.Proceeding.{aborted}
-use Rattle.tip_core.proofs.work.Work+Connection+Transaction+Making.abort.Goals as goal
-
-pub returns : goal.returns
-returns g c = aborted c.args.self.now c.enter.new.self c.react.new.self c.dispatch.new.self c.release.new.self c.args.key c.enter.ensures c.react.ensures.does c.dispatch.ensures c.release.ensures

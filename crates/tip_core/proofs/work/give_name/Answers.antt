@@ -1,8 +1,0 @@
-use Rattle.std.proofs.Common.{ap, sym, ◌∙◌}
-use Rattle.std.specs.Prelude.{slice_get}
-use Rattle.tip_txn.specs.Parts.{named}
-use Rattle.tip_core.proofs.Works.{gone_part, no_part}
-use Rattle.tip_core.proofs.work.give_name.Goals as goal
-
-pub returns-else-is_some : goal.returns-else-is_some
-returns-else-is_some c = ap (λ parts. record c.args.txn.now { parts = parts }) (sym (no_part c.args.part (named c.args.id) c.args.txn.now.parts (gone_part c.part.result (slice_get c.args.txn.now.parts c.args.part) c.part.ensures (sym c.is_some.ensures ∙ c.if-is_some.false))))

@@ -1,0 +1,38 @@
+-- The tables between two events.
+use Rattle.std.proofs.Common.{◌≡◌, ℕ, ◌<◌, Bool, false, not, Option, Some, None, length, ap, sym, ◌∙◌}
+use Rattle.std.specs.Prelude.{slice_index_or}
+use Rattle.std.proofs.lemmas.Option.{same_Some, slice_get-get_or}
+use Rattle.tip_table.specs.Kept.{StandsAt, item_at}
+use Rattle.tip_table.proofs.Standing.{found as found_first}
+use Rattle.tip_machine.specs.Connections.{has_number, may_take}
+use Rattle.tip_machine.specs.Requests.{may_take_on}
+use Rattle.tip_machine.specs.States.{connection_of, seated}
+use Rattle.tip_machine.specs.Types.{Connection}
+use Rattle.tip_machine.specs.declared.event.Seat.{Seat}
+use Rattle.tip_machine.specs.declared.head.Head.{Head}
+use Rattle.tip_rules.specs.Works.{Realms, connected, must_wait_on, no_head, state_in}
+
+module _ (realms : Realms) (realm : ℕ) (head : Head) (inside : realm < length realms.heads.items) (is : head ≡ slice_index_or realms.heads.items realm head) (seat : Seat) where
+  -- a realm's seats are those of its head and its connections
+  seats : seated seat (state_in realm realms) ≡ seated seat (connected head realms.connections realm)
+  seats = ap (λ h. seated seat (connected h realms.connections realm)) (sym (is ∙ same_Some (slice_index_or realms.heads.items realm head) (slice_index_or realms.heads.items realm no_head) (sym (slice_get-get_or realms.heads.items realm head inside) ∙ slice_get-get_or realms.heads.items realm no_head inside)))
+
+  -- whatever is said of the connection of a seat
+  there : {A : Type 0} (say : Option Connection → A) (place : ℕ) (item : Connection) → StandsAt realms.connections realm (has_number seat.number) place → item_at realms.connections place ≡ Some item → seated seat (connected head realms.connections realm) ≡ connection_of seat.number (connected head realms.connections realm) → say (seated seat (state_in realm realms)) ≡ say (Some item)
+  there say place item here is_item same = ap say (seats ∙ same ∙ found_first realms.connections realm (has_number seat.number) place here ∙ is_item)
+
+  pub taken_there : (place : ℕ) (item : Connection) → StandsAt realms.connections realm (has_number seat.number) place → item_at realms.connections place ≡ Some item → seated seat (connected head realms.connections realm) ≡ connection_of seat.number (connected head realms.connections realm) → (takes : Bool) → takes ≡ may_take item → takes ≡ may_take_on (seated seat (state_in realm realms))
+  taken_there place item here is_item same takes so = so ∙ sym (there may_take_on place item here is_item same)
+
+  pub taken_nowhere : seated seat (connected head realms.connections realm) ≡ None → false ≡ may_take_on (seated seat (state_in realm realms))
+  taken_nowhere none = sym (ap may_take_on (seats ∙ none))
+
+  pub waits_there : (place : ℕ) (item : Connection) → StandsAt realms.connections realm (has_number seat.number) place → item_at realms.connections place ≡ Some item → seated seat (connected head realms.connections realm) ≡ connection_of seat.number (connected head realms.connections realm) → (takes : Bool) → takes ≡ may_take item → not takes ≡ must_wait_on (seated seat (state_in realm realms))
+  waits_there place item here is_item same takes so = ap not so ∙ sym (there must_wait_on place item here is_item same)
+
+  pub waits_nowhere : seated seat (connected head realms.connections realm) ≡ None → false ≡ must_wait_on (seated seat (state_in realm realms))
+  waits_nowhere none = sym (ap must_wait_on (seats ∙ none))
+
+pub ruleset waiting = (waits_there, waits_nowhere)
+
+pub ruleset seating = (taken_there, taken_nowhere)

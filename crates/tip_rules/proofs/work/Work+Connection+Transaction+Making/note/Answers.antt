@@ -1,0 +1,11 @@
+use Rattle.std.proofs.Common.{ap}
+use Rattle.tip_machine.specs.Transactions.{noting}
+use Rattle.tip_machine.specs.Types.{seen}
+use Rattle.tip_txn.specs.Parts.{answered}
+use Rattle.tip_rules.proofs.Works.{altered}
+use Rattle.tip_rules.proofs.work.Work+Connection+Transaction+Making.note.Goals as goal
+
+pub returns : goal.returns
+returns g c =
+    let item = c.item_mut-transaction.result.now in
+    altered c.args.self.now c.args.key (noting c.args.part (answered c.args.answer)) c.args.place item (record item { txn = c.answer_part.new.txn }) c.requires c.item_mut-transaction.ensures.value (ap (λ txn. seen (record item { txn = txn })) c.answer_part.ensures)

@@ -1,0 +1,40 @@
+//! The rules of a realm's machine, over tables that all realms share: each does in the realm at hand what the definition of its
+//! name says.
+#![tactic(auto)]
+
+mod beginning;
+mod commands;
+mod connections;
+mod dialling;
+mod failing;
+mod finding;
+mod making;
+mod needs;
+mod noting;
+mod opening;
+mod others;
+mod outcome;
+mod outlook;
+mod presuming;
+mod pulling;
+mod pursuing;
+mod query;
+mod reaching;
+mod reaction;
+mod realms;
+mod reconnecting;
+mod requesting;
+mod responding;
+mod returning;
+mod room;
+mod rows;
+mod step;
+mod transaction_room;
+mod turns;
+mod wanting;
+mod work;
+
+pub use making::Making;
+pub use realms::Realms;
+pub use room::Room;
+pub use turns::Turns;

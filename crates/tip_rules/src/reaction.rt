@@ -1,0 +1,175 @@
+//! What a transaction's progress means for each connection that is on it (RFC 2371, section 13).
+ghost use Rattle.std.specs.Prelude.{◌≡◌, ◌-◌, ◌++◌, ◌<◌, true, length, None, Some, option_map};
+ghost use Rattle.tip_machine.specs.Connections.{is_on, names};
+ghost use Rattle.tip_machine.specs.Reactions.{demanded, demanded_as, reacted, reacts, sent_by};
+ghost use Rattle.tip_rules.specs.Makings.{GoOut, items_on};
+ghost use Rattle.tip_rules.specs.Reacting.{demand_of, reaction_of};
+
+use crate::making::Making;
+use tip_conn::State;
+use tip_line::CommandName;
+use tip_machine::{Asked, Awaited, Connection, Item, Role, Said};
+use tip_rows::Key;
+use tip_table::Visit;
+
+/// What is answered to a superior that asked, and what subordinates are asked.
+#[derive(Clone, Copy, Debug, PartialEq, Eq)]
+pub enum Reaction {
+    /// Subordinates are asked whether they are prepared.
+    Asks,
+    /// We promise to do as we are told.
+    Promises,
+    /// Nobody has anything to commit.
+    NeedsNothing,
+    /// The outcome is to commit.
+    Commits,
+    /// The outcome is to abort.
+    Aborts,
+}
+
+/// What a subordinate is asked for a transaction.
+#[derive(Clone, Copy, Debug, PartialEq, Eq)]
+pub enum Demand {
+    Prepare,
+    Commit,
+    Abort,
+}
+
+impl Demand {
+    /// The command that is said.
+    fn asked(self, key: Key) -> Asked
+        ensures { result ≡ (demand_of self).asked key }
+    {
+        match self {
+            Demand::Prepare => Asked::Prepare(key),
+            Demand::Commit => Asked::Commit(key),
+            Demand::Abort => Asked::Abort(key),
+        }
+    }
+
+    /// The response that is awaited then.
+    fn awaited(self) -> Awaited
+        ensures { result ≡ (demand_of self).awaited }
+    {
+        match self {
+            Demand::Prepare => Awaited::Prepare,
+            Demand::Commit => Awaited::Commit,
+            Demand::Abort => Awaited::Abort,
+        }
+    }
+}
+
+impl Reaction {
+    /// What is answered to the command that a connection is owed a response to.
+    fn owed(self, command: CommandName) -> Option<Said>
+        ensures { result ≡ (reaction_of self).owed command }
+    {
+        match (self, command) {
+            (Reaction::Asks, _) => None,
+            (Reaction::Promises, _) => Some(Said::Prepared),
+            (Reaction::NeedsNothing, CommandName::Prepare) => Some(Said::ReadOnly),
+            (Reaction::NeedsNothing, CommandName::Commit) => Some(Said::Committed),
+            (Reaction::NeedsNothing, _) => None,
+            (Reaction::Commits, _) => Some(Said::Committed),
+            (Reaction::Aborts, _) => Some(Said::Aborted),
+        }
+    }
+
+    /// What a subordinate is asked where its connection is in this state.
+    fn demanded(self, state: State) -> Option<Demand>
+        ensures { option_map demand_of result ≡ demanded (reaction_of self) state }
+    {
+        match (self, state) {
+            (Reaction::Asks, State::Enlisted) => Some(Demand::Prepare),
+            (Reaction::Commits, State::Prepared) => Some(Demand::Commit),
+            (Reaction::Aborts, State::Enlisted | State::Prepared) => Some(Demand::Abort),
+            _ => None,
+        }
+    }
+
+    /// What is asked on a connection: of a subordinate alone, where nothing is awaited there.
+    fn demanded_on(self, connection: &Connection) -> Option<Demand>
+        ensures { option_map demand_of result ≡ demanded_as (reaction_of self) connection.now.role connection.now }
+    {
+        match connection.role {
+            Some(Role::Subordinate { .. }) if connection.awaited.is_none() => {
+                self.demanded(connection.state)
+            }
+            _ => None,
+        }
+    }
+}
+
+/// A transaction's progress, as it is told to the connections that are on it.
+#[derive(Clone, Copy, Debug)]
+pub struct Progress {
+    pub reaction: Reaction,
+    pub key: Key,
+}
+
+impl Visit<Connection, Making> for Progress {
+    ghost left = { λ progress connection. (reacted (reaction_of progress.reaction) progress.key connection).connection };
+
+    ghost noted = { λ progress making connection.
+        let said = sent_by (reaction_of progress.reaction) progress.key connection in
+        record making { answer = record making.answer { sent = making.answer.sent ++ said }; free = making.free - length said } };
+
+    ghost may = { λ progress making connection. is_on progress.key connection ≡ true → 0 < making.free };
+
+    fn visit(&self, connection: &mut Connection, making: &mut Making) {
+        if !is_on(connection.role, self.key) {
+            return;
+        }
+        match connection.owed {
+            Some(command) => self.answer(connection, command, making),
+            None => self.demand(connection, making),
+        }
+    }
+}
+
+impl Progress {
+    /// A superior that asked is answered, where the reaction says so.
+    fn answer(&self, connection: &mut Connection, command: CommandName, making: &mut Making)
+        requires { 0 < making.old.free }
+        ensures connection { connection.new ≡ (reacts (reaction_of self.now.reaction) self.now.key (Some command) connection.old).connection }
+        ensures making { GoOut making.old making.new (items_on connection.old.number (reacts (reaction_of self.now.reaction) self.now.key (Some command) connection.old).items) }
+    {
+        if let Some(said) = self.reaction.owed(command) {
+            connection.go(command, said.name());
+            making.tell(connection.number, Item::Say(said));
+        }
+    }
+
+    /// A subordinate is asked, where the reaction says so.
+    fn demand(&self, connection: &mut Connection, making: &mut Making)
+        requires { 0 < making.old.free }
+        ensures connection { connection.new ≡ (reacts (reaction_of self.now.reaction) self.now.key None connection.old).connection }
+        ensures making { GoOut making.old making.new (items_on connection.old.number (reacts (reaction_of self.now.reaction) self.now.key None connection.old).items) }
+    {
+        if let Some(demand) = self.reaction.demanded_on(connection) {
+            connection.awaited = Some(demand.awaited());
+            making.tell(connection.number, Item::Ask(demand.asked(self.key)));
+        }
+    }
+}
+
+/// Whether a connection of this role is on the transaction of that key.
+pub fn is_on(role: Option<Role>, key: Key) -> bool
+    ensures { result ≡ names key role }
+{
+    match role {
+        Some(role) => is_of(role, key),
+        None => false,
+    }
+}
+
+/// Whether a role is one on the transaction of that key.
+fn is_of(role: Role, key: Key) -> bool
+    ensures { result ≡ names key (Some role) }
+{
+    let of = match role {
+        Role::Superior(of) => of,
+        Role::Subordinate { key: of, part: _ } => of,
+    };
+    of == key
+}

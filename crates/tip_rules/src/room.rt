@@ -1,0 +1,102 @@
+//! Room for one event.
+ghost use Rattle.std.specs.Prelude.{◌≡◌, None, IfOk, ◌≤◌};
+ghost use Rattle.std.specs.Option.{option_copied};
+ghost use Rattle.tip_branch.specs.Always.{Always};
+ghost use Rattle.tip_machine.specs.Runs.{unstored_outcome};
+
+use crate::making::{Making, Words};
+use crate::transaction_room::TransactionRoom;
+use std::alloc::{AllocError, Global};
+use std::marker::Model;
+use tip_machine::{Change, Outcome};
+
+/// All the memory that one event needs, and the change of its row that it wants. It belongs to the state and the event that it
+/// was made for.
+#[derive(Drop)]
+pub struct Room {
+    making: Making,
+    change: Option<Change>,
+}
+
+impl Model for Room {
+    ghost use Rattle.std.specs.Prelude.{◌≡◌};
+    ghost use Rattle.tip_machine.specs.Answers.{silence};
+    ghost use Rattle.tip_rules.specs.Needs.{Granted};
+
+    ghost Value = { Granted };
+
+    ghost view = { λ r. record { lines = r.making.free; transaction = r.making.room; peer = r.making.peer; ours = r.making.ours; word = r.making.word; change = r.change } };
+
+    ghost invariant = { λ r. r.making.answer ≡ silence };
+}
+
+impl Room {
+    ghost use Rattle.tip_machine.specs.Answers.{silence};
+
+    /// Room for so many lines and closings, for a transaction if it is given, for an event that wants this change, with these
+    /// copies of words.
+    pub fn new(
+        alloc: Global,
+        lines: usize,
+        transaction: Option<TransactionRoom>,
+        words: Words,
+        change: Option<Change>,
+    ) -> Result<Room, AllocError>
+        ensures lines { IfOk result (λ room. lines ≤ room.lines) }
+        ensures transaction { IfOk result (λ room. room.transaction ≡ transaction) }
+        ensures peer { IfOk result (λ room. room.peer ≡ words.peer) }
+        ensures ours { IfOk result (λ room. room.ours ≡ words.ours) }
+        ensures word { IfOk result (λ room. room.word ≡ words.word) }
+        ensures change { IfOk result (λ room. room.change ≡ change) }
+    {
+        Ok(Room {
+            making: Making::new(alloc, lines, transaction, words)?,
+            change,
+        })
+    }
+
+    /// Room for nothing.
+    pub fn nothing(alloc: Global) -> Result<Room, AllocError>
+        requires { Always }
+        ensures { IfOk result (λ room. room.change ≡ None) }
+    {
+        let words = Words {
+            peer: None,
+            ours: None,
+            word: None,
+        };
+        Room::new(alloc, 0, None, words, None)
+    }
+
+    /// The change of its row that the event wants. Its outcome is handed to `Core::apply`.
+    pub fn wants(&self) -> Option<&Change>
+        ensures { option_copied result ≡ self.now.change }
+    {
+        self.change.as_ref()
+    }
+
+    /// The outcome where no rows are stored: a change that is wanted is refused.
+    pub fn unstored(&self) -> Outcome
+        ensures { result ≡ unstored_outcome self.now.change }
+    {
+        match self.change {
+            Some(_) => Outcome::Refused,
+            None => Outcome::NoChange,
+        }
+    }
+
+    /// The answer to be made, with its room, and the change.
+    pub fn into_parts(self) -> (Making, Option<Change>)
+        requires { Always }
+        ensures answer { result.0.answer ≡ silence }
+        ensures lines { result.0.free ≡ self.lines }
+        ensures transaction { result.0.room ≡ self.transaction }
+        ensures peer { result.0.peer ≡ self.peer }
+        ensures ours { result.0.ours ≡ self.ours }
+        ensures word { result.0.word ≡ self.word }
+        ensures change { result.1 ≡ self.change }
+    {
+        let Room { making, change } = self;
+        (making, change)
+    }
+}

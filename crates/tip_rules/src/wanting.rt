@@ -1,0 +1,491 @@
+//! The change of its row that an event wants, by reading alone, so that its outcome can be had before the event happens.
+ghost use Rattle.std.specs.Prelude.{◌≡◌, ◌<◌, ◌&&◌, false, not, Some, length, IfOk};
+ghost use Rattle.std.specs.List.{list_any};
+ghost use Rattle.std.specs.Option.{option_and_then, option_map_or};
+ghost use Rattle.tip_branch.specs.Notes.{PartyNotes};
+ghost use Rattle.tip_conn.specs.Table.{admit_of};
+ghost use Rattle.tip_line.specs.Command.{name_of};
+ghost use Rattle.tip_line.specs.declared.command.Command.TheVariants.{Commit, Prepare};
+ghost use Rattle.tip_line.specs.declared.command.CommandName.TheVariants.{Query};
+ghost use Rattle.tip_line.specs.declared.response.ResponseName.TheVariants.{QueriedNotFound};
+ghost use Rattle.tip_machine.specs.Connections.{advanced, is_idle, is_superior_of};
+ghost use Rattle.tip_table.specs.Kept.{StandsAt};
+ghost use Rattle.tip_txn.specs.Parts.{answered};
+ghost use Rattle.tip_machine.specs.Proceeding.{owed_to_superior};
+ghost use Rattle.tip_machine.specs.States.{connection_of, seated, transaction_of};
+ghost use Rattle.tip_machine.specs.Transactions.{noting, standing_at};
+ghost use Rattle.tip_machine.specs.Types.{seen, Transaction as ATransaction};
+ghost use Rattle.tip_machine.specs.declared.transaction.PartyPlace.TheVariants.{Here, Spent};
+ghost use Rattle.tip_machine.specs.declared.event.Event.TheVariants.{Line, Resume, Settled, Voted};
+ghost use Rattle.tip_rules.specs.Noting.{exists_of, note_of, part_of};
+ghost use Rattle.tip_rules.specs.Wanting.{abort_for, answer_wanted, asked, command_wanted, foreseen, forgotten, hears_responses, is_admitted, line_wanted, of_superior, outlook, owed_then, query_wanted, response_wanted, resume_wanted, wanted_noting, wanted_of_part, wished};
+ghost use Rattle.tip_rules.specs.Works.{is_keyed, work_of};
+
+use crate::commands::superior_role;
+use crate::making::Making;
+use crate::noting::{Awaits, Note, exists_of};
+use crate::outlook::Outlook;
+use crate::query::{SuperiorOf, asks_for};
+use crate::reconnecting::is_prepared;
+use crate::returning::{answer_of, is_aborting, is_committed, is_committing, is_voting};
+use crate::work::{Work, has_ready};
+use std::alloc::{AllocError, Global};
+use tip_branch::{HeldParty, Member};
+use tip_conn::{Admit, Side, State, Turn, admit, after_named};
+use tip_line::{Command, CommandName, Id, Response, ResponseName};
+use tip_machine::{Change, Connection, Event, Heard, PartyPlace, Role, Seat, Transaction};
+use tip_rows::Key;
+use tip_txn::{Ballot, Part, Phase};
+
+impl Work<Connection, Transaction, Making> {
+    /// What the event wants, once it has its entry.
+    pub fn foresee(&self, alloc: Global, event: &Event) -> Result<Option<Change>, AllocError>
+        requires { self.now.realm < length self.now.heads.items }
+        ensures { IfOk result (λ change. change ≡ foreseen event.now (work_of self.now).state) }
+    {
+        match event {
+            Event::Line { seat, heard } => self.wanted_by_line(alloc, *seat, heard),
+            Event::Voted(party) => self.wanted_by_vote(alloc, party),
+            Event::Settled(party) => self.wanted_by_settled(alloc, party),
+            Event::Resume { id } => Ok(self.wanted_by_resume(id)),
+            Event::Open { .. }
+            | Event::Dial { .. }
+            | Event::Lost { .. }
+            | Event::AskPush { .. }
+            | Event::AskPull { .. } => Ok(None),
+        }
+    }
+
+    /// What a line wants: a command, or a response, where it may be taken and is valid.
+    fn wanted_by_line(
+        &self,
+        alloc: Global,
+        seat: Seat,
+        heard: &Heard,
+    ) -> Result<Option<Change>, AllocError>
+        requires { self.now.realm < length self.now.heads.items }
+        ensures { IfOk result (λ change. change ≡ foreseen (Line seat heard.now) (work_of self.now).state) }
+    {
+        match heard {
+            Heard::Command(command) => self.wanted_on(alloc, seat, command),
+            Heard::Response(response) => self.wanted_by_response(alloc, seat, response),
+            Heard::Malformed => Ok(None),
+        }
+    }
+
+    /// What a command wants that comes for a connection.
+    fn wanted_on(
+        &self,
+        alloc: Global,
+        seat: Seat,
+        command: &Command,
+    ) -> Result<Option<Change>, AllocError>
+        requires { self.now.realm < length self.now.heads.items }
+        ensures { IfOk result (λ change. change ≡ line_wanted (seated seat (work_of self.now).state) command.now (work_of self.now).state) }
+    {
+        let Some(place) = self.seated(seat) else {
+            return Ok(None);
+        };
+        let connection = self.connection(seat.number, place);
+        if connection.may_take() && is_admitted(connection, command) {
+            self.wanted_by_command(alloc, connection, command)
+        } else {
+            Ok(None)
+        }
+    }
+
+    /// What a command wants that is valid on a connection.
+    fn wanted_by_command(
+        &self,
+        alloc: Global,
+        connection: &Connection,
+        command: &Command,
+    ) -> Result<Option<Change>, AllocError>
+        ensures { IfOk result (λ change. change ≡ command_wanted command.now connection.now (work_of self.now).state) }
+    {
+        match command {
+            Command::Prepare => self.wanted_by_prepare(alloc, connection),
+            Command::Commit => self.wanted_by_commit(alloc, connection),
+            Command::Abort => Ok(self.wanted_by_abort(connection)),
+            _ => Ok(None),
+        }
+    }
+
+    /// What the superior's PREPARE wants: the row that all agree on, where the superior can be reached again.
+    fn wanted_by_prepare(
+        &self,
+        alloc: Global,
+        connection: &Connection,
+    ) -> Result<Option<Change>, AllocError>
+        ensures { IfOk result (λ change. change ≡ command_wanted Prepare connection.now (work_of self.now).state) }
+    {
+        let Some(key) = superior_role(connection.role) else {
+            return Ok(None);
+        };
+        let Some(place) = self.transaction(key) else {
+            return Ok(None);
+        };
+        let transaction = self.at(key, place);
+        match (transaction.txn.phase(), &connection.peer) {
+            (Phase::Active, Some(_)) => {
+                self.wanted_once_asked(alloc, CommandName::Prepare, connection.number, transaction)
+            }
+            (Phase::Active, None)
+            | (Phase::Asking | Phase::Prepared | Phase::Committed | Phase::Aborted, _) => Ok(None),
+        }
+    }
+
+    /// What a transaction wants once all its parties are asked, by this command on the connection of a number.
+    fn wanted_once_asked(
+        &self,
+        alloc: Global,
+        command: CommandName,
+        number: u32,
+        transaction: &Transaction,
+    ) -> Result<Option<Change>, AllocError>
+        ensures { IfOk result (λ change. change ≡ wished (owed_then command number transaction.now.key (work_of self.now).state) (outlook (asked (seen transaction.now)))) }
+    {
+        let owed = self.owed_then(command, number, transaction.key);
+        Outlook::asked(transaction).wished(alloc, owed)
+    }
+
+    /// What the superior's COMMIT wants: the row that all agree on, or the committed one of a transaction in doubt.
+    fn wanted_by_commit(
+        &self,
+        alloc: Global,
+        connection: &Connection,
+    ) -> Result<Option<Change>, AllocError>
+        ensures { IfOk result (λ change. change ≡ command_wanted Commit connection.now (work_of self.now).state) }
+    {
+        let Some(key) = superior_role(connection.role) else {
+            return Ok(None);
+        };
+        let Some(place) = self.transaction(key) else {
+            return Ok(None);
+        };
+        let transaction = self.at(key, place);
+        match transaction.txn.phase() {
+            Phase::Active => {
+                self.wanted_once_asked(alloc, CommandName::Commit, connection.number, transaction)
+            }
+            Phase::Prepared => Ok(Some(Outlook::of(transaction).committing(alloc)?)),
+            Phase::Asking | Phase::Committed | Phase::Aborted => Ok(None),
+        }
+    }
+
+    /// What will be owed to a transaction's superior, once this command came on the connection of a number.
+    #[tactic(auto, using(crate::proofs::Outlooks::owed_later))]
+    fn owed_then(&self, command: CommandName, number: u32, key: Key) -> Option<CommandName>
+        ensures { result ≡ owed_then command number key (work_of self.now).state }
+    {
+        let place = self.connections.find(self.realm, &SuperiorOf { key })?;
+        let connection = self.connections.item(place);
+        if connection.number == number {
+            return Some(command);
+        }
+        connection.owed
+    }
+
+    /// What the superior's ABORT wants: that the row of a transaction in doubt is removed.
+    fn wanted_by_abort(&self, connection: &Connection) -> Option<Change>
+        ensures { result ≡ of_superior abort_for connection.now (work_of self.now).state }
+    {
+        let key = superior_role(connection.role)?;
+        let place = self.transaction(key)?;
+        let transaction = self.at(key, place);
+        match transaction.txn.phase() {
+            Phase::Prepared => Some(Change::Remove {
+                key: transaction.key,
+            }),
+            Phase::Active | Phase::Asking | Phase::Committed | Phase::Aborted => None,
+        }
+    }
+
+    /// What a response wants that comes for a connection: the row that all agree on, or that it is removed once all have
+    /// acknowledged.
+    #[tactic(auto, using(crate::proofs::Asking::itself))]
+    fn wanted_by_response(
+        &self,
+        alloc: Global,
+        seat: Seat,
+        response: &Response,
+    ) -> Result<Option<Change>, AllocError>
+        requires { self.now.realm < length self.now.heads.items }
+        ensures { IfOk result (λ change. change ≡ response_wanted (seated seat (work_of self.now).state) response.now (work_of self.now).state) }
+    {
+        let Some(place) = self.seated(seat) else {
+            return Ok(None);
+        };
+        let connection = self.connection(seat.number, place);
+        if !hears_responses(connection) {
+            return Ok(None);
+        }
+        match Awaits::of(&connection.awaited) {
+            Awaits::OfPart(_) => self.wanted_by_part(alloc, connection, response),
+            Awaits::Queried(key) => Ok(self.wanted_by_query(connection, key, response)),
+            Awaits::Nothing
+            | Awaits::Identified
+            | Awaits::ToAsk
+            | Awaits::ToReach
+            | Awaits::Pulled => Ok(None),
+        }
+    }
+
+    /// The same of a response to what a part was asked.
+    fn wanted_by_part(
+        &self,
+        alloc: Global,
+        connection: &Connection,
+        response: &Response,
+    ) -> Result<Option<Change>, AllocError>
+        ensures { IfOk result (λ change. change ≡ answer_wanted (note_of connection.now.awaited response.now) connection.now (work_of self.now).state) }
+    {
+        match Note::copied(&connection.awaited, response)? {
+            Some(note) => self.wanted_once_noted(alloc, connection.role, &note),
+            None => Ok(None),
+        }
+    }
+
+    /// What a response to QUERY wants: that the row of a transaction in doubt is removed, which its superior has forgotten.
+    fn wanted_by_query(
+        &self,
+        connection: &Connection,
+        key: Key,
+        response: &Response,
+    ) -> Option<Change>
+        requires { connection_of connection.now.number (work_of self.now).state ≡ Some connection.now }
+        ensures { result ≡ query_wanted (exists_of response.now) key connection.now (work_of self.now).state }
+    {
+        if exists_of(response)? {
+            return None;
+        }
+        let place = self.transaction(key)?;
+        let transaction = self.at(key, place);
+        if is_prepared(transaction.txn.phase())
+            && !self.has_superior_then(connection, transaction.key)
+        {
+            Some(Change::Remove {
+                key: transaction.key,
+            })
+        } else {
+            None
+        }
+    }
+
+    /// Whether the superior of the transaction of a key is on a connection, once this one has gone on after QUERIEDNOTFOUND.
+    #[tactic(auto, using(crate::proofs::Asking::superior_then))]
+    fn has_superior_then(&self, connection: &Connection, key: Key) -> bool
+        requires { connection_of connection.now.number (work_of self.now).state ≡ Some connection.now }
+        ensures { result ≡ list_any (is_superior_of key) (forgotten connection.now (work_of self.now).state).connections }
+    {
+        let there = self
+            .connections
+            .count_passing(self.realm, &SuperiorOf { key });
+        if leaves(connection, key) {
+            there > 1
+        } else {
+            there > 0
+        }
+    }
+
+    /// What the transaction wants whose part's connection one of this role is, once this is noted of the part.
+    fn wanted_once_noted(
+        &self,
+        alloc: Global,
+        role: Option<Role>,
+        note: &Note,
+    ) -> Result<Option<Change>, AllocError>
+        ensures { IfOk result (λ change. change ≡ wanted_of_part note.now (part_of role) (work_of self.now).state) }
+    {
+        match role {
+            Some(role) => self.wanted_on_role(alloc, role, note),
+            None => Ok(None),
+        }
+    }
+
+    /// The same, of a connection that is on a transaction.
+    fn wanted_on_role(
+        &self,
+        alloc: Global,
+        role: Role,
+        note: &Note,
+    ) -> Result<Option<Change>, AllocError>
+        ensures { IfOk result (λ change. change ≡ wanted_of_part note.now (part_of (Some role)) (work_of self.now).state) }
+    {
+        match role {
+            Role::Subordinate { key, part } => self.wanted_noting(alloc, key, part, note),
+            Role::Superior(_) => Ok(None),
+        }
+    }
+
+    /// What a transaction wants once this is noted of a part of it.
+    fn wanted_noting(
+        &self,
+        alloc: Global,
+        key: Key,
+        part: Part,
+        note: &Note,
+    ) -> Result<Option<Change>, AllocError>
+        ensures { IfOk result (λ change. change ≡ option_and_then (wanted_noting note.now part (work_of self.now).state) (transaction_of key (work_of self.now).state)) }
+    {
+        let Some(place) = self.transaction(key) else {
+            return Ok(None);
+        };
+        let transaction = self.at(key, place);
+        let owed = self.owed_to_superior(transaction.key);
+        Outlook::noted(transaction, part, note).wished(alloc, owed)
+    }
+
+    /// What a vote wants: the row that all agree on.
+    #[tactic(auto, using(crate::proofs::Outlooks::voting_ahead))]
+    fn wanted_by_vote(&self, alloc: Global, party: &HeldParty) -> Result<Option<Change>, AllocError>
+        requires { self.now.realm < length self.now.heads.items }
+        ensures { IfOk result (λ change. change ≡ foreseen (Voted party.now) (work_of self.now).state) }
+    {
+        let Some((key, place)) = self.owner(party) else {
+            return Ok(None);
+        };
+        if is_voting(&self.at(key, place).place) {
+            self.wanted_once_voted(alloc, key, place, answer_of(party), party.party().members())
+        } else {
+            Ok(None)
+        }
+    }
+
+    /// The same, of the transaction that gave the party out.
+    fn wanted_once_voted(
+        &self,
+        alloc: Global,
+        key: Key,
+        place: usize,
+        answer: Ballot,
+        members: &[Member],
+    ) -> Result<Option<Change>, AllocError>
+        requires { StandsAt self.now.transactions self.now.realm (is_keyed key) place }
+        ensures { (t : ATransaction) (party : PartyNotes) → transaction_of key (work_of self.now).state ≡ Some t → members.now ≡ party.members →
+            IfOk result (λ change. change ≡ wished (owed_to_superior key (work_of self.now).state) (outlook (noting 0 (answered answer) (standing_at (Here party) t)))) }
+    {
+        let transaction = self.at(key, place);
+        Outlook::voted(transaction, answer, members).wished(alloc, self.owed_to_superior(key))
+    }
+
+    /// What a party wants that was told the outcome: that the row is removed, where all have acknowledged.
+    #[tactic(auto, using(crate::proofs::Outlooks::settling_ahead))]
+    fn wanted_by_settled(
+        &self,
+        alloc: Global,
+        party: &HeldParty,
+    ) -> Result<Option<Change>, AllocError>
+        requires { self.now.realm < length self.now.heads.items }
+        ensures { IfOk result (λ change. change ≡ foreseen (Settled party.now) (work_of self.now).state) }
+    {
+        let Some((key, place)) = self.owner(party) else {
+            return Ok(None);
+        };
+        let at = &self.at(key, place).place;
+        if is_aborting(at) {
+            return self.wanted_once_back(alloc, key, place, party.party().members());
+        }
+        if !is_committing(at) {
+            return Ok(None);
+        }
+        if has_ready(party) {
+            self.wanted_once_back(alloc, key, place, party.party().members())
+        } else {
+            self.wanted_once_spent(alloc, key, place)
+        }
+    }
+
+    /// The same, where the party is with its transaction then.
+    fn wanted_once_back(
+        &self,
+        alloc: Global,
+        key: Key,
+        place: usize,
+        members: &[Member],
+    ) -> Result<Option<Change>, AllocError>
+        requires { StandsAt self.now.transactions self.now.realm (is_keyed key) place }
+        ensures { (t : ATransaction) (party : PartyNotes) → transaction_of key (work_of self.now).state ≡ Some t → members.now ≡ party.members →
+            IfOk result (λ change. change ≡ wished (owed_to_superior key (work_of self.now).state) (outlook (standing_at (Here party) t))) }
+    {
+        let transaction = self.at(key, place);
+        Outlook::back(transaction, members).wished(alloc, self.owed_to_superior(key))
+    }
+
+    /// The same, where the party is let go then.
+    fn wanted_once_spent(
+        &self,
+        alloc: Global,
+        key: Key,
+        place: usize,
+    ) -> Result<Option<Change>, AllocError>
+        requires { StandsAt self.now.transactions self.now.realm (is_keyed key) place }
+        ensures { (t : ATransaction) → transaction_of key (work_of self.now).state ≡ Some t →
+            IfOk result (λ change. change ≡ wished (owed_to_superior key (work_of self.now).state) (outlook (standing_at Spent t))) }
+    {
+        let transaction = self.at(key, place);
+        Outlook::spent(transaction).wished(alloc, self.owed_to_superior(key))
+    }
+
+    /// What it wants that a transaction is tried again: that its row is removed, where only this is left.
+    fn wanted_by_resume(&self, id: &Id) -> Option<Change>
+        requires { self.now.realm < length self.now.heads.items }
+        ensures { result ≡ foreseen (Resume id.now) (work_of self.now).state }
+    {
+        let (key, place) = self.identified(id)?;
+        wanted_again(self.at(key, place))
+    }
+}
+
+/// The same of the transaction that is meant.
+fn wanted_again(transaction: &Transaction) -> Option<Change>
+    ensures { result ≡ resume_wanted (seen transaction.now) }
+{
+    if !is_committed(transaction.txn.phase()) {
+        return None;
+    }
+    match &transaction.place {
+        PartyPlace::Spent => Outlook::of(transaction).finished(),
+        PartyPlace::Here(_) | PartyPlace::Out(_) => None,
+    }
+}
+
+/// Whether a response is taken on a connection: where we are its primary, and await one.
+fn hears_responses(connection: &Connection) -> bool
+    ensures { result ≡ hears_responses connection.now }
+{
+    connection.may_take() && connection.side == Side::Primary
+}
+
+/// Whether a connection is the one of a transaction's superior, and no more once it has gone on after QUERIEDNOTFOUND.
+#[tactic(auto, using(crate::proofs::Asking::leaving))]
+fn leaves(connection: &Connection, key: Key) -> bool
+    ensures { result ≡ (is_superior_of key connection.now && not (is_superior_of key (advanced Query QueriedNotFound connection.now))) }
+{
+    asks_for(connection.role, key)
+        && becomes_idle(after_named(
+            connection.state,
+            CommandName::Query,
+            ResponseName::QueriedNotFound,
+        ))
+}
+
+/// Whether a connection is idle once it has gone there.
+fn becomes_idle(to: Option<(State, Turn)>) -> bool
+    ensures { result ≡ option_map_or (λ place. is_idle place.0) to false }
+{
+    match to {
+        Some((state, _)) => state == State::Idle,
+        None => false,
+    }
+}
+
+/// Whether a command is valid on a connection.
+fn is_admitted(connection: &Connection, command: &Command) -> bool
+    ensures { result ≡ is_admitted (admit_of connection.now.state connection.now.side (name_of command.now)) }
+{
+    match admit(connection.state, connection.side, command) {
+        Admit::Serve => true,
+        Admit::Wrong => false,
+    }
+}
