@@ -26,6 +26,3 @@ pub use realm::{Realm, is_realm};
 pub use refusal::Refusal;
 pub use response::{Response, ResponseName};
 pub use word::{Address, Word};
-
-#[cfg(test)]
-mod tests;

@@ -1,7 +1,7 @@
-//! What no clause says: that calls succeed while memory is there, and the protocol's own examples.
-use crate::{Address, Cause, Id, Line, Lines, Realm, Refusal, Word};
+//! What no clause of `tip_line` says: that calls succeed while memory is there, and the protocol's own examples.
 use std::alloc::{AllocError, Global};
 use std::test::Fail;
+use tip_line::{Address, Cause, Id, Line, Lines, Realm, Refusal, Word};
 
 /// BEGIN among blank lines and words that are ignored, ended by CR LF and one more LF.
 const BEGIN: &[u8] = b"  BEGIN  xy\r\n\n";

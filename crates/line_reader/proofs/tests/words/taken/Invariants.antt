@@ -1,5 +1,5 @@
 use Rattle.std.proofs.Common.{length}
-use Rattle.tip_line.proofs.tests.taken.Given as goal
+use Rattle.line_reader.proofs.tests.words.taken.Given as goal
 
 abbrev pub decreases-loop-text : goal.decreases-loop-text
 decreases-loop-text l = length l.lines
