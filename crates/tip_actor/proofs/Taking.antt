@@ -7,8 +7,8 @@ use Rattle.std.proofs.lemmas.Bool.Decides.{nat_tests}
 use Rattle.std.proofs.lemmas.List.{append-nil, drop_all}
 use Rattle.std.proofs.lemmas.Option.{none-some, same_Some, slice_get_within}
 use Rattle.tip_core.specs.Hosted.{Hosted, must_wait_in, realm}
-use Rattle.tip_rules.specs.Works.{must_wait_on}
 use Rattle.tip_line.specs.Reading.{Item, items_of}
+use Rattle.tip_machine.specs.Requests.{must_wait_on}
 use Rattle.tip_machine.specs.States.{State, seated}
 use Rattle.tip_machine.specs.Types.{Event}
 use Rattle.tip_machine.specs.declared.event.Event.TheVariants as event

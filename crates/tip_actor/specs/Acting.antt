@@ -6,7 +6,6 @@ use Rattle.tip_branch.specs.declared.branch.Badge.{Badge}
 use Rattle.tip_branch.specs.declared.branch.Plan.{Plan}
 use Rattle.tip_branch.specs.declared.branch.Plan.TheVariants.{Yes}
 use Rattle.tip_branch.specs.Notes.{PartyNotes}
-use Rattle.tip_rules.specs.Works.{must_wait_on}
 use Rattle.tip_line.specs.Reading.{Item, Text, Bad, items_of}
 use Rattle.tip_machine.specs.Answers.{identifier}
 use Rattle.tip_machine.specs.Events.{heard_of}
@@ -14,6 +13,7 @@ use Rattle.tip_line.specs.declared.refusal.Refusal.TheVariants.{EpochEnd}
 use Rattle.tip_machine.specs.Moves.{World, Moved, Renew, Restart, moved, stepped}
 use Rattle.tip_machine.specs.Outputs.{drops_of}
 use Rattle.tip_machine.specs.Returns.{event_of}
+use Rattle.tip_machine.specs.Requests.{must_wait_on}
 use Rattle.tip_machine.specs.States.{State, seated}
 use Rattle.tip_machine.specs.Steps.{step, wants}
 use Rattle.tip_machine.specs.Types.{Answer, Event}

@@ -2,7 +2,7 @@
 use Rattle.std.specs.Prelude.{ℕ, Bool, false, ◌≡◌, ◌≢◌, ◌≤◌, ◌<◌, List, Option, Some, None, length, map, option_map, slice_get}
 use Rattle.tip_table.specs.Kept.{Kept, capacity, of}
 use Rattle.tip_machine.specs.States.{State, seated}
-use Rattle.tip_machine.specs.Requests.{may_take_on}
+use Rattle.tip_machine.specs.Requests.{may_take_on, must_wait_on}
 use Rattle.tip_machine.specs.Steps.{step, nowhere}
 use Rattle.tip_machine.specs.Types.{Answer, Connection, Event, seen}
 use Rattle.tip_machine.specs.declared.head.Head.{Head}
@@ -10,7 +10,7 @@ use Rattle.tip_machine.specs.declared.head.Start.{Start}
 use Rattle.tip_machine.specs.declared.event.Outcome.{Outcome}
 use Rattle.tip_machine.specs.declared.event.Seat.{Seat}
 use Rattle.tip_rules.specs.Needs.{Granted, Suits}
-use Rattle.tip_rules.specs.Works.{HeldTransaction, must_wait_on}
+use Rattle.tip_rules.specs.Works.{HeldTransaction}
 
 -- all realms in shared tables; clauses speak of them by `realm` and `room_in`
 pub record Hosted : Type 0 where

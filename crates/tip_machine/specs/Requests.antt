@@ -1,6 +1,6 @@
 -- What happens to a realm beside commands and responses: connections come and go, lines come in or out of turn, parties come
 -- back, and the host asks for something.
-use Rattle.std.specs.Prelude.{ℕ, ◌+◌, ◌==◌, Bool, false, List, [], ◌∷◌, ◌++◌, length, Option, Some, None, find, if◌then◌else◌}
+use Rattle.std.specs.Prelude.{ℕ, ◌+◌, ◌==◌, Bool, false, List, [], ◌∷◌, ◌++◌, length, not, Option, Some, None, find, if◌then◌else◌}
 use Rattle.tip_branch.specs.Notes.{PartyNotes}
 use Rattle.tip_branch.specs.declared.branch.Badge.{Badge}
 use Rattle.tip_branch.specs.declared.member.Errand.TheVariants as errand
@@ -78,6 +78,11 @@ line (Some connection) heard work = if may_take connection then hear connection.
 abbrev pub may_take_on : Option Connection → Bool
 may_take_on None = false
 may_take_on (Some connection) = may_take connection
+
+-- must it wait? where none may be taken; on a connection that is gone it is refused at once
+abbrev pub must_wait_on : Option Connection → Bool
+must_wait_on None = false
+must_wait_on (Some connection) = not (may_take connection)
 
 -- Requests of the host
 

@@ -5,12 +5,12 @@ use Rattle.std.proofs.lemmas.Option.{same_Some, slice_get-get_or}
 use Rattle.tip_table.specs.Kept.{StandsAt, item_at}
 use Rattle.tip_table.proofs.Standing.{found as found_first}
 use Rattle.tip_machine.specs.Connections.{has_number, may_take}
-use Rattle.tip_machine.specs.Requests.{may_take_on}
+use Rattle.tip_machine.specs.Requests.{may_take_on, must_wait_on}
 use Rattle.tip_machine.specs.States.{connection_of, seated}
 use Rattle.tip_machine.specs.Types.{Connection}
 use Rattle.tip_machine.specs.declared.event.Seat.{Seat}
 use Rattle.tip_machine.specs.declared.head.Head.{Head}
-use Rattle.tip_rules.specs.Works.{Realms, connected, must_wait_on, no_head, state_in}
+use Rattle.tip_rules.specs.Works.{Realms, connected, no_head, state_in}
 
 module _ (realms : Realms) (realm : ℕ) (head : Head) (inside : realm < length realms.heads.items) (is : head ≡ slice_index_or realms.heads.items realm head) (seat : Seat) where
   -- a realm's seats are those of its head and its connections

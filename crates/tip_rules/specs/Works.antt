@@ -1,5 +1,5 @@
 -- How the tables stand for the work of an event in its realm.
-use Rattle.std.specs.Prelude.{ℕ, ◌≡◌, ◌≢◌, ◌+◌, ◌<◌, ◌∷◌, ◌++◌, Bool, true, false, not, List, [], Option, None, Some, filter, length, map, slice_index_or, if◌then◌else◌}
+use Rattle.std.specs.Prelude.{ℕ, ◌≡◌, ◌≢◌, ◌+◌, ◌<◌, ◌∷◌, ◌++◌, Bool, true, false, List, [], Option, None, Some, filter, length, map, slice_index_or, if◌then◌else◌}
 use Rattle.std.specs.Option.{option_and_then, option_map_or}
 use Rattle.tip_branch.specs.Notes.{PartyNotes}
 use Rattle.tip_branch.specs.declared.member.Errand.TheVariants as errand
@@ -8,7 +8,6 @@ use Rattle.tip_table.specs.Kept.{Kept, capacity, item_at, of}
 use Rattle.tip_machine.specs.Commands.{make}
 use Rattle.tip_machine.specs.Connections.{is_on}
 use Rattle.tip_machine.specs.Counts.{HasCounts}
-use Rattle.tip_machine.specs.Requests.{may_take_on}
 use Rattle.tip_machine.specs.States.{State, Work, connection_of, has_room, transaction_of}
 use Rattle.tip_machine.specs.Transactions.{has_id, has_key, is_known, next_key}
 use Rattle.tip_machine.specs.Types.{Answer, Connection, PartyPlace, Transaction, seen}
@@ -221,8 +220,3 @@ make_where_room from connection work = if has_room connection work.state then ma
 -- the key of it
 abbrev pub key_where_room : Connection → State → Option Key
 key_where_room connection state = if has_room connection state then Some (next_key state.head connection) else None
-
--- must a line on this connection wait? where none may be taken; on one that is gone it is refused at once
-abbrev pub must_wait_on : Option Connection → Bool
-must_wait_on None = false
-must_wait_on (Some connection) = not (may_take_on (Some connection))

@@ -3,10 +3,10 @@ ghost use Rattle.std.specs.Prelude.{◌≡◌, ◌<◌, ℕ, length, IfOk};
 ghost use Rattle.tip_table.specs.Kept.{of};
 ghost use Rattle.tip_machine.specs.Answers.{silence};
 ghost use Rattle.tip_machine.specs.Counts.{HasCounts};
-ghost use Rattle.tip_machine.specs.Requests.{may_take_on};
+ghost use Rattle.tip_machine.specs.Requests.{may_take_on, must_wait_on};
 ghost use Rattle.tip_machine.specs.States.{seated};
 ghost use Rattle.tip_rules.specs.Needs.{HasNeeds, Suits, happened};
-ghost use Rattle.tip_rules.specs.Works.{Does, must_wait_on, state_in, working};
+ghost use Rattle.tip_rules.specs.Works.{Does, state_in, working};
 
 use crate::making::Making;
 use crate::opening::seat_place;
