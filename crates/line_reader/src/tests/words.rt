@@ -76,15 +76,37 @@ fn blank_lines_fill_no_buffer(rt: HostRuntime) -> Result<(), Fail> {
 }
 
 #[test]
-fn copies_are_equal(rt: HostRuntime) -> Result<(), Fail> {
+fn a_copy_of_a_word_is_equal(rt: HostRuntime) -> Result<(), Fail> {
     let word = Word::new(rt.alloc(), b"a.x")?;
     assert!(rt; word.copy()? == word);
+    Ok(())
+}
+
+#[test]
+fn a_copy_of_an_address_is_equal(rt: HostRuntime) -> Result<(), Fail> {
     let address = Address::new(rt.alloc(), b"a.x")?;
     assert!(rt; address.copy()? == address);
+    Ok(())
+}
+
+#[test]
+fn a_copy_of_a_realm_is_equal(rt: HostRuntime) -> Result<(), Fail> {
     let realm = Realm::new(rt.alloc(), b"north")?;
     assert!(rt; realm.copy()? == realm);
-    let id = Id::of(rt.alloc(), &realm, 1, 10, 4294967295)?;
+    Ok(())
+}
+
+#[test]
+fn a_copy_of_an_identifier_is_equal(rt: HostRuntime) -> Result<(), Fail> {
+    let id = Id::new(rt.alloc(), b"north-1-10-7")?;
     assert!(rt; id.copy()? == id);
+    Ok(())
+}
+
+#[test]
+fn an_identifier_is_spelled_by_its_parts(rt: HostRuntime) -> Result<(), Fail> {
+    let realm = Realm::new(rt.alloc(), b"north")?;
+    let id = Id::of(rt.alloc(), &realm, 1, 10, 4294967295)?;
     assert_eq!(rt; id.as_str(), "north-1-10-4294967295");
     Ok(())
 }
