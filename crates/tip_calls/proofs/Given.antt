@@ -11,9 +11,8 @@ use Rattle.tip_agreement.proofs.Keys.{key_self}
 use Rattle.tip_machine.proofs.Storing.{before_apart}
 use Rattle.tip_machine.specs.Moves as Moves
 use Rattle.tip_machine.specs.Starting as Starting
-use Rattle.tip_recovery.specs.Adopting.{Unfinished, adopted_all, adopting, are_adopted, are_for, are_for_all, fault_of, given, is_named, loaded, refusal_of, unadopted, waits, with_boxes}
-use Rattle.tip_recovery.specs.Renewing.{are_again, is_again, taking, taking_all}
-use Rattle.tip_recovery.specs.declared.unfinished.AdoptFault.{AdoptFault}
+use Rattle.tip_recovery.specs.Adopting.{Unfinished, adopted_all, adopting, are_adopted, are_for, are_for_all, fault_of, is_named, loaded, refusal_of, unadopted, waits, with_boxes}
+use Rattle.tip_recovery.specs.Renewing.{are_again, is_again, taking_all}
 use Rattle.tip_recovery.specs.declared.unfinished.AdoptFault.TheVariants.{NotInDoubt, WrongCount}
 use Rattle.tip_rows.specs.Keys.{Key, comes_before, is_same}
 use Rattle.tip_rows.specs.Logs.{is_rising}

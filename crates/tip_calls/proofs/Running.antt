@@ -1,6 +1,6 @@
 -- The calls of a realm are a run of its own machine.
-use Rattle.std.proofs.Common.{◌≡◌, ◌≢◌, ◌<◌, ◌+◌, ◌++◌, ◌∷◌, ◌==◌, inl, inr, ℕ, Bool, true, false, cond, zero, suc, List, [], Option, Some, None, append-nil, append_assoc, length, map, refl, ap, arith, sym, subst, ◌∙◌}
-use Rattle.std.specs.Prelude.{◌&&◌, Ok, is_some, nat_lt, option_map, slice_get}
+use Rattle.std.proofs.Common.{◌≡◌, ◌≢◌, ◌<◌, ◌+◌, ◌++◌, ◌∷◌, ◌==◌, inl, inr, ℕ, Bool, true, false, cond, zero, suc, List, [], Option, Some, None, map, refl, ap, arith, sym, subst, ◌∙◌}
+use Rattle.std.specs.Prelude.{◌&&◌, is_some, nat_lt, option_map, slice_get}
 use Rattle.std.specs.Cmp.{unsigned_Decides}
 use Rattle.std.specs.List.{flat_map}
 use Rattle.std.specs.Option.{option_to_list}
@@ -12,21 +12,23 @@ use Rattle.std.proofs.lemmas.Option.{none-some, same_Some}
 use Rattle.std.proofs.lemmas.Slice.Eq.{bytes_eq-Decides}
 use Rattle.tip_agreement.proofs.Runs.{led_on, run_on, run_one, shows, shows_on, shows_one}
 use Rattle.tip_branch.specs.Notes.{PartyNotes}
+use Rattle.tip_branch.specs.declared.branch.Badge.{Badge}
 use Rattle.tip_core.specs.Hosted.{HaveNames, Hosted, realm}
 use Rattle.tip_host.proofs.Opening.{named_at, read_at, start_at}
 use Rattle.tip_host.proofs.Parts.{can_open, epochs_stay, number_of, opened_known, opened_part, part_after, part_stays, renewed_known, renewed_others, renewed_part, rises}
 use Rattle.tip_host.specs.Keeping.{log_after}
-use Rattle.tip_host.specs.Loading.{known_all, names_of, opened, spec_of, start_of}
+use Rattle.tip_host.specs.Loading.{names_of, opened, spec_of, start_of}
+use Rattle.tip_host.specs.declared.realm_spec.RealmSpec.{RealmSpec}
 use Rattle.tip_host.specs.Recovering.{all_adopted, recovered}
 use Rattle.tip_machine.proofs.Stepping.{step-epoch, step-named}
 use Rattle.tip_machine.proofs.Storing.{same_rows}
 use Rattle.tip_machine.specs.Heads.{starting}
 use Rattle.tip_machine.specs.Honest.{brings_no_party, is_honest, is_run}
-use Rattle.tip_machine.specs.Moves.{Move, World, drops_here, gone_for, led_to, loaded, lost_from, moved, restarted_from, risen, rows_after, stepped}
+use Rattle.tip_machine.specs.Moves.{Move, World, drops_here, gone_for, led_to, lost_from, moved, risen, rows_after, stepped}
 use Rattle.tip_machine.specs.Outputs.{Output, drops_of, outputs}
 use Rattle.tip_machine.specs.Recovery.{restarted}
 use Rattle.tip_machine.specs.Returns.{can_answer}
-use Rattle.tip_machine.specs.Starting.{IsStart}
+use Rattle.tip_machine.specs.Starting.{IsStart, are_adopted}
 use Rattle.tip_machine.specs.States.{State, started}
 use Rattle.tip_machine.specs.Steps.{fits, step, wants}
 use Rattle.tip_machine.specs.Types.{Event}
@@ -40,7 +42,7 @@ use Rattle.tip_rows.specs.Logs.{IsPart, Log, last_epoch, raised_number, with_rai
 use Rattle.tip_rows.specs.declared.row.Row.{Row}
 use Rattle.tip_witness.proofs.Asked.{run_is_agreed}
 use Rattle.tip_calls.proofs.Given.{boxes_at, given_boxes, gives, taken_boxes}
-use Rattle.tip_calls.specs.Calls.{AreCalls, AreRun, Around, Brings, Came, IsCall, IsHosted, IsLetGo, IsRestarted, IsRisen, IsStepped, IsStill, at, drops_in, shown_of}
+use Rattle.tip_calls.specs.Calls.{AreCalls, AreRun, Around, Brings, Came, IsCall, IsHosted, HasStarted, IsBegun, IsLetGo, IsRestarted, IsRisen, IsStepped, IsStill, drops_in, first_of, shown_of}
 use Rattle.tip_calls.specs.Calls.IsCall.{Stepped, LetGo, Restarted, Renewed, Stays}
 use Rattle.tip_calls.specs.Giving.{AreEachGiven, AreGiven}
 
@@ -117,6 +119,50 @@ module _ {S : Type 0} (stands may_leave : S → Log → Type 0) (is_true : S →
 
   one_move : (new : Around S) (place : ℕ) (world : World) (shown : List Output) (move : Move) → is_honest move world ≡ true → (moved move world).shown ≡ shown → IsHosted stands new place (moved move world).world → GoesOn new place world shown
   one_move new place world shown move honest shows_it led = record { moves = move ∷ []; run = run_one world move honest; shows_it = shows_one world move ∙ shows_it; led = led }
+
+  -- A start
+
+  -- a realm that has started from its rows
+  record IsStarted (spec : RealmSpec) (epoch : ℕ) (rows : List (Key × Row)) (new : Around S) (place : ℕ) : Type 0 where
+    boxes : Key → List Badge
+    rises : epoch < last_epoch
+    adopted : are_adopted boxes rows ≡ true
+    hosted : IsHosted stands new place (first_of spec epoch boxes rows)
+
+  has_started : (specs : List RealmSpec) (store : S) (new : Around S) (log : Log) (place : ℕ) (spec : RealmSpec) (epoch : ℕ) (rows : List (Key × Row)) → IsBegun stands may_leave is_true faults is_due specs store new → is_true new.store → stands store log → slice_get specs place ≡ Some spec → IsPart log spec.name epoch rows → IsStarted spec epoch rows new place
+  has_started specs store new log place spec epoch rows is truth stood here part =
+      let name = spec.name in
+      let names = names_of specs in
+      let loaded_true : is_true is.loaded.store = subst is_true is.store_is truth in
+      let named = named_at specs place spec here in
+      let way = is.loads.ok.rows log stood in
+      let read = read_at (opened names log) specs is.loaded.realms place spec (is.loads.read log stood loaded_true) here in
+      let own = opened_part names place log name epoch rows named part in
+      let below : epoch < last_epoch = can_open names place log name epoch rows named part (is.loads.risen log stood loaded_true name) in
+      let less : nat_lt epoch last_epoch ≡ true = grind (arith, nat_tests, below) in
+      let number : raised_number epoch ≡ epoch + 1 = ap (λ b. cond b (epoch + 1) epoch) less in
+      let raised : read.0.epoch ≡ epoch + 1 = number_of (sym read.2.part.epoch ∙ own.epoch) ∙ number in
+      let same : read.0.rows ≡ map (unadopted name) rows = read.2.unadopted ∙ ap (map (unadopted name)) (same_rows read.2.rows rows read.2.part.rising own.rising (λ key. read.2.part.same key ∙ sym (own.same key))) in
+      let given = given_at is.loaded.realms is.realms place read.0 is.given read.1 in
+      let have = given_boxes name rows given.0.rows (subst (λ r. AreGiven r given.0.rows) same given.2) (adopted_at is.realms place given.0 given.1 is.adopted) in
+      let boxes = boxes_at given.0.rows in
+      let all = gives rows given.0.rows have part.rising in
+      record {
+        boxes = boxes;
+        rises = below;
+        adopted = all.0;
+        hosted = record {
+          state = is.begun place ∙ ap (λ r. recovered r (realm is.loaded.core place)) given.1
+              ∙ ap (recovered (Some given.0)) (is.loads.realms place ∙ ap (option_map (λ start. started (starting start))) (start_at specs is.loaded.realms place spec read.0 here read.1))
+              ∙ ap (λ e. Some (restarted (starting (start_of spec e)) (map Adopting.loaded given.0.rows))) raised
+              ∙ ap (λ r. Some (restarted (starting (start_of spec (epoch + 1))) r)) (sym all.1);
+          out = is.out place;
+          log = way.0;
+          stood = subst (λ s. stands s way.0) (sym is.store_is) way.2;
+          rows = subst (λ l. IsPart l name (epoch + 1) rows) (sym way.1) (subst (λ e. IsPart (opened names log) name e rows) number own);
+          known = ap (λ (l : Log). is_some (l.epochs name)) way.1 ∙ opened_known names place log name epoch rows named part;
+        };
+      }
 
   module _ (old new : Around S) (place : ℕ) (world : World) (hosted : IsHosted stands old place world) where
     abbrev name : List ℕ
@@ -220,35 +266,12 @@ module _ {S : Type 0} (stands may_leave : S → Log → Type 0) (is_true : S →
     own_restart : IsRestarted stands may_leave is_true faults is_due old new → is_true new.store → (shown : List Output) → shown ≡ flat_map drops_of (old.out place) ++ drops_in (realm old.core place) → GoesOn new place world shown
     own_restart is truth shown shows_it =
         let head = world.state.head in
-        let loaded_true : is_true is.loaded.store = subst is_true is.store truth in
         let here : slice_get is.specs place ≡ Some (spec_of head) = is.declared place ∙ ap (option_map (λ (state : State). spec_of state.head)) hosted.state in
-        let names = names_of is.specs in
-        let named = named_at is.specs place (spec_of head) here in
-        let way = is.loads.ok.rows hosted.log hosted.stood in
-        let read = read_at (opened names hosted.log) is.specs is.loaded.realms place (spec_of head) (is.loads.read hosted.log hosted.stood loaded_true) here in
-        let own = opened_part names place hosted.log name head.epoch world.rows named hosted.rows in
-        let below : head.epoch < last_epoch = can_open names place hosted.log name head.epoch world.rows named hosted.rows (is.loads.risen hosted.log hosted.stood loaded_true name) in
-        let number : raised_number head.epoch ≡ head.epoch + 1 = rises hosted.log name head.epoch world.rows hosted.rows hosted.known (grind (arith, nat_tests, below)) in
-        let epoch : read.0.epoch ≡ head.epoch + 1 = number_of (sym read.2.part.epoch ∙ own.epoch) ∙ number in
-        let rows : read.0.rows ≡ map (unadopted name) world.rows = read.2.unadopted ∙ ap (map (unadopted name)) (same_rows read.2.rows world.rows read.2.part.rising own.rising (λ key. read.2.part.same key ∙ sym (own.same key))) in
-        let given = given_at is.loaded.realms is.realms place read.0 is.given read.1 in
-        let have = given_boxes name world.rows given.0.rows (subst (λ r. AreGiven r given.0.rows) rows given.2) (adopted_at is.realms place given.0 given.1 is.adopted) in
-        let boxes = boxes_at given.0.rows in
-        let all = gives world.rows given.0.rows have hosted.rows.rising in
-        let less : nat_lt head.epoch last_epoch ≡ true = grind (arith, nat_tests, below) in
-        one_move new place world shown (Move.Restart boxes) (and_from (nat_lt head.epoch last_epoch) _ less all.0)
+        let start = has_started is.specs old.store new hosted.log place (spec_of head) head.epoch world.rows is.begins truth hosted.stood here hosted.rows in
+        let less : nat_lt head.epoch last_epoch ≡ true = grind (arith, nat_tests, start.rises) in
+        one_move new place world shown (Move.Restart start.boxes) (and_from (nat_lt head.epoch last_epoch) _ less start.adopted)
         (ap (λ o. flat_map drops_of o ++ drops_here world.state) (sym hosted.out) ∙ ap (λ s. flat_map drops_of (old.out place) ++ drops_in s) (sym hosted.state) ∙ sym shows_it)
-        (record {
-          state = is.begun place ∙ ap (λ r. recovered r (realm is.loaded.core place)) given.1
-              ∙ ap (recovered (Some given.0)) (is.loads.realms place ∙ ap (option_map (λ start. started (starting start))) (start_at is.specs is.loaded.realms place (spec_of head) read.0 here read.1))
-              ∙ ap (λ e. Some (restarted (starting (start_of (spec_of head) e)) (map Adopting.loaded given.0.rows))) epoch
-              ∙ ap (λ r. Some (restarted (risen head) r)) (sym all.1);
-          out = is.out place;
-          log = way.0;
-          stood = subst (λ s. stands s way.0) (sym is.store) way.2;
-          rows = subst (λ l. IsPart l name (head.epoch + 1) world.rows) (sym way.1) (subst (λ e. IsPart (opened names hosted.log) name e world.rows) number own);
-          known = ap (λ (l : Log). is_some (l.epochs name)) way.1 ∙ opened_known names place hosted.log name head.epoch world.rows named hosted.rows;
-        })
+        start.hosted
 
     -- Calls of others
 
@@ -282,7 +305,7 @@ module _ {S : Type 0} (stands may_leave : S → Log → Type 0) (is_true : S →
   names_after : (old new : Around S) (shown : ℕ → List Output) → Calls old new shown → HaveNames old.core → HaveNames new.core
   names_after old new shown (Stepped came is shows_it) names = is.names
   names_after old new shown (LetGo place party is shows_it) names = subst HaveNames (sym is.core) names
-  names_after old new shown (Restarted is shows_it) names = is.names
+  names_after old new shown (Restarted is shows_it) names = is.begins.names
   names_after old new shown (Renewed place state is shows_it) names = is.names
   names_after old new shown (Stays is none) names = λ place other this that here there. names place other this that (sym (is.realms place) ∙ here) (sym (is.realms other) ∙ there)
 
@@ -293,7 +316,7 @@ module _ {S : Type 0} (stands may_leave : S → Log → Type 0) (is_true : S →
     by None nowhere = subst is_true (is.absent nowhere) truth
     by (Some state) there = (is.keeps state there).truth truth
   truth_before old new shown (LetGo place party is shows_it) truth = subst is_true is.store truth
-  truth_before old new shown (Restarted is shows_it) truth = is.loads.ok.truth (subst is_true is.store truth)
+  truth_before old new shown (Restarted is shows_it) truth = is.begins.loads.ok.truth (subst is_true is.begins.store_is truth)
   truth_before old new shown (Renewed place state is shows_it) truth = is.truth truth
   truth_before old new shown (Stays is none) truth = is.truth truth
 
@@ -328,4 +351,16 @@ module _ {S : Type 0} (stands may_leave : S → Log → Type 0) (is_true : S →
         shows = shows_on start moves more.moves ∙ ap (λ l. shows start moves ++ l) more.shows_it;
         led = subst (IsHosted stands new place) (sym (led_on start moves more.moves)) more.led;
         agreed = λ id. run_is_agreed start (moves ++ more.moves) id starts whole;
+      }
+
+  -- A host that begins
+
+  pub has_begun : (specs : List RealmSpec) (store : S) (new : Around S) (log : Log) (place : ℕ) (spec : RealmSpec) (epoch : ℕ) (rows : List (Key × Row)) → IsBegun stands may_leave is_true faults is_due specs store new → is_true new.store → stands store log → slice_get specs place ≡ Some spec → IsPart log spec.name epoch rows → HasStarted stands spec epoch rows new place
+  has_begun specs store new log place spec epoch rows is truth stood here part =
+      let start = has_started specs store new log place spec epoch rows is truth stood here part in
+      record {
+        boxes = start.boxes;
+        rises = start.rises;
+        hosted = start.hosted;
+        begins = λ head before once. record { head = head; rows = before; boxes = start.boxes; adopted = start.adopted; state = refl; known_once = once; errands = refl };
       }

@@ -1,27 +1,34 @@
 -- CALLS OF A HOST one after another (ours), over any store, by a caller that brings parties back as their errands leave them.
-use Rattle.std.specs.Prelude.{◌≡◌, ◌≢◌, ◌⊎◌, ◌==◌, ℕ, Bool, true, List, [], ◌∷◌, ◌++◌, Option, Some, None, Ok, if◌then◌else◌, is_some, option_map, slice_get}
+use Rattle.std.specs.Prelude.{◌≡◌, ◌≢◌, ◌⊎◌, ◌==◌, ◌<◌, ◌+◌, ℕ, Bool, true, List, [], ◌∷◌, ◌++◌, Option, Some, None, Ok, if◌then◌else◌, is_some, option_map, slice_get}
 use Rattle.std.specs.List.{flat_map}
 use Rattle.std.specs.Option.{option_to_list}
 use Rattle.tip_branch.specs.Notes.{PartyNotes}
+use Rattle.tip_branch.specs.declared.branch.Badge.{Badge}
 use Rattle.tip_core.specs.Hosted.{HaveNames, Hosted, Steps, realm}
 use Rattle.tip_host.specs.Keeping.{Keeps}
-use Rattle.tip_host.specs.Loading.{Loads, spec_of}
+use Rattle.tip_host.specs.Loading.{Loads, spec_of, start_of}
 use Rattle.tip_host.specs.Recovering.{Recovering, all_adopted, recovered}
 use Rattle.tip_host.specs.Renewing.{IsRenewed}
 use Rattle.tip_host.specs.declared.realm_spec.RealmSpec.{RealmSpec}
 use Rattle.tip_machine.specs.Agreement.{IsAgreed}
 use Rattle.tip_machine.specs.Agreement.Traces.{shown_in, traced}
+use Rattle.tip_machine.specs.Heads.{starting}
 use Rattle.tip_machine.specs.Honest.{brings_no_party, is_run}
-use Rattle.tip_machine.specs.Moves.{Move, World, drops_here, led_to}
+use Rattle.tip_machine.specs.Invariants.{are_known_once}
+use Rattle.tip_machine.specs.Moves.{Move, World, drops_here, led_to, loaded}
 use Rattle.tip_machine.specs.Outputs.{Output, drops_of, outputs}
+use Rattle.tip_machine.specs.Recovery.{restarted}
 use Rattle.tip_machine.specs.Returns.{Back, can_answer, event_of}
+use Rattle.tip_machine.specs.Starting.{AreRowsBefore, IsStart, is_starting}
 use Rattle.tip_machine.specs.States.{State}
 use Rattle.tip_machine.specs.Steps.{fits, wants}
 use Rattle.tip_machine.specs.Types.{Answer, Event}
 use Rattle.tip_machine.specs.declared.event.Change.{Change}
 use Rattle.tip_machine.specs.declared.event.Outcome.{Outcome}
 use Rattle.tip_recovery.specs.Adopting.{Recovery, Unfinished}
-use Rattle.tip_rows.specs.Logs.{IsPart, Log, with_raised}
+use Rattle.tip_rows.specs.Keys.{Key}
+use Rattle.tip_rows.specs.Logs.{IsPart, Log, last_epoch, with_raised}
+use Rattle.tip_rows.specs.declared.row.Row.{Row}
 use Rattle.tip_calls.specs.Giving.{AreEachGiven, AreGiven}
 
 -- a host, and the parties that are out of each realm, the oldest first, which its caller has
@@ -68,19 +75,23 @@ pub record IsLetGo {S : Type 0} (old new : Around S) (place : ℕ) (party : Part
   pub was : old.out place ≡ party ∷ new.out place
   pub others : (other : ℕ) → other ≢ place → new.out other ≡ old.out other
 
--- the realms as Host::declarations says; Host::restart, boxes for each row, and Recovering::begin. All parties are let go
-pub record IsRestarted {S : Type 0} (stands may_leave : S → Log → Type 0) (is_true : S → Type 0) (faults : S → ℕ) (is_due : S → List ℕ → Bool) (old new : Around S) : Type 0 where
-  pub specs : List RealmSpec
-  pub declared : (place : ℕ) → slice_get specs place ≡ option_map (λ (state : State). spec_of state.head) (realm old.core place)
+-- these realms start from what a store has: Host::load or Host::restart, boxes for each row, and Recovering::begin. No party is out
+pub record IsBegun {S : Type 0} (stands may_leave : S → Log → Type 0) (is_true : S → Type 0) (faults : S → ℕ) (is_due : S → List ℕ → Bool) (specs : List RealmSpec) (store : S) (new : Around S) : Type 0 where
   pub loaded : Recovering S
-  pub loads : Loads stands may_leave is_true faults is_due specs old.store (Ok loaded)
+  pub loads : Loads stands may_leave is_true faults is_due specs store (Ok loaded)
   pub realms : List Recovery
   pub given : AreEachGiven loaded.realms realms
   pub adopted : all_adopted realms ≡ true
-  pub store : new.store ≡ loaded.store
+  pub store_is : new.store ≡ loaded.store
   pub begun : (place : ℕ) → realm new.core place ≡ recovered (slice_get realms place) (realm loaded.core place)
   pub names : HaveNames new.core
   pub out : (place : ℕ) → new.out place ≡ []
+
+-- the realms start again, as Host::declarations says them: all parties are let go
+pub record IsRestarted {S : Type 0} (stands may_leave : S → Log → Type 0) (is_true : S → Type 0) (faults : S → ℕ) (is_due : S → List ℕ → Bool) (old new : Around S) : Type 0 where
+  pub specs : List RealmSpec
+  pub declared : (place : ℕ) → slice_get specs place ≡ option_map (λ (state : State). spec_of state.head) (realm old.core place)
+  pub begins : IsBegun stands may_leave is_true faults is_due specs old.store new
 
 -- Host::renew where it succeeds, by rows that Host::doubts has read, with their boxes
 pub record IsRisen {S : Type 0} (stands : S → Log → Type 0) (is_true : S → Type 0) (old new : Around S) (place : ℕ) (state : State) : Type 0 where
@@ -149,3 +160,16 @@ pub record AreRun {S : Type 0} (stands : S → Log → Type 0) (start : World) (
   pub shows : shown_in (traced start (moves ++ more)) ≡ shown_in (traced start moves) ++ shown
   pub led : IsHosted stands now place (led_to start (moves ++ more))
   pub agreed : (id : List ℕ) → IsAgreed start (traced start (moves ++ more)) id
+
+-- Where a run begins
+
+-- what a realm is once it has started from its rows, in the epoch after theirs
+abbrev pub first_of : RealmSpec → ℕ → (Key → List Badge) → List (Key × Row) → World
+first_of spec epoch boxes rows = record { state = restarted (starting (start_of spec (epoch + 1))) (loaded boxes rows); rows = rows; errands = [] }
+
+-- A REALM HAS STARTED from the rows and the epoch that were stored of it: it is where a run may begin, where tipd alone wrote them
+pub record HasStarted {S : Type 0} (stands : S → Log → Type 0) (spec : RealmSpec) (epoch : ℕ) (rows : List (Key × Row)) (new : Around S) (place : ℕ) : Type 0 where
+  pub boxes : Key → List Badge
+  pub rises : epoch < last_epoch
+  pub hosted : IsHosted stands new place (first_of spec epoch boxes rows)
+  pub begins : is_starting (starting (start_of spec (epoch + 1))) ≡ true → AreRowsBefore (epoch + 1) rows → are_known_once (first_of spec epoch boxes rows).state ≡ true → IsStart (first_of spec epoch boxes rows)

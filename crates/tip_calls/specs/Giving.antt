@@ -1,6 +1,5 @@
 -- Boxes that are given to rows (ours).
 use Rattle.std.specs.Prelude.{◌≡◌, List, [], ◌∷◌, length, MatchOption}
-use Rattle.tip_branch.specs.declared.branch.Badge.{Badge}
 use Rattle.tip_recovery.specs.Adopting.{Recovery, Unfinished}
 use Rattle.tip_rows.specs.Rows.{branches_of}
 
