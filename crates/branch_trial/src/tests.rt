@@ -5,6 +5,7 @@ ghost use Rattle.tip_branch.specs.Standings.{nothing};
 ghost use Rattle.tip_branch.specs.declared.branch.Phase.TheVariants.{Active};
 
 use std::alloc::{AllocError, Global};
+use std::fmt::Display;
 use std::sync::atomic::{AtomicU64, Ordering};
 use std::sync::{Arc, Mutex};
 use std::test::Fail;
@@ -154,6 +155,12 @@ fn make_id(alloc: Global) -> Result<Id, Fail> {
     Ok(Id::new(alloc, b"north-1-1-1")?)
 }
 
+/// Whether it is printed so.
+fn has_text<T: Display>(alloc: Global, value: &T, expected: &str) -> Result<bool, Fail> {
+    let text = format!(in alloc; "{value}")?;
+    Ok(text.as_str() == expected)
+}
+
 #[test]
 fn a_dropped_party_aborts_its_active_member_alone(rt: HostRuntime) -> Result<(), Fail> {
     let alloc = rt.alloc();
@@ -198,10 +205,7 @@ fn a_branch_that_voted_is_not_fresh(rt: HostRuntime) -> Result<(), Fail> {
     match Fresh::of(boxes) {
         Ok(_) => assert!(rt; false),
         Err(fault) => {
-            assert_eq!(rt;
-                format!(in alloc; "{fault}")?.as_str(),
-                "a branch is not active"
-            );
+            assert!(rt; has_text(alloc, &fault, "a branch is not active")?);
             assert_eq!(rt; fault.boxes.len(), 2);
             assert_eq!(rt; fault.boxes[0].plan(), Plan::No);
             assert_eq!(rt; fault.boxes[1].plan(), Plan::Yes);
@@ -219,10 +223,7 @@ fn a_fresh_branch_is_not_prepared(rt: HostRuntime) -> Result<(), Fail> {
     match Prepared::of(boxes) {
         Ok(_) => assert!(rt; false),
         Err(fault) => {
-            assert_eq!(rt;
-                format!(in alloc; "{fault}")?.as_str(),
-                "a branch is not ready"
-            );
+            assert!(rt; has_text(alloc, &fault, "a branch is not ready")?);
             assert_eq!(rt; fault.boxes.len(), 1);
         }
     }
@@ -402,30 +403,48 @@ fn make_boxes(
     Ok(boxes)
 }
 
-/// A growth that is refused is asked for again, so that this holds whichever one is refused.
+/// Counters, made again where memory was refused.
+fn make_counters(alloc: Global) -> Result<Arc<Counters>, Fail> {
+    match Arc::new(alloc, Counters::new()) {
+        Ok(counters) => Ok(counters),
+        Err(_) => Ok(Arc::new(alloc, Counters::new())?),
+    }
+}
+
+/// A growth that is refused is asked for again, so that this holds whichever one is refused; so does what follows.
 #[test]
-fn a_refused_growth_gives_the_boxes_back(rt: HostRuntime) -> Result<(), Fail> {
+fn a_refused_growth_gives_fresh_boxes_back(rt: HostRuntime) -> Result<(), Fail> {
     let alloc = rt.alloc();
-    let counters = match Arc::new(alloc, Counters::new()) {
-        Ok(counters) => counters,
-        Err(_) => Arc::new(alloc, Counters::new())?,
-    };
+    let counters = make_counters(alloc)?;
     let fresh = Fresh::of(make_boxes(alloc, Phase::Active, &counters)?)?;
     let lot = match fresh.into_lot(alloc) {
         Ok(lot) => lot,
         Err(fault) => fault.value.into_lot(alloc).map_err(|_| "no memory")?,
     };
     assert_eq!(rt; lot.len(), 1);
+    assert_eq!(rt; counters.aborts.load(Ordering::SeqCst), 0);
+    Ok(())
+}
+
+#[test]
+fn a_refused_growth_gives_prepared_boxes_back(rt: HostRuntime) -> Result<(), Fail> {
+    let alloc = rt.alloc();
+    let counters = make_counters(alloc)?;
     let prepared = Prepared::of(make_boxes(alloc, Phase::Ready, &counters)?)?;
     let lot = match prepared.into_lot(alloc) {
         Ok(lot) => lot,
         Err(fault) => fault.value.into_lot(alloc).map_err(|_| "no memory")?,
     };
     assert_eq!(rt; lot.len(), 1);
-    if PartyRoom::new(alloc, 8).is_err() {
-        let _ = PartyRoom::new(alloc, 8)?;
-    }
     assert_eq!(rt; counters.aborts.load(Ordering::SeqCst), 0);
+    Ok(())
+}
+
+#[test]
+fn room_for_a_party_may_be_asked_for_again(rt: HostRuntime) -> Result<(), Fail> {
+    if PartyRoom::new(rt.alloc(), 8).is_err() {
+        let _ = PartyRoom::new(rt.alloc(), 8)?;
+    }
     Ok(())
 }
 
@@ -502,21 +521,34 @@ fn each_prepared_box_is_told_what_its_mark_is_noted_for(rt: HostRuntime) -> Resu
     Ok(())
 }
 
+/// A party takes the first box, and is dropped.
+fn drop_first(alloc: Global, held: &mut HeldFresh) -> Result<(), Fail> {
+    if held.is_empty() {
+        return Err(Fail::from("no box is left"));
+    }
+    let room = PartyRoom::new(alloc, 1)?;
+    drop(held.take_party(room, make_realm(alloc)?, 1, make_id(alloc)?));
+    Ok(())
+}
+
+/// Whether these boxes have these marks, in their order.
+fn are_marked(boxes: &[Box<dyn Branch + Send>], marks: &[u64]) -> bool {
+    boxes.len() == marks.len()
+        && boxes
+            .iter()
+            .zip(marks)
+            .all(|(branch, mark)| branch.mark() == *mark)
+}
+
 #[test]
 fn a_lot_that_is_let_go_tells_nobody(rt: HostRuntime) -> Result<(), Fail> {
     let alloc = rt.alloc();
     let mut counters = Vec::new(alloc);
     let fresh = Fresh::of(make_unlike(alloc, Phase::Active, &mut counters)?)?;
     let mut held = HeldFresh::of(fresh.into_lot(alloc).map_err(|_| "no memory")?);
-    assert!(rt; held.len() == 3);
-    let room = PartyRoom::new(alloc, 1)?;
-    let party = held.take_party(room, make_realm(alloc)?, 1, make_id(alloc)?);
-    drop(party);
+    drop_first(alloc, &mut held)?;
     let boxes = held.into_lot().into_boxes();
-    assert_eq!(rt; boxes.len(), 2);
-    for (branch, mark) in boxes.iter().zip([82, 93]) {
-        assert_eq!(rt; branch.mark(), mark);
-    }
+    assert!(rt; are_marked(&boxes, &[82, 93]));
     for (own, aborts) in counters.iter().zip([1, 0, 0]) {
         assert_eq!(rt; own.counted(), (0, 0, aborts));
     }

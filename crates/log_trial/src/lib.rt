@@ -8,6 +8,8 @@ mod relay;
 #[cfg(test)]
 mod rows;
 #[cfg(test)]
+mod samples;
+#[cfg(test)]
 mod tests;
 
 pub use relay::Relay;

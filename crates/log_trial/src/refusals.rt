@@ -1,4 +1,5 @@
 //! Rows in memory on a heap of a fixed size, where each growth is refused in turn and then made.
+use crate::samples::{Sample, is_put_and_removed, make_sample, stored};
 use linked_list_allocator::LocalHeap;
 use std::alloc::{AllocError, Global};
 use std::test::Fail;
@@ -16,6 +17,19 @@ const ENOUGH: usize = 128;
 
 /// A row whose two lists grow more than once as it is read.
 const LONG: &str = "2 P a.x s1 1:a,2:b,3:c,4:d,5:e p.x p1 p.x p2 p.x p3 p.x p4 p.x p5";
+
+/// Whether a call is refused in little room, and made in enough, where it says in how many units it is made.
+fn is_refused_in_little<F: Fn(usize) -> Result<bool, Fail>>(is_made: F) -> Result<bool, Fail>
+    requires { F.IsAlwaysCallable is_made }
+{
+    let mut refused = 0usize;
+    for units in 1..=ENOUGH {
+        if !is_made(units)? {
+            refused = refused.wrapping_add(1);
+        }
+    }
+    Ok(0 < refused && refused < ENOUGH)
+}
 
 /// All that is left of a heap, in blocks of half the length each time.
 fn rest_of<'a>(
@@ -44,52 +58,127 @@ fn texts_of(
     Ok(texts)
 }
 
-#[test]
-fn a_refused_realm_leaves_the_known_ones(rt: HostRuntime) -> Result<(), Fail> {
-    let alloc = rt.alloc();
+/// A realm is made known on a full heap; where that is refused, all stands, and it is known once there is room. How many are known then?
+fn known_at_last(
+    alloc: Global,
+    heap: &LocalHeap,
+    rows: &mut MemRows<&LocalHeap>,
+    name: &str,
+) -> Result<usize, Fail> {
+    let realm = Realm::new(alloc, name.as_bytes())?;
+    if !is_known_at_once(alloc, heap, rows, &realm)? {
+        rows.know(&realm)?;
+    }
+    let names = rows.realms()?;
+    Ok(names.len())
+}
+
+/// Whether a realm is made known on a full heap; where not, what was known stands.
+fn is_known_at_once(
+    alloc: Global,
+    heap: &LocalHeap,
+    rows: &mut MemRows<&LocalHeap>,
+    realm: &Realm,
+) -> Result<bool, Fail> {
+    let _rest = rest_of(alloc, heap)?;
+    let known = rows.realms()?;
+    if rows.know(realm).is_ok() {
+        return Ok(true);
+    }
+    if rows.realms()? != known {
+        return Err(Fail::from("the refusal has changed what is known"));
+    }
+    Ok(false)
+}
+
+/// How many faults a log counts that makes nine realms known on full heaps.
+fn faults_of_names(alloc: Global) -> Result<u64, Fail> {
     let heap = LocalHeap::new(alloc, HEAP_LEN)?;
     let mut rows = MemRows::new_in(alloc, &heap);
+    let mut known = 0usize;
     for name in ["m", "n", "o", "p", "a", "b", "c", "d", "z"] {
-        let realm = Realm::new(alloc, name.as_bytes())?;
-        let (known, faults) = (rows.realms()?, rows.faults());
-        let rest = rest_of(alloc, &heap)?;
-        if rows.know(&realm).is_err() {
-            assert_eq!(rt; rows.realms()?, known);
-            assert_eq!(rt; rows.faults(), faults.wrapping_add(1));
-            drop(rest);
-            assert_eq!(rt; rows.know(&realm), Ok(()));
+        known = known.wrapping_add(1);
+        if known_at_last(alloc, &heap, &mut rows, name)? != known {
+            return Err(Fail::from("it is not known"));
         }
-        assert_eq!(rt; rows.realms()?.len(), known.len().wrapping_add(1));
     }
-    assert_eq!(rt; rows.faults(), 3);
-    Ok(())
+    Ok(rows.faults())
 }
 
 #[test]
-fn a_refused_start_leaves_all(rt: HostRuntime) -> Result<(), Fail> {
-    let alloc = rt.alloc();
+fn a_refused_realm_leaves_the_known_ones(rt: HostRuntime) -> Result<(), Fail> {
+    assert!(rt; faults_of_names(rt.alloc())? == 3);
+    Ok(())
+}
+
+/// Whether a realm is started on a full heap; where not, what was known stands.
+fn is_started_at_once(
+    alloc: Global,
+    heap: &LocalHeap,
+    rows: &mut MemRows<&LocalHeap>,
+    realm: &Realm,
+    epoch: u32,
+) -> Result<bool, Fail> {
+    let _rest = rest_of(alloc, heap)?;
+    let known = rows.realms()?;
+    if rows.start_at(realm, epoch).is_ok() {
+        return Ok(true);
+    }
+    if rows.realms()? != known {
+        return Err(Fail::from("the refusal has changed what is known"));
+    }
+    Ok(false)
+}
+
+/// A realm starts on a full heap, or else once there is room. Was there room at once?
+fn started_at_last(
+    alloc: Global,
+    heap: &LocalHeap,
+    rows: &mut MemRows<&LocalHeap>,
+    name: &str,
+    epoch: u32,
+) -> Result<bool, Fail> {
+    let realm = Realm::new(alloc, name.as_bytes())?;
+    let at_once = is_started_at_once(alloc, heap, rows, &realm, epoch)?;
+    if !at_once {
+        rows.start_at(&realm, epoch)?;
+    }
+    if stored(rows, &realm)? != (epoch, 0) {
+        return Err(Fail::from("it has not started there"));
+    }
+    Ok(at_once)
+}
+
+/// How many of five starts on full heaps are refused, and how many faults the log counts of them.
+fn refused_starts(alloc: Global) -> Result<(u64, u64), Fail> {
     let heap = LocalHeap::new(alloc, HEAP_LEN)?;
     let mut rows = MemRows::new_in(alloc, &heap);
     let mut refused = 0u64;
     for (epoch, name) in [(7, "m"), (6, "n"), (5, "o"), (4, "p"), (3, "a")] {
-        let realm = Realm::new(alloc, name.as_bytes())?;
-        let known = rows.realms()?;
-        let rest = rest_of(alloc, &heap)?;
-        if rows.start_at(&realm, epoch).is_err() {
+        if !started_at_last(alloc, &heap, &mut rows, name, epoch)? {
             refused = refused.wrapping_add(1);
-            assert_eq!(rt; rows.realms()?, known);
-            drop(rest);
-            rows.start_at(&realm, epoch)?;
         }
-        assert_eq!(rt; rows.load(&realm)?.epoch, epoch);
     }
-    assert_eq!(rt; (refused, rows.faults()), (2, 0));
+    Ok((refused, rows.faults()))
+}
+
+#[test]
+fn a_refused_start_leaves_all(rt: HostRuntime) -> Result<(), Fail> {
+    assert!(rt; refused_starts(rt.alloc())? == (2, 0));
     Ok(())
 }
 
-/// The text of a row on a heap.
-fn text_of(alloc: Global, row: &HeapRow<&LocalHeap>) -> Result<String, AllocError> {
-    row.copy(alloc)?.into_row().print(alloc)
+/// The long row.
+fn long_row(alloc: Global) -> Result<HeapRow<Global>, Fail> {
+    let row = Row::parse(alloc, LONG.as_bytes())?;
+    Ok(HeapRow::of(alloc, &row)?)
+}
+
+/// Whether a row on a heap is the long one.
+fn is_long(alloc: Global, row: &HeapRow<&LocalHeap>) -> Result<bool, AllocError> {
+    let row = row.copy(alloc)?.into_row();
+    let text = row.print(alloc)?;
+    Ok(text.as_str() == LONG)
 }
 
 /// Four rows of a realm, with no list of their own.
@@ -107,160 +196,209 @@ fn four_rows<'a>(
     Ok(rows)
 }
 
-/// Whether four rows, with this much room on their heap, refuse a row more: then they stand, and take it once there is room.
-fn is_refused(
+/// Whether a row more is refused; then the rows and the heap stay as they were.
+fn refuses(
     alloc: Global,
-    realm: &Realm,
-    key: Key,
-    row: &Row,
-    units: usize,
+    heap: &LocalHeap,
+    rows: &mut MemRows<&LocalHeap>,
+    sample: &Sample,
 ) -> Result<bool, Fail> {
-    let heap = LocalHeap::new(alloc, HEAP_LEN)?;
-    let mut rows = four_rows(alloc, &heap, realm)?;
-    let texts = texts_of(alloc, &mut rows, realm)?;
-    let others = heap.free().saturating_sub(units.wrapping_mul(UNIT));
-    let rest = Vec::<u8, &LocalHeap>::with_capacity(&heap, others)?;
+    let texts = texts_of(alloc, rows, &sample.realm)?;
     let used = heap.used();
-    if rows.put(realm, key, row).is_ok() {
+    if rows.put(&sample.realm, sample.key, &sample.row).is_ok() {
         return Ok(false);
     }
-    if texts_of(alloc, &mut rows, realm)? != texts || rows.faults() != 1 || heap.used() != used {
+    if texts_of(alloc, rows, &sample.realm)? != texts || rows.faults() != 1 || heap.used() != used {
         return Err(Fail::from("the refusal has changed something"));
     }
-    drop(rest);
-    rows.put(realm, key, row)?;
     Ok(true)
+}
+
+/// Whether four rows, with this much room on their heap, take a row more; if not, they stand, and take it once there is room.
+fn is_put_at_once(alloc: Global, sample: &Sample, units: usize) -> Result<bool, Fail> {
+    let heap = LocalHeap::new(alloc, HEAP_LEN)?;
+    let mut rows = four_rows(alloc, &heap, &sample.realm)?;
+    let others = heap.free().saturating_sub(units.wrapping_mul(UNIT));
+    let rest = Vec::<u8, &LocalHeap>::with_capacity(&heap, others)?;
+    let is_refused = refuses(alloc, &heap, &mut rows, sample)?;
+    drop(rest);
+    if is_refused {
+        rows.put(&sample.realm, sample.key, &sample.row)?;
+    }
+    Ok(!is_refused)
 }
 
 #[test]
 fn a_refused_row_leaves_all_rows(rt: HostRuntime) -> Result<(), Fail> {
     let alloc = rt.alloc();
-    let north = Realm::new(alloc, b"north")?;
-    let row = Row::parse(alloc, LONG.as_bytes())?;
     for number in [1, 6] {
-        let key = Key::new(1, 9, number).ok_or("a key")?;
-        let mut refused = 0usize;
-        for units in 0..ENOUGH {
-            if is_refused(alloc, &north, key, &row, units)? {
-                refused = refused.wrapping_add(1);
-            }
-        }
-        assert!(rt; 0 < refused && refused < ENOUGH);
+        let sample = make_sample(alloc, number, LONG)?;
+        assert!(rt;
+            is_refused_in_little(|units| is_put_at_once(alloc, &sample, units))?,
+            "{number}"
+        );
     }
     Ok(())
 }
 
+/// Whether a row more is refused, and the rise of an epoch is not.
+fn refuses_a_row_alone(rows: &mut MemRows<&LocalHeap>, sample: &Sample) -> bool {
+    rows.put(&sample.realm, sample.key, &sample.row) == Err(Refused)
+        && rows.raise_epoch(&sample.realm) == Ok(())
+}
+
+fn is_full(alloc: Global, sample: &Sample) -> Result<bool, Fail> {
+    let heap = LocalHeap::new(alloc, HEAP_LEN)?;
+    let mut rows = MemRows::new_in(alloc, &heap);
+    rows.start_at(&sample.realm, 7)?;
+    let _rest = rest_of(alloc, &heap)?;
+    Ok(refuses_a_row_alone(&mut rows, sample) && stored(&mut rows, &sample.realm)? == (8, 0))
+}
+
 #[test]
 fn a_full_heap_refuses_growths_alone(rt: HostRuntime) -> Result<(), Fail> {
-    let alloc = rt.alloc();
-    let heap = LocalHeap::new(alloc, HEAP_LEN)?;
-    let (north, south) = (Realm::new(alloc, b"north")?, Realm::new(alloc, b"south")?);
-    let key = Key::new(1, 9, 1).ok_or("a key")?;
-    let row = Row::parse(alloc, b"2 C -")?;
-    let mut rows = MemRows::new_in(alloc, &heap);
-    rows.start_at(&north, 7)?;
-    let rest = rest_of(alloc, &heap)?;
-    assert_eq!(rt; rows.put(&north, key, &row), Err(Refused));
-    assert_eq!(rt; rows.know(&south), Ok(()));
-    assert_eq!(rt; rows.raise_epoch(&north), Ok(()));
-    assert_eq!(rt; rows.load(&north)?.epoch, 8);
-    drop(rest);
-    assert_eq!(rt; rows.put(&north, key, &row), Ok(()));
-    let _rest = rest_of(alloc, &heap)?;
-    assert_eq!(rt; rows.put(&north, key, &row), Ok(()));
-    assert_eq!(rt; rows.remove(&north, key), Ok(()));
+    let sample = make_sample(rt.alloc(), 1, "2 C -")?;
+    assert!(rt; is_full(rt.alloc(), &sample)?);
     Ok(())
+}
+
+fn know_north(alloc: Global, rows: &mut MemRows<&LocalHeap>) -> Result<(), Fail> {
+    let north = Realm::new(alloc, b"north")?;
+    Ok(rows.know(&north)?)
+}
+
+fn has_a_place(alloc: Global) -> Result<bool, Fail> {
+    let south = Realm::new(alloc, b"south")?;
+    let heap = LocalHeap::new(alloc, HEAP_LEN)?;
+    let mut rows = MemRows::new_in(alloc, &heap);
+    know_north(alloc, &mut rows)?;
+    let _rest = rest_of(alloc, &heap)?;
+    Ok(rows.know(&south).is_ok())
+}
+
+#[test]
+fn a_full_heap_takes_a_realm_for_which_there_is_a_place(rt: HostRuntime) -> Result<(), Fail> {
+    assert!(rt; has_a_place(rt.alloc())?);
+    Ok(())
+}
+
+fn is_replaced(alloc: Global, sample: &Sample) -> Result<bool, Fail> {
+    let heap = LocalHeap::new(alloc, HEAP_LEN)?;
+    let mut rows = MemRows::new_in(alloc, &heap);
+    rows.put(&sample.realm, sample.key, &sample.row)?;
+    let _rest = rest_of(alloc, &heap)?;
+    Ok(is_put_and_removed(&mut rows, sample))
+}
+
+#[test]
+fn a_full_heap_takes_a_row_in_place_of_another(rt: HostRuntime) -> Result<(), Fail> {
+    let sample = make_sample(rt.alloc(), 1, "2 C -")?;
+    assert!(rt; is_replaced(rt.alloc(), &sample)?);
+    Ok(())
+}
+
+/// Whether a row has room to be printed; if so, its text is the long one.
+fn is_printed(alloc: Global, row: &Row, units: usize) -> Result<bool, Fail> {
+    let heap = LocalHeap::new(alloc, units.wrapping_mul(UNIT))?;
+    match row.print(&heap) {
+        Ok(text) if text.as_str() == LONG => Ok(true),
+        Ok(_) => Err(Fail::from("another text")),
+        Err(AllocError) => Ok(false),
+    }
 }
 
 #[test]
 fn a_text_has_room_or_is_refused(rt: HostRuntime) -> Result<(), Fail> {
     let alloc = rt.alloc();
     let row = Row::parse(alloc, LONG.as_bytes())?;
-    let mut refused = 0usize;
-    for units in 1..=ENOUGH {
-        let heap = LocalHeap::new(alloc, units * UNIT)?;
-        match row.print(&heap) {
-            Ok(text) => assert_eq!(rt; text.as_str(), LONG),
-            Err(AllocError) => refused = refused.wrapping_add(1),
-        }
-    }
-    assert!(rt; 0 < refused && refused < ENOUGH);
+    assert!(rt; is_refused_in_little(|units| is_printed(alloc, &row, units))?);
     Ok(())
+}
+
+/// Whether a row has room to be copied; if so, the copy is equal.
+fn is_copied(alloc: Global, row: &HeapRow<Global>, units: usize) -> Result<bool, Fail> {
+    let heap = LocalHeap::new(alloc, units.wrapping_mul(UNIT))?;
+    match row.copy(&heap) {
+        Ok(copy) if is_long(alloc, &copy)? => Ok(true),
+        Ok(_) => Err(Fail::from("another row")),
+        Err(AllocError) => Ok(false),
+    }
 }
 
 #[test]
 fn a_copy_has_room_or_is_refused(rt: HostRuntime) -> Result<(), Fail> {
     let alloc = rt.alloc();
-    let row = HeapRow::of(alloc, &Row::parse(alloc, LONG.as_bytes())?)?;
-    let mut refused = 0usize;
-    for units in 1..=ENOUGH {
-        let heap = LocalHeap::new(alloc, units * UNIT)?;
-        match row.copy(&heap) {
-            Ok(copy) => assert_eq!(rt; text_of(alloc, &copy)?.as_str(), LONG),
-            Err(AllocError) => refused = refused.wrapping_add(1),
-        }
-    }
-    assert!(rt; 0 < refused && refused < ENOUGH);
+    let row = long_row(alloc)?;
+    assert!(rt; is_refused_in_little(|units| is_copied(alloc, &row, units))?);
     Ok(())
+}
+
+/// Whether a row has room to be read; if not, that is what is said.
+fn is_read(alloc: Global, units: usize) -> Result<bool, Fail> {
+    let heap = LocalHeap::new(alloc, units.wrapping_mul(UNIT))?;
+    match row_on(alloc, &heap, LONG.as_bytes()) {
+        Ok(row) if is_long(alloc, &row)? => Ok(true),
+        Err(RowFault::Memory) => Ok(false),
+        Ok(_) | Err(RowFault::BadRow) => Err(Fail::from("another row")),
+    }
 }
 
 #[test]
 fn a_reading_has_room_or_wants_memory(rt: HostRuntime) -> Result<(), Fail> {
     let alloc = rt.alloc();
-    let mut refused = 0usize;
-    for units in 1..=ENOUGH {
-        let heap = LocalHeap::new(alloc, units * UNIT)?;
-        match row_on(alloc, &heap, LONG.as_bytes()) {
-            Ok(row) => assert_eq!(rt; text_of(alloc, &row)?.as_str(), LONG),
-            Err(fault) => {
-                assert_eq!(rt; fault, RowFault::Memory);
-                refused = refused.wrapping_add(1);
-            }
-        }
-    }
-    assert!(rt; 0 < refused && refused < ENOUGH);
+    assert!(rt; is_refused_in_little(|units| is_read(alloc, units))?);
     Ok(())
+}
+
+/// Whether a realm's rows have room to be loaded; if not, that is what is said.
+fn is_loaded(
+    alloc: Global,
+    rows: &MemRows<&LocalHeap>,
+    realm: &Realm,
+    units: usize,
+) -> Result<bool, Fail> {
+    let heap = LocalHeap::new(alloc, units.wrapping_mul(UNIT))?;
+    match rows.load_in(&heap, realm) {
+        Ok(loaded) if loaded.rows.len() == 4 => Ok(true),
+        Err(LoadFault::Memory) => Ok(false),
+        _ => Err(Fail::from("other rows")),
+    }
 }
 
 #[test]
 fn a_load_has_room_or_wants_memory(rt: HostRuntime) -> Result<(), Fail> {
     let alloc = rt.alloc();
     let north = Realm::new(alloc, b"north")?;
-    let rows_heap = LocalHeap::new(alloc, HEAP_LEN)?;
-    let rows = four_rows(alloc, &rows_heap, &north)?;
-    let mut refused = 0usize;
-    for units in 1..=ENOUGH {
-        let heap = LocalHeap::new(alloc, units * UNIT)?;
-        match rows.load_in(&heap, &north) {
-            Ok(loaded) => assert_eq!(rt; loaded.rows.len(), 4),
-            Err(fault) => {
-                assert_eq!(rt; fault, LoadFault::Memory);
-                refused = refused.wrapping_add(1);
-            }
-        }
-    }
-    assert!(rt; 0 < refused && refused < ENOUGH);
+    let heap = LocalHeap::new(alloc, HEAP_LEN)?;
+    let rows = four_rows(alloc, &heap, &north)?;
+    assert!(rt; is_refused_in_little(|units| is_loaded(alloc, &rows, &north, units))?);
     Ok(())
+}
+
+/// Whether the names of five realms have room; if not, that is what is said.
+fn are_named(alloc: Global, rows: &MemRows, units: usize) -> Result<bool, Fail> {
+    let heap = LocalHeap::new(alloc, units.wrapping_mul(UNIT))?;
+    match rows.realms_in(&heap) {
+        Ok(names) if names.len() == 5 => Ok(true),
+        Err(LoadFault::Memory) => Ok(false),
+        _ => Err(Fail::from("other names")),
+    }
+}
+
+/// Five realms that are known.
+fn five_realms(alloc: Global) -> Result<MemRows, Fail> {
+    let mut rows = MemRows::new(alloc);
+    for name in ["a", "b", "c", "d", "e"] {
+        let realm = Realm::new(alloc, name.as_bytes())?;
+        rows.know(&realm)?;
+    }
+    Ok(rows)
 }
 
 #[test]
 fn names_have_room_or_want_memory(rt: HostRuntime) -> Result<(), Fail> {
     let alloc = rt.alloc();
-    let mut rows = MemRows::new(alloc);
-    for name in ["a", "b", "c", "d", "e"] {
-        rows.know(&Realm::new(alloc, name.as_bytes())?)?;
-    }
-    let mut refused = 0usize;
-    for units in 1..=ENOUGH {
-        let heap = LocalHeap::new(alloc, units * UNIT)?;
-        match rows.realms_in(&heap) {
-            Ok(names) => assert_eq!(rt; names.len(), 5),
-            Err(fault) => {
-                assert_eq!(rt; fault, LoadFault::Memory);
-                refused = refused.wrapping_add(1);
-            }
-        }
-    }
-    assert!(rt; 0 < refused && refused < ENOUGH);
+    let rows = five_realms(alloc)?;
+    assert!(rt; is_refused_in_little(|units| are_named(alloc, &rows, units))?);
     Ok(())
 }
