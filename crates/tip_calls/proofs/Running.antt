@@ -12,14 +12,13 @@ use Rattle.std.proofs.lemmas.Option.{none-some, same_Some}
 use Rattle.std.proofs.lemmas.Slice.Eq.{bytes_eq-Decides}
 use Rattle.tip_agreement.proofs.Runs.{led_on, run_on, run_one, shows, shows_on, shows_one}
 use Rattle.tip_branch.specs.Notes.{PartyNotes}
-use Rattle.tip_branch.specs.declared.branch.Badge.{Badge}
 use Rattle.tip_core.specs.Hosted.{HaveNames, Hosted, realm}
 use Rattle.tip_host.proofs.Opening.{named_at, read_at, start_at}
 use Rattle.tip_host.proofs.Parts.{can_open, epochs_stay, number_of, opened_known, opened_part, part_after, part_stays, renewed_known, renewed_others, renewed_part, rises}
 use Rattle.tip_host.specs.Keeping.{log_after}
 use Rattle.tip_host.specs.Loading.{names_of, opened, spec_of, start_of}
-use Rattle.tip_host.specs.declared.realm_spec.RealmSpec.{RealmSpec}
 use Rattle.tip_host.specs.Recovering.{all_adopted, recovered}
+use Rattle.tip_host.specs.declared.realm_spec.RealmSpec.{RealmSpec}
 use Rattle.tip_machine.proofs.Stepping.{step-epoch, step-named}
 use Rattle.tip_machine.proofs.Storing.{same_rows}
 use Rattle.tip_machine.specs.Heads.{starting}
@@ -28,7 +27,7 @@ use Rattle.tip_machine.specs.Moves.{Move, World, drops_here, gone_for, led_to, l
 use Rattle.tip_machine.specs.Outputs.{Output, drops_of, outputs}
 use Rattle.tip_machine.specs.Recovery.{restarted}
 use Rattle.tip_machine.specs.Returns.{can_answer}
-use Rattle.tip_machine.specs.Starting.{IsStart, are_adopted}
+use Rattle.tip_machine.specs.Starting.{IsStart}
 use Rattle.tip_machine.specs.States.{State, started}
 use Rattle.tip_machine.specs.Steps.{fits, step, wants}
 use Rattle.tip_machine.specs.Types.{Event}
@@ -42,7 +41,7 @@ use Rattle.tip_rows.specs.Logs.{IsPart, Log, last_epoch, raised_number, with_rai
 use Rattle.tip_rows.specs.declared.row.Row.{Row}
 use Rattle.tip_witness.proofs.Asked.{run_is_agreed}
 use Rattle.tip_calls.proofs.Given.{boxes_at, given_boxes, gives, taken_boxes}
-use Rattle.tip_calls.specs.Calls.{AreCalls, AreRun, Around, Brings, Came, IsCall, IsHosted, HasStarted, IsBegun, IsLetGo, IsRestarted, IsRisen, IsStepped, IsStill, drops_in, first_of, shown_of}
+use Rattle.tip_calls.specs.Calls.{AreCalls, AreRun, Around, Brings, Came, IsCall, IsHosted, HasStarted, IsBegun, IsLetGo, IsRestarted, IsRisen, IsStepped, IsStill, drops_in, shown_of}
 use Rattle.tip_calls.specs.Calls.IsCall.{Stepped, LetGo, Restarted, Renewed, Stays}
 use Rattle.tip_calls.specs.Giving.{AreEachGiven, AreGiven}
 
@@ -122,14 +121,7 @@ module _ {S : Type 0} (stands may_leave : S → Log → Type 0) (is_true : S →
 
   -- A start
 
-  -- a realm that has started from its rows
-  record IsStarted (spec : RealmSpec) (epoch : ℕ) (rows : List (Key × Row)) (new : Around S) (place : ℕ) : Type 0 where
-    boxes : Key → List Badge
-    rises : epoch < last_epoch
-    adopted : are_adopted boxes rows ≡ true
-    hosted : IsHosted stands new place (first_of spec epoch boxes rows)
-
-  has_started : (specs : List RealmSpec) (store : S) (new : Around S) (log : Log) (place : ℕ) (spec : RealmSpec) (epoch : ℕ) (rows : List (Key × Row)) → IsBegun stands may_leave is_true faults is_due specs store new → is_true new.store → stands store log → slice_get specs place ≡ Some spec → IsPart log spec.name epoch rows → IsStarted spec epoch rows new place
+  pub has_started : (specs : List RealmSpec) (store : S) (new : Around S) (log : Log) (place : ℕ) (spec : RealmSpec) (epoch : ℕ) (rows : List (Key × Row)) → IsBegun stands may_leave is_true faults is_due specs store new → is_true new.store → stands store log → slice_get specs place ≡ Some spec → IsPart log spec.name epoch rows → HasStarted stands spec epoch rows new place
   has_started specs store new log place spec epoch rows is truth stood here part =
       let name = spec.name in
       let names = names_of specs in
@@ -162,6 +154,7 @@ module _ {S : Type 0} (stands may_leave : S → Log → Type 0) (is_true : S →
           rows = subst (λ l. IsPart l name (epoch + 1) rows) (sym way.1) (subst (λ e. IsPart (opened names log) name e rows) number own);
           known = ap (λ (l : Log). is_some (l.epochs name)) way.1 ∙ opened_known names place log name epoch rows named part;
         };
+        begins = λ head before once. record { head = head; rows = before; boxes = boxes; adopted = all.0; state = refl; known_once = once; errands = refl };
       }
 
   module _ (old new : Around S) (place : ℕ) (world : World) (hosted : IsHosted stands old place world) where
@@ -351,16 +344,4 @@ module _ {S : Type 0} (stands may_leave : S → Log → Type 0) (is_true : S →
         shows = shows_on start moves more.moves ∙ ap (λ l. shows start moves ++ l) more.shows_it;
         led = subst (IsHosted stands new place) (sym (led_on start moves more.moves)) more.led;
         agreed = λ id. run_is_agreed start (moves ++ more.moves) id starts whole;
-      }
-
-  -- A host that begins
-
-  pub has_begun : (specs : List RealmSpec) (store : S) (new : Around S) (log : Log) (place : ℕ) (spec : RealmSpec) (epoch : ℕ) (rows : List (Key × Row)) → IsBegun stands may_leave is_true faults is_due specs store new → is_true new.store → stands store log → slice_get specs place ≡ Some spec → IsPart log spec.name epoch rows → HasStarted stands spec epoch rows new place
-  has_begun specs store new log place spec epoch rows is truth stood here part =
-      let start = has_started specs store new log place spec epoch rows is truth stood here part in
-      record {
-        boxes = start.boxes;
-        rises = start.rises;
-        hosted = start.hosted;
-        begins = λ head before once. record { head = head; rows = before; boxes = start.boxes; adopted = start.adopted; state = refl; known_once = once; errands = refl };
       }

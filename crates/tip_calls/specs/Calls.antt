@@ -19,7 +19,7 @@ use Rattle.tip_machine.specs.Moves.{Move, World, drops_here, led_to, loaded}
 use Rattle.tip_machine.specs.Outputs.{Output, drops_of, outputs}
 use Rattle.tip_machine.specs.Recovery.{restarted}
 use Rattle.tip_machine.specs.Returns.{Back, can_answer, event_of}
-use Rattle.tip_machine.specs.Starting.{AreRowsBefore, IsStart, is_starting}
+use Rattle.tip_machine.specs.Starting.{AreRowsBefore, IsStart, are_adopted, is_starting}
 use Rattle.tip_machine.specs.States.{State}
 use Rattle.tip_machine.specs.Steps.{fits, wants}
 use Rattle.tip_machine.specs.Types.{Answer, Event}
@@ -170,6 +170,7 @@ first_of spec epoch boxes rows = record { state = restarted (starting (start_of 
 -- A REALM HAS STARTED from the rows and the epoch that were stored of it: it is where a run may begin, where tipd alone wrote them
 pub record HasStarted {S : Type 0} (stands : S → Log → Type 0) (spec : RealmSpec) (epoch : ℕ) (rows : List (Key × Row)) (new : Around S) (place : ℕ) : Type 0 where
   pub boxes : Key → List Badge
+  pub adopted : are_adopted boxes rows ≡ true
   pub rises : epoch < last_epoch
   pub hosted : IsHosted stands new place (first_of spec epoch boxes rows)
   pub begins : is_starting (starting (start_of spec (epoch + 1))) ≡ true → AreRowsBefore (epoch + 1) rows → are_known_once (first_of spec epoch boxes rows).state ≡ true → IsStart (first_of spec epoch boxes rows)
