@@ -1,0 +1,28 @@
+-- The realm is renewed by the rows that were read, with these boxes.
+use Rattle.std.proofs.Common.{◌++◌, ◌∙◌, ap, map, refl, rules}
+use Rattle.std.specs.List.{flat_map}
+use Rattle.tip_core.specs.Hosted.{realm}
+use Rattle.tip_machine.specs.Moves.{drops_here}
+use Rattle.tip_machine.specs.Outputs.{drops_of}
+use Rattle.tip_run.proofs.Leaving.{drops_shown}
+use Rattle.tip_run.proofs.Starts.{has_renewed}
+use Rattle.tip_run.specs.Runs.{around}
+use Rattle.tip_run.specs.Showing.{notes_of}
+use Rattle.tip_run.proofs.running.Running.renew.Goals as goal
+
+pub returns : goal.returns
+returns g c = rw (← c.self.view_is) (has_renewed g.S.RowLog.stands g.S.RowLog.may_leave g.S.RowLog.is_true g.S.RowLog.faults g.S.RowLog.is_due
+    (around (record { host = c.self.inside.host; out = c.self.inside.out })) (around (record { host = c.renew.new.self; out = c.self.inside.out })) c.doubts.new.self.store _ c.args.realm c.args.boxes.items c.in-Ok.recovery.rows c.adopt_all.new.self c.leaving.result
+    c.in-Ok.ensures.here
+    c.in-Ok.ensures.store
+    (search rules)
+    (search rules)
+    (λ state log there stood. (c.in_default.ensures.store state (ap (λ h. realm h c.args.realm) c.doubts.ensures.core ∙ there)).rows log stood)
+    (λ state there is. (c.in_default.ensures.store state (ap (λ h. realm h c.args.realm) c.doubts.ensures.core ∙ there)).truth is)
+    (λ state there. c.in_default.ensures.renewed state (ap (λ h. realm h c.args.realm) c.doubts.ensures.core ∙ there))
+    (λ other differ. c.renew.ensures.others other differ ∙ ap (λ h. realm h other) c.doubts.ensures.core)
+    c.in_default.ensures.names
+    (λ other. refl)
+    c.leaving.ensures.realm
+    (λ state there. c.leaving.ensures.shows ∙ drops_shown c.note_here.new.left.items (map notes_of c.note_here.new.left.items) refl ∙ c.in_ok-note_here.ensures state there
+    ∙ ap (λ l. flat_map drops_of (map notes_of l) ++ drops_here state) c.new-left.ensures.items))

@@ -1,0 +1,133 @@
+-- A HOST THAT IS RUN by a list of moves (ours): what each move does, and what it shows.
+use Rattle.std.specs.Prelude.{◌≡◌, ◌≢◌, ℕ, Bool, true, List, [], ◌∷◌, ◌++◌, map, Option, Some, None}
+use Rattle.std.specs.List.{flat_map}
+use Rattle.std.specs.Option.{option_to_list}
+use Rattle.tip_branch.specs.Notes.{PartyNotes}
+use Rattle.tip_branch.specs.declared.branch.Badge.{Badge}
+use Rattle.tip_calls.specs.Calls.{AreRun, Around, Came, IsHosted, IsLetGo, IsRestarted, IsRisen, IsStepped, drops_in}
+use Rattle.tip_core.specs.Hosted.{HaveNames, Hosted, Steps, realm}
+use Rattle.tip_host.specs.Errands.{was_done}
+use Rattle.tip_host.specs.Keeping.{Keeps}
+use Rattle.tip_host.specs.Recovering.{adopted_each}
+use Rattle.tip_host.specs.declared.host.Host.{Host}
+use Rattle.tip_machine.specs.Honest.{is_run}
+use Rattle.tip_machine.specs.Moves as Moves
+use Rattle.tip_machine.specs.Moves.{World, drops_here, led_to}
+use Rattle.tip_machine.specs.Outputs.{drops_of, outputs}
+use Rattle.tip_machine.specs.Returns.{Back, event_of}
+use Rattle.tip_machine.specs.Starting.{IsStart}
+use Rattle.tip_machine.specs.States.{State}
+use Rattle.tip_machine.specs.Steps.{fits, wants}
+use Rattle.tip_machine.specs.Types.{Answer, Event}
+use Rattle.tip_machine.specs.declared.event.Change.{Change}
+use Rattle.tip_machine.specs.declared.event.Outcome.{Outcome}
+use Rattle.tip_recovery.specs.Adopting.{adopted_all}
+use Rattle.tip_rows.specs.Logs.{Log}
+use Rattle.tip_table.specs.Kept.{Kept, of}
+use Rattle.tip_run.specs.Showing.{shown_at, outputs_of}
+use Rattle.tip_run.specs.declared.moves.Move as moves
+use Rattle.tip_run.specs.declared.moves.Move.TheVariants as move
+use Rattle.tip_run.specs.declared.shown.Shown.{Shown}
+
+abbrev pub Move : Type 0
+Move = moves.Move Event (List Badge)
+
+-- a host at work, and the parties that are out of each realm, the oldest first
+pub record Running (S : Type 0) : Type 0 where
+  pub host : Host S Hosted
+  pub out : Kept PartyNotes
+
+-- what its calls are calls of
+abbrev pub around : {S : Type 0} → Running S → Around S
+around running = record { core = running.host.core; store = running.host.store; out = of running.out }
+
+-- parties are out of realms that are there
+abbrev pub AreOfRealms : {S : Type 0} → Running S → Type 0
+AreOfRealms running = (place : ℕ) → realm running.host.core place ≡ None → of running.out place ≡ []
+
+-- One event
+
+-- AN EVENT of the realm at a place has come, and all that it shows is shown; the party that it sends out is out
+pub record Happens {S : Type 0} (stands may_leave : S → Log → Type 0) (is_true : S → Type 0) (faults : S → ℕ) (is_due : S → List ℕ → Bool) (old new : Around S) (place : ℕ) (event : Event) (shown : Shown) : Type 0 where
+  pub change : Option Change
+  pub outcome : Outcome
+  pub answer : Answer
+  pub steps : Steps old.core new.core place event outcome answer
+  pub wanted : (state : State) → realm old.core place ≡ Some state → change ≡ wants state event
+  pub fits : fits change outcome ≡ true
+  pub keeps : (state : State) → realm old.core place ≡ Some state → Keeps stands may_leave is_true faults is_due state.head.name change outcome old.store new.store
+  pub absent : realm old.core place ≡ None → new.store ≡ old.store
+  pub names : HaveNames new.core
+  pub out : new.out place ≡ old.out place ++ option_to_list answer.work
+  pub others : (other : ℕ) → other ≢ place → new.out other ≡ old.out other
+  pub realm_is : shown.realm ≡ place
+  pub shows : outputs_of shown ≡ outputs event change outcome answer
+
+-- the same, seen as one call of a host
+pub record Comes {S : Type 0} (stands may_leave : S → Log → Type 0) (is_true : S → Type 0) (faults : S → ℕ) (is_due : S → List ℕ → Bool) (old new : Around S) (place : ℕ) (event : Event) (shown : Shown) : Type 0 where
+  pub came : Came
+  pub is : IsStepped stands may_leave is_true faults is_due old new came
+  pub place_is : came.place ≡ place
+  pub event_is : came.event ≡ event
+  pub realm_is : shown.realm ≡ place
+  pub shows : outputs_of shown ≡ outputs event came.change came.outcome came.answer
+
+-- Errands
+
+-- the oldest party that is out does its errand and comes back; where none is out, nothing happens
+abbrev pub Goes : {S : Type 0} → (stands may_leave : S → Log → Type 0) → (is_true : S → Type 0) → (faults : S → ℕ) → (is_due : S → List ℕ → Bool) → Around S → Around S → ℕ → List PartyNotes → Option Shown → Type 0
+Goes stands may_leave is_true faults is_due old new place [] shown = (shown ≡ None) × (new ≡ old)
+Goes stands may_leave is_true faults is_due old new place (party ∷ left) None = ⊥
+Goes stands may_leave is_true faults is_due old new place (party ∷ left) (Some shown) =
+    (back : Back) × (was_done party.errand back ≡ true) × Comes stands may_leave is_true faults is_due old new place (event_of party back) shown
+
+-- it is let go, its errand undone
+abbrev pub Loses : {S : Type 0} → Around S → Around S → ℕ → List PartyNotes → Option Shown → Type 0
+Loses old new place [] shown = (shown ≡ None) × (new ≡ old)
+Loses old new place (party ∷ left) None = ⊥
+Loses old new place (party ∷ left) (Some shown) = IsLetGo old new place party × (shown.realm ≡ place) × (outputs_of shown ≡ drops_of party)
+
+-- Starts
+
+-- all realms start again from their rows, with these boxes
+pub record Restarts {S : Type 0} (stands may_leave : S → Log → Type 0) (is_true : S → Type 0) (faults : S → ℕ) (is_due : S → List ℕ → Bool) (old new : Around S) (boxes : List (List (List Badge))) (shown : List Shown) : Type 0 where
+  pub is : IsRestarted stands may_leave is_true faults is_due old new
+  pub boxes_are : is.begins.realms ≡ adopted_each boxes is.begins.loaded.realms
+  pub shows : (place : ℕ) → shown_at place shown ≡ flat_map drops_of (old.out place) ++ drops_in (realm old.core place)
+
+-- one realm does, while the others run
+pub record Renews {S : Type 0} (stands : S → Log → Type 0) (is_true : S → Type 0) (old new : Around S) (place : ℕ) (boxes : List (List Badge)) (shown : Shown) : Type 0 where
+  pub state : State
+  pub is : IsRisen stands is_true old new place state
+  pub boxes_are : is.recovery.rows ≡ adopted_all boxes is.read
+  pub realm_is : shown.realm ≡ place
+  pub shows : outputs_of shown ≡ drops_here state
+
+-- Moves
+
+-- ONE MOVE, and what it shows
+abbrev pub IsMade : {S : Type 0} → (stands may_leave : S → Log → Type 0) → (is_true : S → Type 0) → (faults : S → ℕ) → (is_due : S → List ℕ → Bool) → Around S → Move → List Shown → Around S → Type 0
+IsMade stands may_leave is_true faults is_due old (move.Step place event) shown new = (one : Shown) × (shown ≡ one ∷ []) × Comes stands may_leave is_true faults is_due old new place event one
+IsMade stands may_leave is_true faults is_due old (move.Go place) shown new = (one : Option Shown) × (shown ≡ option_to_list one) × Goes stands may_leave is_true faults is_due old new place (old.out place) one
+IsMade stands may_leave is_true faults is_due old (move.Lose place) shown new = (one : Option Shown) × (shown ≡ option_to_list one) × Loses old new place (old.out place) one
+IsMade stands may_leave is_true faults is_due old (move.Restart boxes) shown new = Restarts stands may_leave is_true faults is_due old new (map (λ lots. lots.items) boxes.items) shown
+IsMade stands may_leave is_true faults is_due old (move.Renew place boxes) shown new = (one : Shown) × (shown ≡ one ∷ []) × Renews stands is_true old new place boxes.items one
+
+-- ONE AFTER ANOTHER
+abbrev pub AreMade : {S : Type 0} → (stands may_leave : S → Log → Type 0) → (is_true : S → Type 0) → (faults : S → ℕ) → (is_due : S → List ℕ → Bool) → Around S → List Move → List Shown → Around S → Type 0
+AreMade stands may_leave is_true faults is_due old [] shown new = (shown ≡ []) × (new ≡ old)
+AreMade stands may_leave is_true faults is_due old (move ∷ moves) shown new =
+    (between : Around _) × (first later : List Shown) × (shown ≡ first ++ later) × IsMade stands may_leave is_true faults is_due old move first between × AreMade stands may_leave is_true faults is_due between moves later new
+
+-- Agreement
+
+-- WHAT IS TOLD IS A RUN OF EACH REALM'S OWN MACHINE, behind the moves that it had made: its state and its stored rows are where that
+-- run leads, and none of its transactions is half committed
+abbrev pub AreAgreed : {S : Type 0} → (stands : S → Log → Type 0) → (is_true : S → Type 0) → Around S → List Shown → Around S → Type 0
+AreAgreed stands is_true old shown new =
+    (place : ℕ) (start : World) (before : List Moves.Move) → IsStart start → is_run start before ≡ true → HaveNames old.core → IsHosted stands old place (led_to start before) → is_true new.store → AreRun stands start before (shown_at place shown) new place
+
+-- A RUN: its moves were made, and it is agreed
+pub record HasRun {S : Type 0} (stands may_leave : S → Log → Type 0) (is_true : S → Type 0) (faults : S → ℕ) (is_due : S → List ℕ → Bool) (old : Around S) (moves : List Move) (shown : List Shown) (new : Around S) : Type 0 where
+  pub made : AreMade stands may_leave is_true faults is_due old moves shown new
+  pub agreed : AreAgreed stands is_true old shown new
