@@ -5,4 +5,3 @@ pub mod Declaring
 pub mod Spelling
 pub mod Playing
 pub mod Apart
-pub mod Naming

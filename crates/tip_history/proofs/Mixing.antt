@@ -1,5 +1,5 @@
 -- What all realms say, one line after another, and what each has made of it.
-use Rattle.std.proofs.Common.{◌≡◌, ◌++◌, ◌∷◌, ◌==◌, ℕ, zero, suc, Bool, true, false, cond, List, [], Some, None, map, append-nil, refl, ap, sym, subst, ◌∙◌}
+use Rattle.std.proofs.Common.{◌≡◌, ◌++◌, ◌∷◌, ℕ, zero, suc, Bool, true, false, cond, List, [], Some, None, map, append-nil, refl, ap, sym, subst, ◌∙◌}
 use Rattle.std.specs.Prelude.{filter_map, slice_get, slice_set}
 use Rattle.std.specs.List.{cons_option, flat_map, list_all, list_any}
 use Rattle.std.specs.Str.{bytes_eq}
@@ -8,17 +8,16 @@ use Rattle.std.proofs.lemmas.Grind.{flat_map-append}
 use Rattle.std.proofs.lemmas.List.Elements.{filter_map-append}
 use Rattle.std.proofs.lemmas.List.Folds.{flat_map-map, list_all-append}
 use Rattle.std.proofs.lemmas.Option.{none-some, same_Some}
-use Rattle.tip_line.specs.Words.{is_address, is_realm}
-use Rattle.tip_rows.specs.Logs.{last_epoch}
-use Rattle.tip_machine.specs.Heads.{are_allowed, is_within}
+use Rattle.tip_line.specs.Words.{is_realm}
 use Rattle.tip_rows.proofs.MemoryLemmas.{bytes_eq-self, same_text}
 use Rattle.tip_machine.specs.Honest.{is_run}
 use Rattle.tip_machine.specs.Invariants.{IsSound}
 use Rattle.tip_machine.specs.Invariants.Links.{are_distinct}
 use Rattle.tip_machine.specs.Moves.{World, led_to}
-use Rattle.tip_machine.specs.Starting.{IsStart, are_declared}
+use Rattle.tip_machine.specs.Starting.{IsStart}
 use Rattle.tip_agreement.proofs.Kept.{reached_sound}
 use Rattle.tip_witness.proofs.Asked.{run_is_agreed}
+use Rattle.tip_witness.proofs.Naming.{named_so}
 use Rattle.tip_actor.specs.Acting.{Acting, Done}
 use Rattle.tip_scene.specs.Scenes.{Scene}
 use Rattle.tip_history.specs.Histories.{AreHistories, History, IsTold, IsUnknown, name_of}
@@ -108,17 +107,6 @@ differs a b differ = at (bytes_eq b a) refl where
 pub spelled_by : (name : List ℕ) (said : List Saying) → is_realm name ≡ true → are_spelled (said_by name said) ≡ true
 spelled_by name [] is = refl
 spelled_by name (saying ∷ said) is = and_from (is_realm name) _ is (spelled_by name said is)
-
--- a realm that starts has a name as realms have
-pub named_so : (world : World) → IsStart world → is_realm world.state.head.name ≡ true
-named_so world start =
-    let head = world.state.head in
-    let entries = and_parts _ (head.entries == 0) start.head in
-    let given = and_parts _ (head.given == 0) entries.0 in
-    let epoch = and_parts _ (is_within 1 last_epoch head.epoch) given.0 in
-    let branches = and_parts _ (are_declared head.branches) epoch.0 in
-    let limits = and_parts _ (are_allowed head.limits) branches.0 in
-    (and_parts (is_realm head.name) (is_address head.address) limits.0).0
 
 pub spelled_names : (lines : List Line) (histories : List History) (scene : Scene) → AreOf lines histories scene → list_all (λ (acting : Acting). is_realm acting.name) scene ≡ true
 spelled_names lines [] [] are = refl

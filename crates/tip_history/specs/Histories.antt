@@ -1,12 +1,11 @@
 -- WHAT A TRANSCRIPT TELLS of the realms (ours): each has made an honest run of its own machine, alone, and in each run the four
 -- sentences of agreement hold of each identifier.
-use Rattle.std.specs.Prelude.{◌≡◌, ℕ, Bool, true, false, List, [], ◌∷◌, ◌++◌, map, Option}
+use Rattle.std.specs.Prelude.{◌≡◌, ℕ, true, false, List, [], ◌∷◌, ◌++◌, map, Option}
 use Rattle.std.specs.Io.KnownBytes.{Appends}
 use Rattle.std.specs.List.{list_any}
 use Rattle.std.specs.Str.{bytes_eq}
 use Rattle.tip_machine.specs.Agreement.{IsAgreed}
 use Rattle.tip_machine.specs.Agreement.Traces.{Moment, shown_in, traced}
-use Rattle.tip_machine.specs.Agreement.Verdicts.{told}
 use Rattle.tip_machine.specs.Honest.{is_run}
 use Rattle.tip_machine.specs.Invariants.Links.{are_distinct}
 use Rattle.tip_machine.specs.Moves.{Move, World}
@@ -23,10 +22,6 @@ name_of history = history.start.state.head.name
 
 abbrev pub moments_of : History → List Moment
 moments_of history = traced history.start history.moves
-
--- a branch of the transaction of this identifier, local or remote, is told to commit or to abort
-abbrev pub is_told_of : List ℕ → World → List Move → Bool
-is_told_of id start moves = list_any (λ verdict. true) (told start.state.head.name id (shown_in (traced start moves)))
 
 -- a run of a realm's machine, from a first start without rows
 pub record IsHistory (lines : List Line) (history : History) : Type 0 where

@@ -7,11 +7,7 @@ ghost use Rattle.tip_scene.specs.Scenes.{Scene};
 ghost use Rattle.tip_scene.specs.declared.declared.Declaration.{Declaration};
 ghost use Rattle.tip_script.specs.Scripts.{Move};
 ghost use Rattle.tip_history.specs.Alone.{IsAlone, all_moved, is_spelled};
-ghost use Rattle.tip_history.specs.Histories.{IsTold, is_told_of};
-ghost use Rattle.tip_machine.specs.Honest.{is_run};
-ghost use Rattle.tip_machine.specs.Moves as Moves;
-ghost use Rattle.tip_machine.specs.Moves.{World};
-ghost use Rattle.tip_machine.specs.Starting.{IsStart};
+ghost use Rattle.tip_history.specs.Histories.{IsTold};
 
 /// ISOLATION AND AGREEMENT: whatever a script says, its transcript says of each realm what the realm's own machine shows in an honest
 /// run of its own, over restarts and renewals, and in that run no transaction is half committed.
@@ -24,11 +20,4 @@ pub fn each_transcript_tells_honest_histories()
 pub fn each_realm_is_alone()
     ensures { (lines : List (List ℕ)) (declarations : List Declaration) (moves : List Move) (next : Scene) → (played (Declaring []) 1 lines).ending ≡ Reached (Declaring declarations) → list_all is_spelled moves ≡ true → (all_moved moves (scene_of declarations)).scene ≡ Some next →
         IsAlone moves (scene_of declarations) next (all_moved moves (scene_of declarations)).printed }
-{}
-
-/// AGREEMENT across realms: of an identifier one realm alone tells its branches, so what all realms tell of it is what that realm
-/// tells.
-pub fn one_realm_tells_of_an_identifier()
-    ensures { (one other : World) (moves others : List Moves.Move) (id : List ℕ) → IsStart one → is_run one moves ≡ true → IsStart other → is_run other others ≡ true →
-        is_told_of id one moves ≡ true → is_told_of id other others ≡ true → one.state.head.name ≡ other.state.head.name }
 {}

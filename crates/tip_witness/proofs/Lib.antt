@@ -11,6 +11,7 @@ pub mod Hearing
 pub mod Keeping
 pub mod Keptness
 pub mod Linking
+pub mod Naming
 pub mod Outcomes
 pub mod Passing
 pub mod Returning

@@ -5,6 +5,7 @@ ghost use Rattle.tip_machine.specs.Agreement.{IsAgreed, is_asked, is_denied, is_
 ghost use Rattle.tip_machine.specs.Honest.{is_run};
 ghost use Rattle.tip_machine.specs.Moves.{Move, World};
 ghost use Rattle.tip_machine.specs.Starting.{IsStart};
+ghost use Rattle.tip_witness.specs.Telling.{is_told_of};
 
 /// What has a row, in doubt or committed, is not denied: in an honest run from a start a QUERY for its identifier is never answered
 /// QUERIEDNOTFOUND.
@@ -30,4 +31,11 @@ pub fn a_commit_is_told_where_all_were_willing()
 /// the store answers and other managers say, over restarts and renewals, lost parties and lost connections.
 pub fn a_run_is_agreed()
     ensures { (world : World) (moves : List Move) (id : List ℕ) → IsStart world → is_run world moves ≡ true → IsAgreed world (traced world moves) id }
+{}
+
+/// AGREEMENT across realms: of an identifier one realm alone tells its branches, so what all realms tell of it is what that realm
+/// tells.
+pub fn one_realm_tells_of_an_identifier()
+    ensures { (one other : World) (moves others : List Move) (id : List ℕ) → IsStart one → is_run one moves ≡ true → IsStart other → is_run other others ≡ true →
+        is_told_of id one moves ≡ true → is_told_of id other others ≡ true → one.state.head.name ≡ other.state.head.name }
 {}

@@ -1,24 +1,25 @@
 -- Identifiers of two realms differ, so one realm alone tells of each.
-use Rattle.std.proofs.Common.{◌≡◌, ◌++◌, ◌∷◌, ℕ, true, false, List, [], append_assoc, drop, refl, ap, sym, subst, ◌∙◌}
+use Rattle.std.proofs.Common.{◌≡◌, ◌++◌, ◌∷◌, ◌==◌, ℕ, true, List, [], append_assoc, drop, refl, ap, sym, subst, ◌∙◌}
 use Rattle.std.specs.Prelude.{slice_get}
 use Rattle.std.specs.Fmt.{decimal}
 use Rattle.std.specs.List.{list_all, list_any}
 use Rattle.std.proofs.lemmas.Bool.{and_parts, or_left, true≢false}
 use Rattle.std.proofs.lemmas.Option.{same_Some}
 use Rattle.tip_line.specs.Ids.{dash}
-use Rattle.tip_line.specs.Words.{is_letter, is_realm}
+use Rattle.tip_line.specs.Words.{is_address, is_letter, is_realm}
 use Rattle.tip_rows.specs.Keys.{Key}
+use Rattle.tip_rows.specs.Logs.{last_epoch}
 use Rattle.tip_machine.specs.Agreement.Traces.{shown_in, traced}
 use Rattle.tip_machine.specs.Agreement.Verdicts.{Verdict, told}
 use Rattle.tip_machine.specs.Answers.{identifier}
+use Rattle.tip_machine.specs.Heads.{are_allowed, is_within}
 use Rattle.tip_machine.specs.Honest.{is_run}
 use Rattle.tip_machine.specs.Moves.{Move, World, led_to}
-use Rattle.tip_machine.specs.Starting.{IsStart}
+use Rattle.tip_machine.specs.Starting.{IsStart, are_declared}
 use Rattle.tip_agreement.proofs.Agreeing.{name_led, run_true, start_true}
 use Rattle.tip_agreement.proofs.Restarts.{start_sound}
 use Rattle.tip_agreement.specs.Truth.{IsOurs}
-use Rattle.tip_history.proofs.Mixing.{named_so}
-use Rattle.tip_history.specs.Histories.{is_told_of}
+use Rattle.tip_witness.specs.Telling.{is_told_of}
 
 first_same : (x y : ℕ) (xs ys : List ℕ) → x ∷ xs ≡ y ∷ ys → x ≡ y
 first_same x y xs ys same = same_Some x y (ap (λ l. slice_get l 0) same)
@@ -50,6 +51,17 @@ spelled name key =
 
 same_realm : (one other : List ℕ) (key that : Key) → is_realm one ≡ true → is_realm other ≡ true → identifier one key ≡ identifier other that → one ≡ other
 same_realm one other key that is too same = same_before one other (behind key) (behind that) (letters_of one is) (letters_of other too) (sym (spelled one key) ∙ same ∙ spelled other that)
+
+-- a realm that starts has a name as realms have
+pub named_so : (world : World) → IsStart world → is_realm world.state.head.name ≡ true
+named_so world start =
+    let head = world.state.head in
+    let entries = and_parts _ (head.entries == 0) start.head in
+    let given = and_parts _ (head.given == 0) entries.0 in
+    let epoch = and_parts _ (is_within 1 last_epoch head.epoch) given.0 in
+    let branches = and_parts _ (are_declared head.branches) epoch.0 in
+    let limits = and_parts _ (are_allowed head.limits) branches.0 in
+    (and_parts (is_realm head.name) (is_address head.address) limits.0).0
 
 -- an identifier that a run tells of is its realm's own
 is_ours : (world : World) (moves : List Move) (id : List ℕ) → IsStart world → is_run world moves ≡ true → is_told_of id world moves ≡ true → IsOurs world.state.head.name id

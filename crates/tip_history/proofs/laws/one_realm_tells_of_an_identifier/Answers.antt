@@ -1,5 +1,0 @@
-use Rattle.tip_history.proofs.Naming.{one_tells}
-use Rattle.tip_history.proofs.laws.one_realm_tells_of_an_identifier.Goals as goal
-
-pub returns : goal.returns
-returns c = one_tells
