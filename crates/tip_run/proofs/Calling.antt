@@ -1,16 +1,26 @@
 -- Moves are calls of a host, so that what is shown is what the calls show.
-use Rattle.std.proofs.Common.{◌≡◌, ◌++◌, ◌∷◌, ◌∙◌, ℕ, Bool, List, [], Option, Some, None, append_assoc, append-nil, ap, refl, subst, sym}
+use Rattle.std.proofs.Common.{◌≡◌, ◌++◌, ◌∷◌, ◌∙◌, ℕ, Bool, true, false, List, [], Option, Some, None, append_assoc, append-nil, ap, refl, subst, sym}
+use Rattle.std.specs.Prelude.{◌||◌}
+use Rattle.std.specs.List.{list_any}
 use Rattle.std.specs.Option.{option_to_list}
+use Rattle.std.proofs.lemmas.List.Elements.{filter_map-append}
+use Rattle.std.proofs.lemmas.List.Folds.{list_any-append}
 use Rattle.std.proofs.lemmas.List.Concat.{flat_map-append, flat_map-cons}
+use Rattle.tip_agreement.proofs.Agreeing.{name_led}
 use Rattle.tip_branch.specs.Notes.{PartyNotes}
 use Rattle.tip_calls.proofs.Running.{are_run}
 use Rattle.tip_calls.specs.Calls.{AreCalls, AreRun, Around, IsCall, IsStill, at, shown_of}
 use Rattle.tip_calls.specs.Calls.IsCall.{LetGo, Renewed, Restarted, Stays, Stepped}
+use Rattle.tip_machine.specs.Agreement.Traces.{shown_in, traced}
+use Rattle.tip_machine.specs.Agreement.Verdicts.{Verdict, told, told_by}
+use Rattle.tip_machine.specs.Moves.{World, led_to}
 use Rattle.tip_machine.specs.Outputs.{Output, drops_of, outputs}
 use Rattle.tip_machine.specs.Returns.{event_of}
 use Rattle.tip_machine.specs.Types.{Event}
 use Rattle.tip_rows.specs.Logs.{Log}
-use Rattle.tip_run.specs.Runs.{AreMade, Comes, Goes, HasRun, IsMade, Loses, Move, Renews}
+use Rattle.tip_witness.proofs.Naming.{one_tells}
+use Rattle.tip_witness.specs.Telling.{is_told}
+use Rattle.tip_run.specs.Runs.{AreAgreed, AreMade, Comes, Goes, HasRun, IsMade, Loses, Move, Renews}
 use Rattle.tip_run.specs.Showing.{shown_at, outputs_of}
 use Rattle.tip_run.specs.declared.moves.Move.TheVariants as move
 use Rattle.tip_run.specs.declared.shown.Shown.{Shown}
@@ -26,6 +36,19 @@ shown_one place here one shown realm_is shows =
 
 pub shown_on : (place : ℕ) (first later : List Shown) → shown_at place (first ++ later) ≡ shown_at place first ++ shown_at place later
 shown_on place first later = flat_map-append (λ (t : Shown). at t.realm (outputs_of t) place) first later
+
+or_right : (x y : Bool) → y ≡ true → (x || y) ≡ true
+or_right true y is = refl
+or_right false y is = is
+
+-- what is told later on is told
+told_later : (start : World) (id : List ℕ) (whole front shown : List Output) → whole ≡ front ++ shown → is_told start.state.head.name id shown ≡ true → is_told start.state.head.name id whole ≡ true
+told_later start id whole front shown parts tells =
+    let name = start.state.head.name in
+    ap (is_told name id) parts
+    ∙ ap (list_any (λ (verdict : Verdict). true)) (filter_map-append (told_by name id) front shown)
+    ∙ list_any-append (λ (verdict : Verdict). true) (told name id front) (told name id shown)
+    ∙ or_right (list_any (λ (verdict : Verdict). true) (told name id front)) _ tells
 
 module _ {S : Type 0} (stands may_leave : S → Log → Type 0) (is_true : S → Type 0) (faults : S → ℕ) (is_due : S → List ℕ → Bool) where
   abbrev Calls : Around S → Around S → List Shown → Type 0
@@ -78,12 +101,23 @@ module _ {S : Type 0} (stands may_leave : S → Log → Type 0) (is_true : S →
       }
 
   -- so each realm has made an honest run, in which it has shown what was shown of it
+  agrees : (old new : Around S) (moves : List Move) (shown : List Shown) → AreMade stands may_leave is_true faults is_due old moves shown new → AreAgreed stands is_true old shown new
+  agrees old new moves shown made = λ place start before starts run names hosted truth.
+      let have = called old new moves shown made in
+      subst (λ s. AreRun stands start before s new place) (sym (have.same place)) (are_run stands may_leave is_true faults is_due old new have.each place start before starts run names truth hosted have.calls)
+
+  -- and of an identifier one alone has shown that a branch was told
   pub has_run : (old new : Around S) (moves : List Move) (shown : List Shown) → AreMade stands may_leave is_true faults is_due old moves shown new → HasRun stands may_leave is_true faults is_due old moves shown new
-  has_run old new moves shown made = record {
+  has_run old new moves shown made = let agreed = agrees old new moves shown made in record {
     made = made;
-    agreed = λ place start before starts run names hosted truth.
-        let have = called old new moves shown made in
-        subst (λ s. AreRun stands start before s new place) (sym (have.same place)) (are_run stands may_leave is_true faults is_due old new have.each place start before starts run names truth hosted have.calls);
+    agreed = agreed;
+    apart = λ id one other start starts before befores begins run begun runs names here there truth tells told.
+        let this = agreed one start before begins run names here truth in
+        let that = agreed other starts befores begun runs names there truth in
+        let same = one_tells start starts (before ++ this.more) (befores ++ that.more) id begins this.run begun that.run
+        (told_later start id (shown_in (traced start (before ++ this.more))) (shown_in (traced start before)) (shown_at one shown) this.shows tells)
+        (told_later starts id (shown_in (traced starts (befores ++ that.more))) (shown_in (traced starts befores)) (shown_at other shown) that.shows told) in
+        names one other (led_to start before).state (led_to starts befores).state here.state there.state (name_led start before ∙ same ∙ sym (name_led starts befores));
   }
 
   -- One move more

@@ -24,6 +24,7 @@ use Rattle.tip_machine.specs.declared.event.Outcome.{Outcome}
 use Rattle.tip_recovery.specs.Adopting.{adopted_all}
 use Rattle.tip_rows.specs.Logs.{Log}
 use Rattle.tip_table.specs.Kept.{Kept, of}
+use Rattle.tip_witness.specs.Telling.{is_told}
 use Rattle.tip_run.specs.Showing.{shown_at, outputs_of}
 use Rattle.tip_run.specs.declared.moves.Move as moves
 use Rattle.tip_run.specs.declared.moves.Move.TheVariants as move
@@ -127,7 +128,14 @@ abbrev pub AreAgreed : {S : Type 0} → (stands : S → Log → Type 0) → (is_
 AreAgreed stands is_true old shown new =
     (place : ℕ) (start : World) (before : List Moves.Move) → IsStart start → is_run start before ≡ true → HaveNames old.core → IsHosted stands old place (led_to start before) → is_true new.store → AreRun stands start before (shown_at place shown) new place
 
+-- OF AN IDENTIFIER ONE REALM ALONE SHOWS that a branch was told
+abbrev pub AreApart : {S : Type 0} → (stands : S → Log → Type 0) → (is_true : S → Type 0) → Around S → List Shown → Around S → Type 0
+AreApart stands is_true old shown new =
+    (id : List ℕ) (one other : ℕ) (start starts : World) (before befores : List Moves.Move) → IsStart start → is_run start before ≡ true → IsStart starts → is_run starts befores ≡ true → HaveNames old.core → IsHosted stands old one (led_to start before) → IsHosted stands old other (led_to starts befores) → is_true new.store →
+    is_told start.state.head.name id (shown_at one shown) ≡ true → is_told starts.state.head.name id (shown_at other shown) ≡ true → one ≡ other
+
 -- A RUN: its moves were made, and it is agreed
 pub record HasRun {S : Type 0} (stands may_leave : S → Log → Type 0) (is_true : S → Type 0) (faults : S → ℕ) (is_due : S → List ℕ → Bool) (old : Around S) (moves : List Move) (shown : List Shown) (new : Around S) : Type 0 where
   pub made : AreMade stands may_leave is_true faults is_due old moves shown new
   pub agreed : AreAgreed stands is_true old shown new
+  pub apart : AreApart stands is_true old shown new
