@@ -11,6 +11,7 @@ use Rattle.tip_branch.specs.Notes.{PartyNotes}
 use Rattle.tip_calls.proofs.Running.{are_run}
 use Rattle.tip_calls.specs.Calls.{AreCalls, AreRun, Around, IsCall, IsStill, at, shown_of}
 use Rattle.tip_calls.specs.Calls.IsCall.{LetGo, Renewed, Restarted, Stays, Stepped}
+use Rattle.tip_core.specs.Hosted.{HaveNames}
 use Rattle.tip_machine.specs.Agreement.Traces.{shown_in, traced}
 use Rattle.tip_machine.specs.Agreement.Verdicts.{Verdict, told, told_by}
 use Rattle.tip_machine.specs.Moves.{World, led_to}
@@ -77,7 +78,7 @@ module _ {S : Type 0} (stands may_leave : S → Log → Type 0) (is_true : S →
 
   -- each move is a call
   call : (old new : Around S) (next : Move) (shown : List Shown) → IsMade stands may_leave is_true faults is_due old next shown new → Calls old new shown
-  call old new (move.Step place event) shown (one, alone, is) = subst (Calls old new) (sym alone) (comes old new place event one is)
+  call old new (move.Step place event) shown (one, alone, none, is) = subst (Calls old new) (sym alone) (comes old new place event one is)
   call old new (move.Go place) shown (one, alone, is) = subst (Calls old new) (sym alone) (goes old new place (old.out place) one is)
   call old new (move.Lose place) shown (one, alone, is) = subst (Calls old new) (sym alone) (loses old new place (old.out place) one is)
   call old new (move.Restart boxes) shown is = Restarted is.is is.shows
@@ -101,6 +102,20 @@ module _ {S : Type 0} (stands may_leave : S → Log → Type 0) (is_true : S →
       }
 
   -- so each realm has made an honest run, in which it has shown what was shown of it
+  -- realms keep names of their own
+  named : (old new : Around S) (next : Move) (shown : List Shown) → IsMade stands may_leave is_true faults is_due old next shown new → HaveNames old.core → HaveNames new.core
+  named old new next shown made = by (call old new next shown made) where
+    by : Calls old new shown → HaveNames old.core → HaveNames new.core
+    by (Stepped came is shows) names = is.names
+    by (LetGo place party is shows) names = subst HaveNames (sym is.core) names
+    by (Restarted is shows) names = is.begins.names
+    by (Renewed place state is shows) names = is.names
+    by (Stays is none) names = λ place other this that here there. names place other this that (sym (is.realms place) ∙ here) (sym (is.realms other) ∙ there)
+
+  still_named : (old new : Around S) (moves : List Move) (shown : List Shown) → AreMade stands may_leave is_true faults is_due old moves shown new → HaveNames old.core → HaveNames new.core
+  still_named old new [] shown (none, same) names = subst (λ (a : Around S). HaveNames a.core) (sym same) names
+  still_named old new (next ∷ moves) shown (between, first, later, parts, made, rest) names = still_named between new moves later rest (named old between next first made names)
+
   agrees : (old new : Around S) (moves : List Move) (shown : List Shown) → AreMade stands may_leave is_true faults is_due old moves shown new → AreAgreed stands is_true old shown new
   agrees old new moves shown made = λ place start before starts run names hosted truth.
       let have = called old new moves shown made in
@@ -118,6 +133,7 @@ module _ {S : Type 0} (stands may_leave : S → Log → Type 0) (is_true : S →
         (told_later start id (shown_in (traced start (before ++ this.more))) (shown_in (traced start before)) (shown_at one shown) this.shows tells)
         (told_later starts id (shown_in (traced starts (befores ++ that.more))) (shown_in (traced starts befores)) (shown_at other shown) that.shows told) in
         names one other (led_to start before).state (led_to starts befores).state here.state there.state (name_led start before ∙ same ∙ sym (name_led starts befores));
+    names = still_named old new moves shown made;
   }
 
   -- One move more

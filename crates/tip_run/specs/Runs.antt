@@ -10,7 +10,7 @@ use Rattle.tip_host.specs.Errands.{was_done}
 use Rattle.tip_host.specs.Keeping.{Keeps}
 use Rattle.tip_host.specs.Recovering.{adopted_each}
 use Rattle.tip_host.specs.declared.host.Host.{Host}
-use Rattle.tip_machine.specs.Honest.{is_run}
+use Rattle.tip_machine.specs.Honest.{brings_no_party, is_run}
 use Rattle.tip_machine.specs.Moves as Moves
 use Rattle.tip_machine.specs.Moves.{World, drops_here, led_to}
 use Rattle.tip_machine.specs.Outputs.{drops_of, outputs}
@@ -48,7 +48,7 @@ AreOfRealms running = (place : ℕ) → realm running.host.core place ≡ None �
 
 -- One event
 
--- AN EVENT of the realm at a place has come, and all that it shows is shown; the party that it sends out is out
+-- AN EVENT of the realm at a place has come, with all that it shows; the party that it sends out is out
 pub record Happens {S : Type 0} (stands may_leave : S → Log → Type 0) (is_true : S → Type 0) (faults : S → ℕ) (is_due : S → List ℕ → Bool) (old new : Around S) (place : ℕ) (event : Event) (shown : Shown) : Type 0 where
   pub change : Option Change
   pub outcome : Outcome
@@ -108,7 +108,7 @@ pub record Renews {S : Type 0} (stands : S → Log → Type 0) (is_true : S → 
 
 -- ONE MOVE, and what it shows
 abbrev pub IsMade : {S : Type 0} → (stands may_leave : S → Log → Type 0) → (is_true : S → Type 0) → (faults : S → ℕ) → (is_due : S → List ℕ → Bool) → Around S → Move → List Shown → Around S → Type 0
-IsMade stands may_leave is_true faults is_due old (move.Step place event) shown new = (one : Shown) × (shown ≡ one ∷ []) × Comes stands may_leave is_true faults is_due old new place event one
+IsMade stands may_leave is_true faults is_due old (move.Step place event) shown new = (one : Shown) × (shown ≡ one ∷ []) × (brings_no_party event ≡ true) × Comes stands may_leave is_true faults is_due old new place event one
 IsMade stands may_leave is_true faults is_due old (move.Go place) shown new = (one : Option Shown) × (shown ≡ option_to_list one) × Goes stands may_leave is_true faults is_due old new place (old.out place) one
 IsMade stands may_leave is_true faults is_due old (move.Lose place) shown new = (one : Option Shown) × (shown ≡ option_to_list one) × Loses old new place (old.out place) one
 IsMade stands may_leave is_true faults is_due old (move.Restart boxes) shown new = Restarts stands may_leave is_true faults is_due old new (map (λ lots. lots.items) boxes.items) shown
@@ -122,7 +122,7 @@ AreMade stands may_leave is_true faults is_due old (move ∷ moves) shown new =
 
 -- Agreement
 
--- WHAT IS TOLD IS A RUN OF EACH REALM'S OWN MACHINE, behind the moves that it had made: its state and its stored rows are where that
+-- WHAT IS SHOWN IS A RUN OF EACH REALM'S OWN MACHINE, behind the moves that it had made: its state and its stored rows are where that
 -- run leads, and none of its transactions is half committed
 abbrev pub AreAgreed : {S : Type 0} → (stands : S → Log → Type 0) → (is_true : S → Type 0) → Around S → List Shown → Around S → Type 0
 AreAgreed stands is_true old shown new =
@@ -134,8 +134,9 @@ AreApart stands is_true old shown new =
     (id : List ℕ) (one other : ℕ) (start starts : World) (before befores : List Moves.Move) → IsStart start → is_run start before ≡ true → IsStart starts → is_run starts befores ≡ true → HaveNames old.core → IsHosted stands old one (led_to start before) → IsHosted stands old other (led_to starts befores) → is_true new.store →
     is_told start.state.head.name id (shown_at one shown) ≡ true → is_told starts.state.head.name id (shown_at other shown) ≡ true → one ≡ other
 
--- A RUN: its moves were made, and it is agreed
+-- A RUN: its moves were made, it is agreed, and another may follow
 pub record HasRun {S : Type 0} (stands may_leave : S → Log → Type 0) (is_true : S → Type 0) (faults : S → ℕ) (is_due : S → List ℕ → Bool) (old : Around S) (moves : List Move) (shown : List Shown) (new : Around S) : Type 0 where
   pub made : AreMade stands may_leave is_true faults is_due old moves shown new
   pub agreed : AreAgreed stands is_true old shown new
   pub apart : AreApart stands is_true old shown new
+  pub names : HaveNames old.core → HaveNames new.core

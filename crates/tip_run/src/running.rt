@@ -1,5 +1,5 @@
 //! A host at work, by a caller that brings parties back as their errands leave them.
-ghost use Rattle.std.specs.Prelude.{◌≡◌, ◌≢◌, ◌++◌, ℕ, [], ◌∷◌, true, IfOk, IfSome, IfNone, map};
+ghost use Rattle.std.specs.Prelude.{◌≡◌, ◌≢◌, ◌++◌, ℕ, [], ◌∷◌, true, IfOk, IfSome, IfNone, OnOk, map};
 ghost use Rattle.tip_branch.specs.Always.{Always};
 ghost use Rattle.tip_host.specs.Errands.{are_untold};
 ghost use Rattle.tip_machine.specs.Honest.{brings_no_party};
@@ -80,7 +80,8 @@ impl<S: RowLog + Drop> Running<S> {
         event: Event,
     ) -> Result<Shown, RunFault>
         requires { Always }
-        ensures { IfOk result (λ shown. Comes S.stands S.may_leave S.is_true S.faults S.is_due (around self.old) (around self.new) realm event shown) }
+        ensures nobody { OnOk result (brings_no_party event ≡ true) }
+        ensures comes { IfOk result (λ shown. Comes S.stands S.may_leave S.is_true S.faults S.is_due (around self.old) (around self.new) realm event shown) }
     {
         if !brings_no_party(&event) {
             return Err(RunFault::Party);

@@ -3,8 +3,8 @@ use Rattle.tip_run.proofs.Happening.{came_alone, on_ok}
 use Rattle.tip_run.specs.Runs.{Comes, Happens, around}
 use Rattle.tip_run.proofs.running.Running.step.Goals as goal
 
-pub returns : goal.returns
-returns g c = on_ok
+pub returns-clause-comes : goal.returns-clause-comes
+returns-clause-comes g c = on_ok
     (λ shown. Happens g.S.RowLog.stands g.S.RowLog.may_leave g.S.RowLog.is_true g.S.RowLog.faults g.S.RowLog.is_due (around c.args.self.now) (around c.happen.new.self) c.args.realm c.args.event shown)
     (λ shown. Comes g.S.RowLog.stands g.S.RowLog.may_leave g.S.RowLog.is_true g.S.RowLog.faults g.S.RowLog.is_due (around c.args.self.now) (around c.happen.new.self) c.args.realm c.args.event shown)
     c.happen.result
