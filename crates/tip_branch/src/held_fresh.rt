@@ -3,17 +3,17 @@
 //! No clause sees the boxes here, so each body moves one value and does nothing else: what becomes of
 //! the boxes is said by `Lot` and by `Party::of_first`.
 
-ghost use Rattle.std.specs.Prelude.{◌≡◌, ◌≤◌, ◌==◌, [], length, take, drop};
+ghost use Rattle.std.specs.Prelude.{◌≡◌, ◌≤◌, ◌==◌, [], IfOk, length, take, drop};
 ghost use Rattle.tip_branch.specs.Always.{Always};
 ghost use Rattle.tip_branch.specs.Members.{fresh_members};
 ghost use Rattle.tip_branch.specs.declared.branch.Phase.TheVariants.{Active};
 
-use crate::branch::Phase;
+use crate::branch::{Badge, Phase};
 use crate::held_party::HeldParty;
 use crate::lot::Lot;
 use crate::party::Party;
 use crate::party_room::PartyRoom;
-use std::alloc::Global;
+use std::alloc::{AllocError, Global};
 use std::marker::Model;
 use tip_line::{Id, Realm};
 
@@ -77,6 +77,13 @@ impl HeldFresh {
         ensures { result ≡ (length self.now == 0) }
     {
         self.lot.is_empty()
+    }
+
+    /// What each box is known by, in order, copied.
+    pub fn badges(&self, alloc: Global) -> Result<Vec<Badge>, AllocError>
+        ensures { IfOk result (λ known. known.items ≡ self.now) }
+    {
+        self.lot.known(alloc)
     }
 
     /// Takes the first boxes as the party of a new transaction.

@@ -3,14 +3,16 @@
 //! No clause sees the boxes here, so each body moves one value and does nothing else: what becomes of
 //! the boxes is said by `Lot` and by `Party::of_ready`.
 
-ghost use Rattle.std.specs.Prelude.{◌≡◌, ◌==◌, IsTrue, length};
+ghost use Rattle.std.specs.Prelude.{◌≡◌, ◌==◌, IfOk, IsTrue, length};
 ghost use Rattle.tip_branch.specs.Always.{Always};
 ghost use Rattle.tip_branch.specs.Members.{are_numbers, ready_members};
 ghost use Rattle.tip_branch.specs.declared.branch.Phase.TheVariants.{Ready};
 
+use crate::branch::Badge;
 use crate::held_party::HeldParty;
 use crate::lot::Lot;
 use crate::party::Party;
+use std::alloc::{AllocError, Global};
 use std::marker::Model;
 use tip_line::{Id, Realm};
 
@@ -56,6 +58,13 @@ impl HeldPrepared {
         ensures { result ≡ (length self.now == 0) }
     {
         self.lot.is_empty()
+    }
+
+    /// What each box is known by, in order, copied.
+    pub fn badges(&self, alloc: Global) -> Result<Vec<Badge>, AllocError>
+        ensures { IfOk result (λ known. known.items ≡ self.now) }
+    {
+        self.lot.known(alloc)
     }
 
     /// The boxes as the party of a transaction that is taken up again.

@@ -73,6 +73,15 @@ impl Lot {
         self.known.is_empty()
     }
 
+    /// What each box is known by, copied.
+    pub(crate) fn known(&self, alloc: Global) -> Result<Vec<Badge>, AllocError>
+        ensures { IfOk result (λ known. known.items ≡ badges self.now) }
+    {
+        let mut known = Vec::new(alloc);
+        known.extend_from_slice(&self.known)?;
+        Ok(reversed(known))
+    }
+
     /// Takes the first boxes into room that is there, and notes them as members of a new transaction.
     pub(crate) fn take_first(&mut self, count: u8, into: &mut Vec<Box<dyn Branch + Send>>) -> Roll
         requires enough { count ≤ length (badges self.old) }

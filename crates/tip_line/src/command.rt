@@ -247,6 +247,60 @@ impl Command {
     {
         self.to_string(alloc)
     }
+
+    /// An equal command, which shares the words and takes no memory.
+    pub fn copy(&self) -> Result<Command, AllocError>
+        ensures { IfOk result (λ command. command ≡ self.now) }
+    {
+        Ok(match self {
+            Command::Identify {
+                low,
+                high,
+                primary,
+                secondary,
+            } => Command::Identify {
+                low: *low,
+                high: *high,
+                primary: copied(primary)?,
+                secondary: secondary.copy()?,
+            },
+            Command::Begin => Command::Begin,
+            Command::Push { superior } => Command::Push {
+                superior: superior.copy()?,
+            },
+            Command::Pull {
+                superior,
+                subordinate,
+            } => Command::Pull {
+                superior: superior.copy()?,
+                subordinate: subordinate.copy()?,
+            },
+            Command::Prepare => Command::Prepare,
+            Command::Commit => Command::Commit,
+            Command::Abort => Command::Abort,
+            Command::Query { superior } => Command::Query {
+                superior: superior.copy()?,
+            },
+            Command::Reconnect { subordinate } => Command::Reconnect {
+                subordinate: subordinate.copy()?,
+            },
+            Command::Multiplex { protocol } => Command::Multiplex {
+                protocol: protocol.copy()?,
+            },
+            Command::Tls => Command::Tls,
+            Command::Error => Command::Error,
+        })
+    }
+}
+
+/// The same address, if there is one.
+fn copied(address: &Option<Address>) -> Result<Option<Address>, AllocError>
+    ensures { IfOk result (λ copy. copy ≡ address.now) }
+{
+    match address {
+        Some(address) => Ok(Some(address.copy()?)),
+        None => Ok(None),
+    }
 }
 
 impl fmt::Display for Command {

@@ -273,6 +273,42 @@ impl Response {
     {
         self.to_string(alloc)
     }
+
+    /// An equal response, which shares the words and takes no memory.
+    pub fn copy(&self) -> Result<Response, AllocError>
+        ensures { IfOk result (λ response. response ≡ self.now) }
+    {
+        Ok(match self {
+            Response::Identified { version } => Response::Identified { version: *version },
+            Response::NeedTls => Response::NeedTls,
+            Response::Begun { transaction } => Response::Begun {
+                transaction: transaction.copy()?,
+            },
+            Response::NotBegun => Response::NotBegun,
+            Response::Pushed { subordinate } => Response::Pushed {
+                subordinate: subordinate.copy()?,
+            },
+            Response::AlreadyPushed { subordinate } => Response::AlreadyPushed {
+                subordinate: subordinate.copy()?,
+            },
+            Response::NotPushed => Response::NotPushed,
+            Response::Pulled => Response::Pulled,
+            Response::NotPulled => Response::NotPulled,
+            Response::Prepared => Response::Prepared,
+            Response::ReadOnly => Response::ReadOnly,
+            Response::Committed => Response::Committed,
+            Response::Aborted => Response::Aborted,
+            Response::QueriedExists => Response::QueriedExists,
+            Response::QueriedNotFound => Response::QueriedNotFound,
+            Response::Reconnected => Response::Reconnected,
+            Response::NotReconnected => Response::NotReconnected,
+            Response::CantMultiplex => Response::CantMultiplex,
+            Response::Multiplexing => Response::Multiplexing,
+            Response::CantTls => Response::CantTls,
+            Response::Tlsing => Response::Tlsing,
+            Response::Error => Response::Error,
+        })
+    }
 }
 
 impl fmt::Display for Response {

@@ -1,7 +1,8 @@
 //! A connection of a realm.
-ghost use Rattle.std.specs.Prelude.{◌≡◌};
+ghost use Rattle.std.specs.Prelude.{◌≡◌, IfOk};
 ghost use Rattle.tip_machine.specs.Connections.{accepted, identified, may_take, advanced, turned};
 
+use std::alloc::AllocError;
 use tip_branch::HeldFresh;
 use tip_conn::{Side, State, Turn, after_named};
 use tip_line::{Address, CommandName, Id, ResponseName};
@@ -26,6 +27,19 @@ pub enum Purpose {
     Query(Id),
     /// To reach again the subordinate of this number in the row of our transaction.
     Reconnect(Id, u32),
+}
+
+impl Purpose {
+    /// The same once more, which shares the words and takes no memory.
+    pub fn copy(&self) -> Result<Purpose, AllocError>
+        ensures { IfOk result (λ purpose. purpose ≡ self.now) }
+    {
+        Ok(match self {
+            Purpose::Plain => Purpose::Plain,
+            Purpose::Query(id) => Purpose::Query(id.copy()?),
+            Purpose::Reconnect(id, number) => Purpose::Reconnect(id.copy()?, *number),
+        })
+    }
 }
 
 /// The command whose response we await.

@@ -44,6 +44,17 @@ impl Heard {
             },
         }
     }
+
+    /// The same once more, which shares the words and takes no memory.
+    pub fn copy(&self) -> Result<Heard, AllocError>
+        ensures { IfOk result (λ heard. heard ≡ self.now) }
+    {
+        Ok(match self {
+            Heard::Command(command) => Heard::Command(command.copy()?),
+            Heard::Response(response) => Heard::Response(response.copy()?),
+            Heard::Malformed => Heard::Malformed,
+        })
+    }
 }
 
 /// What happens to a realm. `B` is how boxes are held, and `P` how parties are.
