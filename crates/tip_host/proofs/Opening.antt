@@ -169,7 +169,7 @@ pub has_begun : (specs : List RealmSpec) (realms : List Recovery) → AreTheirs 
 has_begun [] [] own place = refl
 has_begun [] (r ∷ realms) own place = absurd own
 has_begun (s ∷ specs) [] own place = absurd own
-has_begun (s ∷ specs) (r ∷ realms) own zero = (starting (start_of s r.epoch), refl, record { name = sym own.0.name; epoch = refl })
+has_begun (s ∷ specs) (r ∷ realms) own zero = (start_of s r.epoch, refl, record { name = sym own.0.name; epoch = refl })
 has_begun (s ∷ specs) (r ∷ realms) own (suc place) = has_begun specs realms own.1 place
 
 -- Each realm at its place

@@ -1,20 +1,23 @@
 -- Realms that take up their rows, one after another.
-use Rattle.std.proofs.Common.{◌≡◌, ℕ, zero, suc, ◌+◌, ◌<◌, ◌≤◌, Bool, true, List, [], ◌∷◌, ◌++◌, Option, None, Some, length, get_or, refl, ap, arith, sym, subst, ◌∙◌, inl, inr}
+use Rattle.std.proofs.Common.{◌≡◌, ℕ, zero, suc, ◌+◌, ◌<◌, ◌≤◌, Bool, true, List, [], ◌∷◌, ◌++◌, Option, None, Some, length, map, get_or, refl, ap, arith, sym, subst, ◌∙◌, inl, inr}
 use Rattle.std.specs.Prelude.{IfErr, OnErr, OnOk, Ok, Err, Result, slice_get, slice_set}
 use Rattle.std.specs.Global.{Vec}
 use Rattle.std.specs.Option.{option_map_or}
 use Rattle.std.proofs.lemmas.Bool.{and_parts, cases_lt}
-use Rattle.std.proofs.lemmas.Option.{same_Some, slice_get-get_or, slice_get_past}
+use Rattle.std.proofs.lemmas.Option.{none-some, same_Some, slice_get-get_or, slice_get_past}
 use Rattle.std.proofs.lemmas.Result.{IfErr-weaker, on_ok_weaker}
 use Rattle.tip_branch.specs.declared.branch.Badge.{Badge}
+use Rattle.tip_machine.specs.Heads.{starting}
+use Rattle.tip_machine.specs.Recovery.{restarted}
+use Rattle.tip_machine.specs.declared.head.Head.{Head}
 use Rattle.tip_machine.specs.States.{State, started}
-use Rattle.tip_recovery.specs.Adopting.{Recovery, adopted_all, adopted_for, adopting, are_adopted, are_for_all, is_named, refusal_of}
+use Rattle.tip_recovery.specs.Adopting.{Recovery, adopted_all, adopted_for, adopting, are_adopted, are_for_all, is_named, loaded, refusal_of}
 use Rattle.tip_recovery.specs.declared.unfinished.AdoptFault.{AdoptFault}
 use Rattle.tip_recovery.specs.declared.unfinished.AdoptFault.TheVariants.{NotInDoubt}
 use Rattle.tip_table.specs.Lists.{changed}
 use Rattle.tip_core.specs.Hosted.{Hosted, realm}
 use Rattle.tip_core.specs.Recovering.{IsOf, taking_up}
-use Rattle.tip_host.specs.Recovering.{HasBegun, HaveBegun, adopted_at, all_adopted, count_rows, recovered, refusal_at}
+use Rattle.tip_host.specs.Recovering.{AreAnew, HasBegun, HaveBegun, adopted_at, all_adopted, count_rows, recovered, refusal_at}
 
 -- what stands behind the front of a list
 pub get-behind : {T : Type 0} (xs ys : List T) (x : T) → slice_get (xs ++ x ∷ ys) (length xs) ≡ Some x
@@ -36,7 +39,7 @@ module _ (core now : Hosted) (recovery : Recovery) (place : ℕ) (realms : List 
   pub takes_up : (after : Hosted) → ((state : State) → realm now place ≡ Some state → IsOf recovery state.head → realm after place ≡ Some (taking_up recovery.rows state)) → realm after place ≡ recovered (slice_get realms place) (realm core place)
   takes_up after own =
       let is = has_begun in
-      own (started is.0) (same ∙ is.1) is.2 ∙ sym (ap (λ found. recovered found (realm core place)) here ∙ ap (recovered (Some recovery)) is.1)
+      own (started (starting is.0)) (same ∙ is.1) is.2 ∙ sym (ap (λ found. recovered found (realm core place)) here ∙ ap (recovered (Some recovery)) is.1)
 
 -- where all were taken, each is as recovery says
 pub all_taken : (core now : Hosted) (realms : List Recovery) → HaveBegun core realms → ((at : ℕ) → at < length realms → realm now at ≡ recovered (slice_get realms at) (realm core at)) → ((at : ℕ) → length realms ≤ at → realm now at ≡ realm core at) → (place : ℕ) → realm now place ≡ recovered (slice_get realms place) (realm core place)
@@ -47,6 +50,19 @@ all_taken core now realms begun done to_come place = elim (cases_lt place (lengt
       let nobody : realm core place ≡ None = subst (HasBegun (realm core place)) none (begun.each place) in
       to_come place more ∙ nobody ∙ sym (ap (λ found. recovered found (realm core place)) none)
 ]
+
+-- a realm that was taken up is in the epoch of its rows, and has counted no entry yet
+anew_at : (found : Option Recovery) (there : Option State) (state : State) → HasBegun there found → recovered found there ≡ Some state → (recovery : Recovery) × (found ≡ Some recovery) × (state.head.epoch ≡ recovery.epoch) × (state.head.entries ≡ 0)
+anew_at None there state begun is = absurd (none-some state is)
+anew_at (Some recovery) None state begun is = absurd (none-some state is)
+anew_at (Some recovery) (Some was) state begun is =
+    let taken : restarted was.head (map loaded recovery.rows) ≡ state = same_Some _ _ is in
+    let fresh : was ≡ started (starting begun.0) = same_Some _ _ begun.1 in
+    let head : state.head ≡ starting begun.0 = ap (λ (s : State). s.head) (sym taken) ∙ ap (λ (s : State). s.head) fresh in
+    (recovery, refl, ap (λ (h : Head). h.epoch) head ∙ begun.2.epoch, ap (λ (h : Head). h.entries) head)
+
+pub all_anew : (core now : Hosted) (realms : List Recovery) → HaveBegun core realms → ((place : ℕ) → realm now place ≡ recovered (slice_get realms place) (realm core place)) → AreAnew realms now
+all_anew core now realms begun taken place state is = anew_at (slice_get realms place) (realm core place) state (begun.each place) (sym (taken place) ∙ is)
 
 -- Boxes
 

@@ -5,7 +5,8 @@ use Rattle.std.specs.Option.{option_map_or}
 use Rattle.tip_branch.specs.declared.branch.Badge.{Badge}
 use Rattle.tip_machine.specs.Recovery.{restarted}
 use Rattle.tip_machine.specs.States.{State, started}
-use Rattle.tip_machine.specs.declared.head.Head.{Head}
+use Rattle.tip_machine.specs.Heads.{starting}
+use Rattle.tip_machine.specs.declared.head.Start.{Start}
 use Rattle.tip_recovery.specs.Adopting.{Recovery, adopted_all, adopted_for, are_adopted, are_for_all, fit, given, loaded, refusal_of}
 use Rattle.tip_recovery.specs.declared.unfinished.AdoptFault.{AdoptFault}
 use Rattle.tip_recovery.specs.declared.unfinished.AdoptFault.TheVariants.{NotInDoubt}
@@ -52,11 +53,15 @@ recovered recovery state = None
 -- the realm at a place has just started, and these are its rows
 abbrev pub HasBegun : Option State → Option Recovery → Type 0
 HasBegun state None = state ≡ None
-HasBegun state (Some recovery) = (head : Head) × (state ≡ Some (started head)) × IsOf recovery head
+HasBegun state (Some recovery) = (start : Start) × (state ≡ Some (started (starting start))) × IsOf recovery (starting start)
 
 abbrev pub count_rows : List Recovery → ℕ
 count_rows [] = 0
 count_rows (recovery ∷ realms) = length recovery.rows + count_rows realms
+
+-- each realm begins in the epoch of its rows, and no entry was counted yet
+abbrev pub AreAnew : List Recovery → Hosted → Type 0
+AreAnew realms core = (place : ℕ) (state : State) → realm core place ≡ Some state → (recovery : Recovery) × (slice_get realms place ≡ Some recovery) × (state.head.epoch ≡ recovery.epoch) × (state.head.entries ≡ 0)
 
 -- each realm has just started, and there is room for the transactions of all rows
 pub record HaveBegun (core : Hosted) (realms : List Recovery) : Type 0 where

@@ -3,7 +3,7 @@ ghost use Rattle.std.specs.Prelude.{◌≡◌, ℕ, [], None, Some, true, false,
 ghost use Rattle.std.specs.Option.{option_map_or};
 ghost use Rattle.tip_branch.specs.Always.{Always};
 ghost use Rattle.tip_core.specs.Hosted.{HaveNames, Hosted, realm as realm_at};
-ghost use Rattle.tip_host.specs.Recovering.{HaveBegun, adopted_at, adopted_each, all_adopted, are_for_each, recovered, refusal_at};
+ghost use Rattle.tip_host.specs.Recovering.{AreAnew, HaveBegun, adopted_at, adopted_each, all_adopted, are_for_each, recovered, refusal_at};
 
 use crate::host::Host;
 use std::marker::Model;
@@ -110,6 +110,7 @@ impl<S: RowLog> Recovering<S> {
         ensures store { IfOk result (λ host. host.store ≡ self.store) }
         ensures realms { IfOk result (λ host. (place : ℕ) → realm_at host.core place ≡ recovered (slice_get self.realms place) (realm_at self.core place)) }
         ensures names { IfOk result (λ host. HaveNames host.core) }
+        ensures anew { IfOk result (λ host. AreAnew self.realms host.core) }
         ensures running { IfOk result (λ host. host.is_stopped ≡ false) }
         ensures adopted { OnOk result (all_adopted self.realms ≡ true) }
         ensures back { IfErr result (λ fault. fault.1 ≡ self) }
@@ -180,6 +181,7 @@ fn take_up_all(core: &mut Core, realms: Vec<Recovery>)
     requires begun { HaveBegun core.old realms.items }
     requires adopted { all_adopted realms.items ≡ true }
     ensures realms { (place : ℕ) → realm_at core.new place ≡ recovered (slice_get realms.items place) (realm_at core.old place) }
+    ensures anew { AreAnew realms.items core.new }
     ensures names { HaveNames core.new }
 {
     let mut place = 0;

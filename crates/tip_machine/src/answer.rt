@@ -217,6 +217,13 @@ impl SentLines {
     {
         &self.lines
     }
+
+    /// They themselves, in order. It takes no memory.
+    pub fn into_vec(self) -> Vec<Sent>
+        ensures { result.items ≡ self }
+    {
+        self.lines
+    }
 }
 
 /// What a realm answers to one event. The calls that a party has come back with are the event's own, and the change of the

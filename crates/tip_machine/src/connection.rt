@@ -19,7 +19,7 @@ pub enum Role {
 }
 
 /// What a connection that we open is for, once it is identified.
-#[derive(Debug, Drop)]
+#[derive(Debug, PartialEq, Drop)]
 pub enum Purpose {
     /// Whatever will be asked.
     Plain,

@@ -18,7 +18,7 @@ pub struct Seat {
 }
 
 /// What a line says, read once as it comes. Whether we wait for a command or for a response, only the connection knows.
-#[derive(Debug, Drop)]
+#[derive(Debug, PartialEq, Drop)]
 pub enum Heard {
     /// A command; a line ERROR, too, which is also a response.
     Command(Command),

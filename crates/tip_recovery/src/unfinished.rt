@@ -13,7 +13,7 @@ ghost use Rattle.tip_recovery.specs.Adopting.{adopting, are_for, fault_of, is_na
 use std::alloc::{AllocError, Global};
 use std::marker::Model;
 use thiserror::Error;
-use tip_branch::HeldPrepared;
+use tip_branch::{Badge, HeldPrepared};
 use tip_line::{Id, Realm};
 use tip_machine::{Origin, PartyPlace, Transaction};
 use tip_rows::{Branches, Key, Label, Row, Subordinates};
@@ -76,6 +76,23 @@ impl Unfinished {
         ensures { result.now ≡ identifier self.now.realm self.now.key }
     {
         &self.id
+    }
+
+    /// The key of its row.
+    pub fn key(&self) -> Key
+        ensures { result ≡ self.now.key }
+    {
+        self.key
+    }
+
+    /// What its boxes are known by, in order, copied; none where none were adopted.
+    pub fn badges(&self, alloc: Global) -> Result<Vec<Badge>, AllocError>
+        ensures { IfOk result (λ known. known.items ≡ (loaded self.now).boxes) }
+    {
+        match &self.boxes {
+            Some(boxes) => boxes.badges(alloc),
+            None => Ok(Vec::new(alloc)),
+        }
     }
 
     /// Its row.

@@ -5,7 +5,7 @@ use Rattle.std.proofs.lemmas.Bool.{cases_eq}
 use Rattle.tip_recovery.specs.Adopting.{Recovery}
 use Rattle.tip_core.specs.Hosted.{realm}
 use Rattle.tip_host.specs.Recovering.{recovered}
-use Rattle.tip_host.proofs.TakingUp.{all_taken, get-behind, takes_up}
+use Rattle.tip_host.proofs.TakingUp.{all_anew, all_taken, get-behind, takes_up}
 use Rattle.tip_host.proofs.recovering.take_up_all.Goals as goal
 
 pub loop-recovery-preserved : goal.loop-recovery-preserved
@@ -27,3 +27,8 @@ pub returns-clause-realms : goal.returns-clause-realms
 returns-clause-realms g c =
     let all : length c.args.realms.items ≡ c.loop-recovery.place = grind (arith, common_steps) in
     all_taken c.args.core.now c.loop-recovery.core c.args.realms.items c.requires.begun (λ at less. c.loop-recovery.invariant.done at (omega arith)) (λ at more. c.loop-recovery.invariant.to_come at (omega arith))
+
+pub returns-clause-anew : goal.returns-clause-anew
+returns-clause-anew g c =
+    let all : length c.args.realms.items ≡ c.loop-recovery.place = grind (arith, common_steps) in
+    all_anew c.args.core.now c.loop-recovery.core c.args.realms.items c.requires.begun (all_taken c.args.core.now c.loop-recovery.core c.args.realms.items c.requires.begun (λ at less. c.loop-recovery.invariant.done at (omega arith)) (λ at more. c.loop-recovery.invariant.to_come at (omega arith)))
