@@ -61,8 +61,15 @@ anew_at (Some recovery) (Some was) state begun is =
     let head : state.head ≡ starting begun.0 = ap (λ (s : State). s.head) (sym taken) ∙ ap (λ (s : State). s.head) fresh in
     (recovery, refl, ap (λ (h : Head). h.epoch) head ∙ begun.2.epoch, ap (λ (h : Head). h.entries) head)
 
+nobody_at : (found : Option Recovery) (there : Option State) → HasBegun there found → recovered found there ≡ None → found ≡ None
+nobody_at None there begun none = refl
+nobody_at (Some recovery) there begun none = absurd (none-some _ (sym none ∙ ap (recovered (Some recovery)) begun.1))
+
 pub all_anew : (core now : Hosted) (realms : List Recovery) → HaveBegun core realms → ((place : ℕ) → realm now place ≡ recovered (slice_get realms place) (realm core place)) → AreAnew realms now
-all_anew core now realms begun taken place state is = anew_at (slice_get realms place) (realm core place) state (begun.each place) (sym (taken place) ∙ is)
+all_anew core now realms begun taken = record {
+  each = λ place state is. anew_at (slice_get realms place) (realm core place) state (begun.each place) (sym (taken place) ∙ is);
+  others = λ place none. nobody_at (slice_get realms place) (realm core place) (begun.each place) (sym (taken place) ∙ none);
+}
 
 -- Boxes
 
