@@ -1,16 +1,16 @@
 -- A realm's journals with one changed or one more, and the realms with one realm's journals changed.
 use Rattle.std.proofs.Common.{◌≡◌, ◌≢◌, ℕ, zero, suc, ◌+◌, ◌-◌, ◌^◌, ◌<◌, List, [], ◌∷◌, ◌++◌, length, get_or, Option, Some, None, Result, Ok, Err, refl, sym, ap, ◌∙◌, subst, arith, inl, inr, length-append}
-use Rattle.std.specs.Prelude.{slice_set, slice_get, map, All, OnOk, OnErr, IsSomeAnd}
+use Rattle.std.specs.Prelude.{slice_set, slice_get, map, take, All, OnOk, OnErr, IsSomeAnd}
 use Rattle.std.specs.declared.alloc.AllocError.{AllocError}
 use Rattle.std.specs.List.Sorted.{IsStrictlyIncreasing}
 use Rattle.std.specs.Option.{option_map}
 use Rattle.std.proofs.lemmas.Bool.{cases_lt}
 use Rattle.std.proofs.lemmas.Grind.{common_steps}
-use Rattle.std.proofs.lemmas.List.{map-append, length-map, get_or_append_left, get_or-append_right}
-use Rattle.std.proofs.lemmas.List.Elements.{All-cons, All-head, All-tail, All-push}
+use Rattle.std.proofs.lemmas.List.{map-append, length-map, length-take, get_or_append_left, get_or-append_right, get_or-take}
+use Rattle.std.proofs.lemmas.List.Elements.{All-cons, All-head, All-tail, All-push, All-take}
 use Rattle.std.proofs.lemmas.Option.{slice_get_read, slice_get_within, slice_get-map, get_or_from_slice_get}
 use Rattle.tip_journal.specs.Journal.{Written, with_room}
-use Rattle.tip_journal.specs.Journals.{changed_at, last_of, with_last, current, room, room_of, entries_of, IsHistory}
+use Rattle.tip_journal.specs.Journals.{changed_at, last_of, with_last, current, room, room_of, entries_of, without_last, IsHistory}
 
 -- what is written at an index, where it is the old element changed
 pub changed_at-read : {A : Type 0} (xs : List A) (index : ℕ) (change : A → A) (x y : A) → x ≡ get_or xs index x → y ≡ change x → slice_set xs index y ≡ changed_at index change xs
@@ -144,3 +144,30 @@ is_history-renewed old new next (Ok u) is later empty ok err = subst IsHistory (
     go : (last : Option (Written _ _)) → last_of old ≡ last → IsSomeAnd last (λ last. last.epoch < next.epoch) → IsHistory (old ++ next ∷ [])
     go None at later = absurd later
     go (Some last) at later = is_history-push old last next is at later empty
+
+-- Taken back
+
+map_take : {A B : Type 0} (f : A → B) (k : ℕ) (xs : List A) → map f (take k xs) ≡ take k (map f xs)
+map_take f zero xs = refl
+map_take f (suc k) [] = refl
+map_take f (suc k) (x ∷ xs) = ap (λ ys. f x ∷ ys) (map_take f k xs)
+
+increasing-take : (k : ℕ) (xs : List ℕ) → IsStrictlyIncreasing xs → IsStrictlyIncreasing (take k xs)
+increasing-take k xs rises i within =
+    rw (get_or-take k xs i 0 (omega (arith, length-take k xs, within)), get_or-take k xs (i + 1) 0 (omega (arith, length-take k xs, within))) (rises i (omega (arith, length-take k xs, within)))
+
+-- without the last journal it is a history still, where an earlier one is there
+pub is_history-withdrawn : {S E : Type 0} (history : List (Written S E)) → IsHistory history → 1 < length history → IsHistory (without_last history)
+is_history-withdrawn history is earlier = record {
+  some = omega (arith, length-take (length history - 1) history, earlier);
+  rises = rw (map_take (λ (x : Written _ _). x.epoch) (length history - 1) history) (increasing-take (length history - 1) (map (λ (x : Written _ _). x.epoch) history) is.rises);
+  numbered = All-take (λ x. length x.entries < 2 ^ 32) (length history - 1) history is.numbered;
+}
+
+pub within_some : {A : Type 0} (P : A → Type 0) (xs : List A) (i : ℕ) → IsSomeAnd (slice_get xs i) P → i < length xs
+within_some P [] i some = absurd some
+within_some P (x ∷ xs) zero some = omega arith
+within_some P (x ∷ xs) (suc i) some = omega (arith, within_some P xs i some)
+
+pub some_at : {A : Type 0} (P : A → Type 0) (xs : List A) (i : ℕ) (x : A) → x ≡ get_or xs i x → IsSomeAnd (slice_get xs i) P → P x
+some_at P xs i x read some = subst (λ o. IsSomeAnd o P) (slice_get_read xs (length xs) i x refl (within_some P xs i some) read) some

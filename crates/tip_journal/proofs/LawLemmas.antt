@@ -1,6 +1,6 @@
 -- What the laws say.
 use Rattle.std.proofs.Common.{◌≡◌, ◌≢◌, ℕ, zero, suc, ◌+◌, ◌-◌, ◌<◌, ◌≤◌, List, [], ◌∷◌, ◌++◌, length, Option, Some, None, true, refl, ap, ◌∙◌, subst, arith, inl, inr, add-one, length-append}
-use Rattle.std.specs.Prelude.{◌==◌, slice_get, Any, IfSome, if◌then◌else◌}
+use Rattle.std.specs.Prelude.{◌==◌, slice_get, take, Any, IfSome, if◌then◌else◌}
 use Rattle.std.specs.List.{find}
 use Rattle.std.specs.Option.{option_map}
 use Rattle.std.proofs.lemmas.Bool.{cases_Bool, cases_lt}
@@ -11,7 +11,7 @@ use Rattle.std.proofs.lemmas.Option.{slice_get_within, get_or_from_slice_get}
 use Rattle.tip_journal.specs.Audit.{Follows, AreAudited, times, times_in}
 use Rattle.tip_journal.specs.Fits.{Fits}
 use Rattle.tip_journal.specs.Journal.{Written, at_number, with_entry}
-use Rattle.tip_journal.specs.Journals.{at, current, entries_of, epoch_at, epoch_of, last_number, last_of, renewed, with_current, with_last}
+use Rattle.tip_journal.specs.Journals.{at, changed_at, current, entries_of, epoch_at, epoch_of, last_number, last_of, renewed, with_current, with_last, without_last}
 use Rattle.tip_journal.specs.Pass.{Held, is_of, last_own, own}
 use Rattle.tip_journal.specs.declared.pass.Noted.{Noted}
 use Rattle.tip_journal.proofs.HistoryLemmas.{last_of-with_last, length-changed_at, slice_get-changed_at, slice_get-changed_other}
@@ -49,6 +49,20 @@ renewed-kept journals realm journal = slice_get-changed_at journals realm (λ hi
 
 pub renewed-others : {S E : Type 0} (journals : List (List (Written S E))) (realm other : ℕ) (journal : Written S E) → other ≢ realm → slice_get (renewed realm journal journals) other ≡ slice_get journals other
 renewed-others journals realm other journal differ = slice_get-changed_other journals realm other (λ history. history ++ journal ∷ []) differ
+
+take_front : {A : Type 0} (xs : List A) (x : A) → take (length xs) (xs ++ x ∷ []) ≡ xs
+take_front [] x = refl
+take_front (y ∷ xs) x = ap (λ ys. y ∷ ys) (take_front xs x)
+
+without_last-push : {S E : Type 0} (history : List (Written S E)) (journal : Written S E) → without_last (history ++ journal ∷ []) ≡ history
+without_last-push history journal =
+    let count : length (history ++ journal ∷ []) - 1 ≡ length history = omega (arith, length-append history (journal ∷ [])) in
+    ap (λ n. take n (history ++ journal ∷ [])) count ∙ take_front history journal
+
+pub renewed-withdrawn : {S E : Type 0} (journals : List (List (Written S E))) (realm : ℕ) (journal : Written S E) → changed_at realm without_last (renewed realm journal journals) ≡ journals
+renewed-withdrawn [] realm journal = refl
+renewed-withdrawn (history ∷ journals) zero journal = ap (λ h. h ∷ journals) (without_last-push history journal)
+renewed-withdrawn (history ∷ journals) (suc realm) journal = ap (λ hs. history ∷ hs) (renewed-withdrawn journals realm journal)
 
 pub last_own-push : {E : Type 0} (noted : List (Noted E)) (one : Noted E) (realm epoch : ℕ) → last_own realm epoch (noted ++ one ∷ []) ≡ (if is_of realm epoch one then Some one else last_own realm epoch noted)
 last_own-push noted one realm epoch = ap (find (is_of realm epoch)) (reverse-append noted (one ∷ []))
@@ -114,6 +128,6 @@ audited-noted {S} {E} journals passes realm place journal number is there above 
 
 pub ruleset changing = (changed-current, changed-others, changed-realms)
 
-pub ruleset renewing = (renewed-current, renewed-kept, renewed-others)
+pub ruleset renewing = (renewed-current, renewed-kept, renewed-others, renewed-withdrawn)
 
 pub ruleset noting = (last_own-push, noted-fits)

@@ -1,5 +1,5 @@
 -- The journals of all realms: realm by realm, in the order declared, its journals, oldest first.
-use Rattle.std.specs.Prelude.{◌≡◌, ℕ, zero, suc, ◌-◌, ◌<◌, ◌^◌, List, [], ◌∷◌, ◌++◌, length, map, All, Option, Some, None, slice_get, IsSomeAnd}
+use Rattle.std.specs.Prelude.{◌≡◌, ℕ, zero, suc, ◌-◌, ◌<◌, ◌^◌, List, [], ◌∷◌, ◌++◌, length, map, take, All, Option, Some, None, slice_get, IsSomeAnd}
 use Rattle.std.specs.List.Sorted.{IsStrictlyIncreasing}
 use Rattle.std.specs.Option.{option_and_then}
 use Rattle.tip_journal.specs.Journal.{Written}
@@ -18,6 +18,10 @@ last_of history = slice_get history (length history - 1)
 -- a realm's journals with the last one changed
 abbrev pub with_last : {S E : Type 0} → (Written S E → Written S E) → List (Written S E) → List (Written S E)
 with_last change history = changed_at (length history - 1) change history
+
+-- a realm's journals without the last one
+abbrev pub without_last : {S E : Type 0} → List (Written S E) → List (Written S E)
+without_last history = take (length history - 1) history
 
 -- how many entries a journal has, 0 where there is none
 abbrev pub entries_of : {S E : Type 0} → Option (Written S E) → ℕ
@@ -57,6 +61,11 @@ with_current realm change journals = changed_at realm (with_last change) journal
 -- all journals with a realm's current one ended, and a new one begun
 abbrev pub renewed : {S E : Type 0} → ℕ → Written S E → List (List (Written S E)) → List (List (Written S E))
 renewed realm journal journals = changed_at realm (λ history. history ++ journal ∷ []) journals
+
+-- a realm's current journal has no entry, and an earlier one stands before it
+pub record IsWithdrawable {S E : Type 0} (history : List (Written S E)) : Type 0 where
+  pub earlier : 1 < length history
+  pub empty : IsSomeAnd (last_of history) (λ journal. journal.entries ≡ [])
 
 -- what stands at a place of a realm's list
 abbrev pub at : {A : Type 0} → List (List A) → ℕ → ℕ → Option A

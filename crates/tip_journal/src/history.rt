@@ -2,7 +2,7 @@
 ghost use Rattle.std.specs.Prelude.{◌≡◌, ℕ, ◌+◌, ◌^◌, ◌<◌, ◌≤◌, [], ◌∷◌, ◌++◌, length, IsOk, OnOk, OnErr, IfOk, MatchOption};
 ghost use Rattle.std.specs.Option.{option_copied};
 ghost use Rattle.tip_journal.specs.Journal.{with_room, with_entry};
-ghost use Rattle.tip_journal.specs.Journals.{IsOfEpoch, entries_of, last_of, room_of, with_last};
+ghost use Rattle.tip_journal.specs.Journals.{IsOfEpoch, entries_of, last_of, room_of, with_last, without_last};
 
 use crate::Journal;
 use std::alloc::{AllocError, Global};
@@ -76,6 +76,13 @@ impl<S: Drop, E: Drop> History<S, E> {
         let journal = &mut self.journals[last];
         journal.add(entry);
         journal.entries().len() as u32
+    }
+
+    /// The last journal is taken back.
+    pub(crate) fn withdraw(&mut self)
+        ensures { self.new ≡ without_last self.old }
+    {
+        self.journals.pop();
     }
 
     pub(crate) fn renew(&mut self, journal: Journal<S, E>) -> Result<(), AllocError>

@@ -1,8 +1,8 @@
 //! The journals of all realms.
-ghost use Rattle.std.specs.Prelude.{◌≡◌, ℕ, Some, ◌+◌, ◌^◌, ◌<◌, ◌≤◌, [], ◌∷◌, ◌++◌, length, All, IsOk, OnOk, OnErr, IsSome, IsSomeAnd, MatchOption};
+ghost use Rattle.std.specs.Prelude.{◌≡◌, ℕ, Some, ◌+◌, ◌^◌, ◌<◌, ◌≤◌, [], ◌∷◌, ◌++◌, length, All, IsOk, OnOk, OnErr, IsSome, IsSomeAnd, MatchOption, slice_get};
 ghost use Rattle.std.specs.Option.{option_copied};
 ghost use Rattle.tip_journal.specs.Journal.{begun, with_room, with_entry};
-ghost use Rattle.tip_journal.specs.Journals.{IsHistory, Names, at, current, last_number, renewed, room, with_current};
+ghost use Rattle.tip_journal.specs.Journals.{IsHistory, IsWithdrawable, Names, at, changed_at, current, last_number, renewed, room, with_current, without_last};
 
 use crate::history::History;
 use crate::{Journal, Noted};
@@ -95,6 +95,15 @@ impl<S: Drop, E: Drop> Journals<S, E> {
     {
         let history = &mut self.realms[realm];
         history.renew(Journal::new(alloc, epoch, start))
+    }
+
+    /// Takes back a realm's current journal that has no entry, where a renewal comes to nothing: the one before is current again.
+    pub fn withdraw(&mut self, realm: usize)
+        requires { IsSomeAnd (slice_get self.old realm) IsWithdrawable }
+        ensures { self.new ≡ changed_at realm without_last self.old }
+    {
+        let history = &mut self.realms[realm];
+        history.withdraw();
     }
 
     /// The journal that a realm's entries are added to, if the realm is there.

@@ -4,7 +4,7 @@ ghost use Rattle.std.specs.Option.{option_map};
 ghost use Rattle.tip_journal.specs.Audit.{AreAudited};
 ghost use Rattle.tip_journal.specs.Fits.{Fits};
 ghost use Rattle.tip_journal.specs.Journal.{Written, at_number, with_entry};
-ghost use Rattle.tip_journal.specs.Journals.{at, current, epoch_at, last_number, renewed, with_current};
+ghost use Rattle.tip_journal.specs.Journals.{at, changed_at, current, epoch_at, last_number, renewed, with_current, without_last};
 ghost use Rattle.tip_journal.specs.Pass.{Held, is_of, last_own, own};
 ghost use Rattle.tip_journal.specs.declared.pass.Noted.{Noted};
 
@@ -16,12 +16,13 @@ pub fn what_is_changed_is_current<S, E>()
     ensures realms { (journals : List (List (Written S E))) (realm : ℕ) (change : Written S E → Written S E) → length (with_current realm change journals) ≡ length journals }
 {}
 
-/// A renewal begins a journal behind those that the realm had, and leaves the other realms.
+/// A renewal begins a journal behind those that the realm had, and leaves the other realms; taken back it leaves nothing.
 #[tactic(auto, using(crate::proofs::LawLemmas::renewing))]
 pub fn what_is_renewed_is_kept<S, E>()
     ensures current { (journals : List (List (Written S E))) (realm : ℕ) (journal : Written S E) → realm < length journals → current (renewed realm journal journals) realm ≡ Some journal }
     ensures kept { (journals : List (List (Written S E))) (realm : ℕ) (journal : Written S E) → slice_get (renewed realm journal journals) realm ≡ option_map (λ history. history ++ journal ∷ []) (slice_get journals realm) }
     ensures others { (journals : List (List (Written S E))) (realm other : ℕ) (journal : Written S E) → other ≢ realm → slice_get (renewed realm journal journals) other ≡ slice_get journals other }
+    ensures withdrawn { (journals : List (List (Written S E))) (realm : ℕ) (journal : Written S E) → changed_at realm without_last (renewed realm journal journals) ≡ journals }
 {}
 
 /// A pass that takes down an entry has it as the last of its realm and epoch, and the last of any other stays.
