@@ -1,0 +1,6 @@
+pub mod Outboxes
+pub mod Entries
+pub mod Openings
+pub mod Notings
+pub mod Desks
+pub mod Renewals

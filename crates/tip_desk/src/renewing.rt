@@ -1,0 +1,175 @@
+//! A realm that starts again at a desk while the others run.
+ghost use Rattle.std.specs.Prelude.{◌≡◌, ◌≢◌, ◌↔◌, ◌+◌, ◌<◌, ◌≤◌, ◌-◌, ◌==◌, ℕ, if◌then◌else◌, slice_get, true, false, [], Err, None, Some, length, map, IfErr, IfOk, IsSomeAnd, OnErr, OnOk, vec_capacity, vec_len};
+ghost use Rattle.tip_branch.specs.Always.{Always};
+ghost use Rattle.tip_core.specs.Hosted.{HaveNames, realm as realm_at};
+ghost use Rattle.tip_host.specs.Loading.{Goes, IsRead, Never, Stays as ReadsAlone};
+ghost use Rattle.tip_host.specs.Renewing.{IsReasonToDoubt, IsReasonToRenew, IsRenewed, Rises, was_refused};
+ghost use Rattle.tip_host.specs.declared.renewing.RenewFault.TheVariants.{NoRealm, Stopped};
+ghost use Rattle.tip_journal.specs.Journal.{begun};
+ghost use Rattle.tip_journal.specs.Journals.{current, renewed};
+ghost use Rattle.tip_machine.specs.States.{State};
+ghost use Rattle.tip_machine.specs.Types.{seen};
+ghost use Rattle.tip_recovery.specs.Adopting.{loaded};
+ghost use Rattle.std.specs.Option.{option_and_then};
+ghost use Rattle.tip_rows.specs.Logs.{Log, last_epoch};
+ghost use Rattle.tip_table.specs.Kept.{capacity, of};
+ghost use Rattle.tip_desk.specs.Entries.{bare};
+ghost use Rattle.tip_desk.specs.Renewals.{AreKeptBut, IsReady, next_epoch};
+ghost use Rattle.tip_desk.specs.Outboxes.{waiting};
+
+use crate::batch::Batch;
+use crate::desk::Desk;
+use crate::entry::Entry;
+use crate::opening::Opening;
+use std::alloc::{AllocError, Global};
+use std::mem::replace;
+use tip_core::Left;
+use tip_host::RenewFault;
+use tip_journal::Journals;
+use tip_machine::Head;
+use tip_recovery::Recovery;
+use tip_rows::RowLog;
+use tip_table::Table;
+
+/// What it takes to clear a realm's outboxes: a table for the lines of the other realms, and room for those that are let go.
+#[derive(Drop)]
+struct Clearing {
+    spare: Table<Batch>,
+    left: Vec<Batch>,
+}
+
+impl<S: RowLog + Drop> Desk<S> {
+    /// What is stored of a realm: boxes are adopted for its rows, and it is renewed by it. Faults are NoRealm, NotRead, BadRow and
+    /// Memory; all stays but the store's count of faults.
+    pub fn doubts(&mut self, alloc: Global, realm: usize) -> Result<Recovery, RenewFault>
+        requires { Always }
+        ensures store { Goes S.stands S.may_leave S.is_true S.faults S.is_due (was_refused (λ fault. fault) result) ReadsAlone Never self.old.host.store self.new.host.store }
+        ensures rest { self.new ≡ record self.old { host = record self.old.host { store = self.new.host.store } } }
+        ensures here { OnOk result (realm_at self.old.host.core realm ≢ None) }
+        ensures absent { realm_at self.old.host.core realm ≡ None → result ≡ Err RenewFault.NoRealm }
+        ensures read { (log : Log) (state : State) → S.stands self.old.host.store log → realm_at self.old.host.core realm ≡ Some state → S.is_true self.new.host.store → IfOk result (IsRead log state.head.name) }
+        ensures reason { (log : Log) (state : State) → S.stands self.old.host.store log → realm_at self.old.host.core realm ≡ Some state → S.is_true self.new.host.store → IfErr result (IsReasonToDoubt log) }
+    {
+        self.host.doubts(alloc, realm)
+    }
+
+    /// A realm starts again while the others run, by what `doubts` said of it, once boxes were adopted for its rows. Its journal
+    /// ends, and is kept; the next one begins with these rows and boxes. What waited to go out on its connections is gone. Where it
+    /// is refused all is as it was.
+    pub fn renew(
+        &mut self,
+        alloc: Global,
+        realm: usize,
+        recovery: Recovery,
+    ) -> Result<Left, (RenewFault, Recovery)>
+        requires { Always }
+        ensures store { (state : State) → realm_at self.old.host.core realm ≡ Some state → Rises S.stands S.may_leave S.is_true S.faults S.is_due (λ fault. fault.0) state.head.name result self.old.host.store self.new.host.store }
+        ensures absent { realm_at self.old.host.core realm ≡ None → self.new.host.store ≡ self.old.host.store }
+        ensures renewed { (state : State) → realm_at self.old.host.core realm ≡ Some state → IfOk result (λ left. IsRenewed S.stands S.is_true recovery state self.old.host.store self.new.host.store (realm_at self.new.host.core realm)) }
+        ensures connections { (state : State) → realm_at self.old.host.core realm ≡ Some state → IfOk result (λ left. left.connections.items ≡ state.connections) }
+        ensures transactions { (state : State) → realm_at self.old.host.core realm ≡ Some state → IfOk result (λ left. map seen left.transactions.items ≡ state.transactions) }
+        ensures journal { (state : State) → realm_at self.old.host.core realm ≡ Some state → OnOk result (bare self.new.journals ≡ renewed realm (begun (state.head.epoch + 1) (map loaded recovery.rows)) (bare self.old.journals)) }
+        ensures lines { OnOk result (waiting self.new.outboxes realm ≡ []) }
+        ensures others { AreKeptBut realm self.old self.new }
+        ensures same { IfErr result (λ fault. (place : ℕ) → realm_at self.new.host.core place ≡ realm_at self.old.host.core place) }
+        ensures still { OnErr result ((bare self.new.journals ≡ bare self.old.journals) × (self.new.outboxes ≡ self.old.outboxes)) }
+        ensures back { IfErr result (λ fault. fault.1 ≡ recovery) }
+        ensures reason { (log : Log) (state : State) → S.stands self.old.host.store log → realm_at self.old.host.core realm ≡ Some state → S.is_true self.new.host.store → IfErr result (λ fault. IsReasonToRenew log state recovery fault.0) }
+        ensures here { OnOk result (realm_at self.old.host.core realm ≢ None) }
+        ensures nowhere { realm_at self.old.host.core realm ≡ None → self.old.host.is_stopped ≡ false → IfErr result (λ fault. fault.0 ≡ NoRealm) }
+        ensures names { OnOk result (HaveNames self.new.host.core) }
+        ensures stopped { self.new.host.is_stopped ≡ self.old.host.is_stopped }
+        ensures stopping { IfErr result (λ fault. (fault.0 ≡ Stopped) ↔ (self.old.host.is_stopped ≡ true)) }
+    {
+        let Some(epoch) = self.next_epoch(realm) else {
+            return self.host.renew(alloc, realm, recovery);
+        };
+        let Ok(clearing) = begin(
+            alloc,
+            &mut self.journals,
+            &self.outboxes,
+            realm,
+            epoch,
+            &recovery,
+        ) else {
+            return Err((RenewFault::Memory, recovery));
+        };
+        match self.host.renew(alloc, realm, recovery) {
+            Ok(left) => {
+                clear(alloc, &mut self.outboxes, realm, clearing);
+                Ok(left)
+            }
+            Err(fault) => {
+                self.journals.withdraw(realm);
+                Err(fault)
+            }
+        }
+    }
+
+    /// The epoch in which a realm may start again; None where it may not, since the desk is stopped, the realm is not there, or its
+    /// epoch is the last.
+    fn next_epoch(&self, realm: usize) -> Option<u32>
+        ensures { result ≡ next_epoch self.now.host.is_stopped (realm_at self.now.host.core realm) }
+    {
+        if self.host.is_stopped {
+            return None;
+        }
+        next_in(self.host.core.heads(), realm)
+    }
+}
+
+/// The epoch after a realm's own; None behind the last.
+fn next_in(heads: &[Head], realm: usize) -> Option<u32>
+    ensures { result ≡ option_and_then (λ head. if head.epoch == last_epoch then None else Some (head.epoch + 1)) (slice_get heads.now realm) }
+{
+    match heads.get(realm) {
+        Some(head) => epoch_after(head.epoch),
+        None => None,
+    }
+}
+
+/// The epoch after this one, if it is not the last.
+fn epoch_after(epoch: u32) -> Option<u32>
+    ensures { result ≡ (if epoch == last_epoch then None else Some (epoch + 1)) }
+{
+    if epoch == u32::MAX {
+        None
+    } else {
+        Some(epoch + 1)
+    }
+}
+
+/// A realm's next journal begins, and its outboxes can be cleared. Without memory all is as before.
+fn begin(
+    alloc: Global,
+    journals: &mut Journals<Opening, Entry>,
+    outboxes: &Table<Batch>,
+    realm: usize,
+    epoch: u32,
+    recovery: &Recovery,
+) -> Result<Clearing, AllocError>
+    requires always { Always }
+    requires later { IsSomeAnd (current journals.old realm) (λ journal. journal.epoch < epoch) }
+    ensures begun { OnOk result (journals.new ≡ renewed realm (begun epoch (map loaded recovery.now.rows)) journals.old) }
+    ensures same { OnErr result (journals.new ≡ journals.old) }
+    ensures ready { IfOk result (IsReady outboxes.now realm) }
+{
+    let clearing = Clearing {
+        spare: outboxes.with_room(alloc, 0)?,
+        left: Vec::with_capacity(alloc, outboxes.count(realm))?,
+    };
+    let opening = Opening::of(alloc, recovery.rows())?;
+    journals.renew(alloc, realm, epoch, opening)?;
+    Ok(clearing)
+}
+
+/// What waits in a realm is gone.
+fn clear(alloc: Global, outboxes: &mut Table<Batch>, realm: usize, clearing: Clearing)
+    requires { IsReady outboxes.old realm clearing }
+    ensures own { of outboxes.new realm ≡ [] }
+    ensures others { (other : ℕ) → other ≢ realm → of outboxes.new other ≡ of outboxes.old other }
+{
+    let Clearing { spare, mut left } = clearing;
+    let waiting = replace(outboxes, Table::new(alloc));
+    *outboxes = waiting.part(realm, spare, &mut left);
+}
