@@ -1,151 +1,16 @@
 //! What no clause says: dropped parties, boxes that are handed back, and each plan's answers.
 
-ghost use Rattle.std.specs.Prelude.{◌≡◌, IfOk, length, vec_len};
-ghost use Rattle.tip_branch.specs.Standings.{nothing};
-ghost use Rattle.tip_branch.specs.declared.branch.Phase.TheVariants.{Active};
-
-use std::alloc::{AllocError, Global};
+use crate::probe::{Counters, Probe};
+use std::alloc::Global;
 use std::fmt::Display;
-use std::sync::atomic::{AtomicU64, Ordering};
 use std::sync::{Arc, Mutex};
 use std::test::Fail;
 use std::thread;
 use tip_branch::{
     Badge, Branch, Call, Errand, Fresh, HeldFresh, HeldParty, HeldPrepared, Party, PartyRoom,
-    Phase, Plan, Prepared, Settled, Standing, Told, Vote, are_numbers,
+    Phase, Plan, Prepared, Settled, Vote, are_numbers,
 };
 use tip_line::{Id, Realm};
-
-/// How often a branch was told what, as it counted itself.
-#[derive(Drop)]
-struct Counters {
-    votes: AtomicU64,
-    commits: AtomicU64,
-    aborts: AtomicU64,
-}
-
-impl Counters {
-    fn new() -> Counters {
-        Counters {
-            votes: AtomicU64::new(0),
-            commits: AtomicU64::new(0),
-            aborts: AtomicU64::new(0),
-        }
-    }
-
-    /// Votes, commits and aborts.
-    fn counted(&self) -> (u64, u64, u64) {
-        (
-            self.votes.load(Ordering::SeqCst),
-            self.commits.load(Ordering::SeqCst),
-            self.aborts.load(Ordering::SeqCst),
-        )
-    }
-}
-
-/// A branch that keeps its plan, votes yes where it promises nothing, and counts its calls.
-#[derive(Drop)]
-struct Probe {
-    standing: Standing,
-    counters: Arc<Counters>,
-    ghost untold: { standing.phase ≡ Active → standing.told ≡ nothing },
-}
-
-impl Branch for Probe {
-    ghost standing = { λ p. p.standing };
-
-    fn vote(&mut self) -> Vote {
-        self.counters.votes.fetch_add(1, Ordering::SeqCst);
-        let vote = self.standing.badge.plan.vote().unwrap_or(Vote::Yes);
-        self.standing = Standing {
-            badge: self.standing.badge,
-            phase: match vote {
-                Vote::Yes => Phase::Ready,
-                Vote::No | Vote::ReadOnly => Phase::Ended,
-            },
-            told: Told {
-                asked: true,
-                aborted: self.standing.told.aborted,
-                commits: self.standing.told.commits,
-            },
-        };
-        vote
-    }
-
-    fn commit(&mut self) -> Settled {
-        self.counters.commits.fetch_add(1, Ordering::SeqCst);
-        let commits = self.standing.told.commits;
-        let settled = self
-            .standing
-            .badge
-            .plan
-            .answer(commits)
-            .unwrap_or(Settled::Done);
-        self.standing = Standing {
-            badge: self.standing.badge,
-            phase: match settled {
-                Settled::Done => Phase::Ended,
-                Settled::Later => Phase::Ready,
-            },
-            told: Told {
-                asked: self.standing.told.asked,
-                aborted: self.standing.told.aborted,
-                commits: if commits == u64::MAX {
-                    commits
-                } else {
-                    commits + 1
-                },
-            },
-        };
-        settled
-    }
-
-    fn abort(&mut self) {
-        self.counters.aborts.fetch_add(1, Ordering::SeqCst);
-        self.standing = Standing {
-            badge: self.standing.badge,
-            phase: Phase::Ended,
-            told: Told {
-                asked: self.standing.told.asked,
-                aborted: true,
-                commits: self.standing.told.commits,
-            },
-        };
-    }
-
-    fn phase(&self) -> Phase {
-        self.standing.phase
-    }
-
-    fn plan(&self) -> Plan {
-        self.standing.badge.plan
-    }
-
-    fn mark(&self) -> u64 {
-        self.standing.badge.mark
-    }
-}
-
-fn make_probe(
-    plan: Plan,
-    mark: u64,
-    phase: Phase,
-    counters: &Arc<Counters>,
-) -> Result<Probe, AllocError> {
-    let told = Told {
-        asked: false,
-        aborted: false,
-        commits: 0,
-    };
-    Ok(Probe {
-        standing: Standing {
-            badge: Badge { plan, mark },
-            phase,
-            told,
-        },
-        counters: Arc::try_clone(counters)?,
-    })
-}
 
 fn make_realm(alloc: Global) -> Result<Realm, Fail> {
     Ok(Realm::new(alloc, b"north")?)
@@ -167,8 +32,8 @@ fn a_dropped_party_aborts_its_active_member_alone(rt: HostRuntime) -> Result<(),
     let ready = Arc::new(alloc, Counters::new())?;
     let active = Arc::new(alloc, Counters::new())?;
     let mut boxes: Vec<Box<dyn Branch + Send>> = Vec::new(alloc);
-    boxes.push(Box::new(alloc, make_probe(Plan::Yes, 0, Phase::Ready, &ready)?)?)?;
-    boxes.push(Box::new(alloc, make_probe(Plan::Yes, 0, Phase::Active, &active)?)?)?;
+    boxes.push(Box::new(alloc, Probe::new(Plan::Yes, 0, Phase::Ready, &ready)?)?)?;
+    boxes.push(Box::new(alloc, Probe::new(Plan::Yes, 0, Phase::Active, &active)?)?)?;
     let numbers = vec![in alloc; 2u8, 5]?;
     assert_eq!(rt; numbers.len(), boxes.len());
     assert!(rt; are_numbers(&numbers));
@@ -180,8 +45,8 @@ fn a_dropped_party_aborts_its_active_member_alone(rt: HostRuntime) -> Result<(),
     assert_eq!(rt; party.phase_of(5), Some(Phase::Active));
     assert_eq!(rt; party.phase_of(1), None);
     drop(party);
-    assert_eq!(rt; ready.aborts.load(Ordering::SeqCst), 0);
-    assert_eq!(rt; active.aborts.load(Ordering::SeqCst), 1);
+    assert_eq!(rt; ready.aborts(), 0);
+    assert_eq!(rt; active.aborts(), 1);
     Ok(())
 }
 
@@ -200,8 +65,8 @@ fn a_branch_that_voted_is_not_fresh(rt: HostRuntime) -> Result<(), Fail> {
     let alloc = rt.alloc();
     let counters = Arc::new(alloc, Counters::new())?;
     let mut boxes: Vec<Box<dyn Branch + Send>> = Vec::new(alloc);
-    boxes.push(Box::new(alloc, make_probe(Plan::No, 0, Phase::Active, &counters)?)?)?;
-    boxes.push(Box::new(alloc, make_probe(Plan::Yes, 0, Phase::Ready, &counters)?)?)?;
+    boxes.push(Box::new(alloc, Probe::new(Plan::No, 0, Phase::Active, &counters)?)?)?;
+    boxes.push(Box::new(alloc, Probe::new(Plan::Yes, 0, Phase::Ready, &counters)?)?)?;
     match Fresh::of(boxes) {
         Ok(_) => assert!(rt; false),
         Err(fault) => {
@@ -219,7 +84,7 @@ fn a_fresh_branch_is_not_prepared(rt: HostRuntime) -> Result<(), Fail> {
     let alloc = rt.alloc();
     let counters = Arc::new(alloc, Counters::new())?;
     let mut boxes: Vec<Box<dyn Branch + Send>> = Vec::new(alloc);
-    boxes.push(Box::new(alloc, make_probe(Plan::Yes, 0, Phase::Active, &counters)?)?)?;
+    boxes.push(Box::new(alloc, Probe::new(Plan::Yes, 0, Phase::Active, &counters)?)?)?;
     match Prepared::of(boxes) {
         Ok(_) => assert!(rt; false),
         Err(fault) => {
@@ -259,7 +124,7 @@ fn each_plan_answers_as_it_promises(rt: HostRuntime) -> Result<(), Fail> {
         (Plan::Open, Vote::Yes, Some(Settled::Done), None),
     ] {
         let mut boxes: Vec<Box<dyn Branch + Send>> = Vec::new(alloc);
-        boxes.push(Box::new(alloc, make_probe(plan, 0, Phase::Active, &counters)?)?)?;
+        boxes.push(Box::new(alloc, Probe::new(plan, 0, Phase::Active, &counters)?)?)?;
         let mut party = make_party(alloc, boxes)?;
         party.give(Errand::Vote);
         assert_eq!(rt; party.vote_all(), vote);
@@ -275,7 +140,7 @@ fn each_plan_answers_as_it_promises(rt: HostRuntime) -> Result<(), Fail> {
         assert_eq!(rt; party.call_of(1), second.map(Call::Commit));
         assert_eq!(rt; party.phase_of(1), Some(Phase::Ended));
     }
-    assert_eq!(rt; counters.aborts.load(Ordering::SeqCst), 0);
+    assert_eq!(rt; counters.aborts(), 0);
     Ok(())
 }
 
@@ -285,7 +150,7 @@ fn nobody_is_asked_after_a_no(rt: HostRuntime) -> Result<(), Fail> {
     let counters = Arc::new(alloc, Counters::new())?;
     let mut boxes: Vec<Box<dyn Branch + Send>> = Vec::new(alloc);
     for plan in [Plan::Yes, Plan::No, Plan::Yes] {
-        boxes.push(Box::new(alloc, make_probe(plan, 0, Phase::Active, &counters)?)?)?;
+        boxes.push(Box::new(alloc, Probe::new(plan, 0, Phase::Active, &counters)?)?)?;
     }
     let mut party = make_party(alloc, boxes)?;
     party.give(Errand::Vote);
@@ -298,9 +163,9 @@ fn nobody_is_asked_after_a_no(rt: HostRuntime) -> Result<(), Fail> {
     assert_eq!(rt; party.settle(), Settled::Done);
     assert_eq!(rt; party.call_of(1), Some(Call::Abort));
     assert_eq!(rt; party.call_of(2), None);
-    assert_eq!(rt; counters.aborts.load(Ordering::SeqCst), 1);
+    assert_eq!(rt; counters.aborts(), 1);
     let boxes = party.spend();
-    assert_eq!(rt; counters.aborts.load(Ordering::SeqCst), 2);
+    assert_eq!(rt; counters.aborts(), 2);
     assert_eq!(rt; boxes.len(), 3);
     Ok(())
 }
@@ -311,7 +176,7 @@ fn transactions_take_boxes_in_order(rt: HostRuntime) -> Result<(), Fail> {
     let counters = Arc::new(alloc, Counters::new())?;
     let mut boxes: Vec<Box<dyn Branch + Send>> = Vec::new(alloc);
     for plan in [Plan::Yes, Plan::No, Plan::Late] {
-        boxes.push(Box::new(alloc, make_probe(plan, 0, Phase::Active, &counters)?)?)?;
+        boxes.push(Box::new(alloc, Probe::new(plan, 0, Phase::Active, &counters)?)?)?;
     }
     let fresh = Fresh::of(boxes)?;
     let mut held = HeldFresh::of(fresh.into_lot(alloc).map_err(|_| "no memory")?);
@@ -341,7 +206,7 @@ fn prepared_boxes_are_taken_up_again(rt: HostRuntime) -> Result<(), Fail> {
     let alloc = rt.alloc();
     let counters = Arc::new(alloc, Counters::new())?;
     let mut boxes: Vec<Box<dyn Branch + Send>> = Vec::new(alloc);
-    boxes.push(Box::new(alloc, make_probe(Plan::Yes, 0, Phase::Ready, &counters)?)?)?;
+    boxes.push(Box::new(alloc, Probe::new(Plan::Yes, 0, Phase::Ready, &counters)?)?)?;
     let prepared = Prepared::of(boxes)?;
     let held = HeldPrepared::of(prepared.into_lot(alloc).map_err(|_| "no memory")?);
     let numbers = [3];
@@ -363,7 +228,7 @@ fn a_party_crosses_threads_behind_a_lock(rt: HostRuntime) -> Result<(), Fail> {
     let alloc = rt.alloc();
     let counters = Arc::new(alloc, Counters::new())?;
     let mut boxes: Vec<Box<dyn Branch + Send>> = Vec::new(alloc);
-    boxes.push(Box::new(alloc, make_probe(Plan::Yes, 0, Phase::Active, &counters)?)?)?;
+    boxes.push(Box::new(alloc, Probe::new(Plan::Yes, 0, Phase::Active, &counters)?)?)?;
     let party = HeldParty::of(make_party(alloc, boxes)?);
     let shared = Arc::new(alloc, Mutex::new(Some(party)))?;
     let theirs = Arc::try_clone(&shared)?;
@@ -372,7 +237,7 @@ fn a_party_crosses_threads_behind_a_lock(rt: HostRuntime) -> Result<(), Fail> {
         drop(party);
     })?;
     other.join(&rt);
-    assert_eq!(rt; counters.aborts.load(Ordering::SeqCst), 1);
+    assert_eq!(rt; counters.aborts(), 1);
     assert!(rt; shared.lock(&rt).is_none());
     Ok(())
 }
@@ -383,9 +248,9 @@ fn make_box(
     phase: Phase,
     counters: &Arc<Counters>,
 ) -> Result<Box<dyn Branch + Send>, Fail> {
-    match Box::new(alloc, make_probe(Plan::Yes, 0, phase, counters)?) {
+    match Box::new(alloc, Probe::new(Plan::Yes, 0, phase, counters)?) {
         Ok(branch) => Ok(branch),
-        Err(_) => Ok(Box::new(alloc, make_probe(Plan::Yes, 0, phase, counters)?)?),
+        Err(_) => Ok(Box::new(alloc, Probe::new(Plan::Yes, 0, phase, counters)?)?),
     }
 }
 
@@ -422,7 +287,7 @@ fn a_refused_growth_gives_fresh_boxes_back(rt: HostRuntime) -> Result<(), Fail> 
         Err(fault) => fault.value.into_lot(alloc).map_err(|_| "no memory")?,
     };
     assert_eq!(rt; lot.len(), 1);
-    assert_eq!(rt; counters.aborts.load(Ordering::SeqCst), 0);
+    assert_eq!(rt; counters.aborts(), 0);
     Ok(())
 }
 
@@ -436,7 +301,7 @@ fn a_refused_growth_gives_prepared_boxes_back(rt: HostRuntime) -> Result<(), Fai
         Err(fault) => fault.value.into_lot(alloc).map_err(|_| "no memory")?,
     };
     assert_eq!(rt; lot.len(), 1);
-    assert_eq!(rt; counters.aborts.load(Ordering::SeqCst), 0);
+    assert_eq!(rt; counters.aborts(), 0);
     Ok(())
 }
 
@@ -459,7 +324,7 @@ fn make_unlike(
     let mut boxes: Vec<Box<dyn Branch + Send>> = Vec::new(alloc);
     for (plan, mark) in UNLIKE {
         let own = Arc::new(alloc, Counters::new())?;
-        boxes.push(Box::new(alloc, make_probe(plan, mark, phase, &own)?)?)?;
+        boxes.push(Box::new(alloc, Probe::new(plan, mark, phase, &own)?)?)?;
         counters.push(own)?;
     }
     Ok(boxes)
