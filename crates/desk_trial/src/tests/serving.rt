@@ -1,0 +1,205 @@
+//! Events of north at a desk, made one by one. Each call of the desk is in a function without a clause, so that the proof of a test
+//! does not carry all that the call promises.
+ghost use Rattle.tip_branch.specs.Always.{Always};
+
+use super::desks::NORTH;
+use std::alloc::{AllocError, Global};
+use std::slice::from_ref;
+use std::test::Fail;
+use stop_trial::is_untold;
+use tip_branch::HeldParty;
+use tip_desk::{Desk, Entry, PartyNote, Reply};
+use tip_host::{HostFault, RenewFault, done};
+use tip_journal::{AuditFault, Pass, Reported};
+use tip_machine::{Event, Heard, Seat, Sent};
+use tip_recovery::Recovery;
+use tip_rows::MemRows;
+
+/// A desk, and the pass of whoever makes events there.
+#[derive(Drop)]
+pub struct Serving {
+    desk: Desk<MemRows>,
+    pass: Pass<Entry>,
+}
+
+impl Serving {
+    /// At this desk no event was made yet.
+    pub fn at(alloc: Global, desk: Desk<MemRows>) -> Serving {
+        let pass = desk.pass(alloc);
+        Serving { desk, pass }
+    }
+
+    /// One event of north; where memory was wanting it comes once more, as it was handed back.
+    pub fn step(&mut self, alloc: Global, event: Event) -> Result<Reply, Fail>
+        requires { Always }
+    {
+        match self.stepped(alloc, event) {
+            Err((HostFault::Memory, event)) => self.stepped_again(alloc, event),
+            Err((HostFault::Stopped, event)) => {
+                drop(event);
+                Err(Fail::from("it is not stopped"))
+            }
+            Ok(reply) => Ok(reply),
+        }
+    }
+
+    /// One event of north.
+    pub fn stepped(&mut self, alloc: Global, event: Event) -> Result<Reply, (HostFault, Event)>
+        requires { Always }
+    {
+        self.desk.step(alloc, &mut self.pass, NORTH, event)
+    }
+
+    fn stepped_again(&mut self, alloc: Global, event: Event) -> Result<Reply, Fail>
+        requires { Always }
+    {
+        match self.stepped(alloc, event) {
+            Ok(reply) => Ok(reply),
+            Err(fault) => {
+                drop(fault);
+                Err(Fail::from("memory is there again"))
+            }
+        }
+    }
+
+    /// A line comes on a connection. The party that goes out then comes out.
+    pub fn line(&mut self, alloc: Global, seat: Seat, text: &str) -> Result<Option<HeldParty>, Fail>
+        requires { Always }
+    {
+        let heard = heard(alloc, text)?;
+        let reply = self.step(alloc, Event::Line { seat, heard })?;
+        Ok(reply.work)
+    }
+
+    /// A connection is opened, and these lines come on it. The party that goes out at the last of them comes out.
+    pub fn serve(
+        &mut self,
+        alloc: Global,
+        opening: Event,
+        texts: &[&str],
+    ) -> Result<Option<HeldParty>, Fail>
+        requires { Always }
+    {
+        let seat = self.opened(alloc, opening)?;
+        let mut work = None;
+        for text in texts {
+            work = self.line(alloc, seat, text)?;
+        }
+        Ok(work)
+    }
+
+    /// A connection is opened.
+    fn opened(&mut self, alloc: Global, opening: Event) -> Result<Seat, Fail>
+        requires { Always }
+    {
+        let reply = self.step(alloc, opening)?;
+        Ok(reply.opened.ok_or("a connection is opened")?)
+    }
+
+    /// The party that is out does its errand and comes back.
+    pub fn back(&mut self, alloc: Global, work: Option<HeldParty>) -> Result<Reply, Fail>
+        requires { Always }
+    {
+        match work {
+            Some(work) if is_untold(&work) => self.step(alloc, done(work)),
+            _ => Err(Fail::from("a party is out, and none of its branches was called")),
+        }
+    }
+
+    /// What waits first for a connection of a realm is taken out.
+    pub fn take_out(&mut self, realm: usize, seat: Seat) -> Option<Sent> {
+        self.desk.take_out(realm, seat)
+    }
+
+    /// Whether a line may be taken on a connection of a realm now.
+    pub fn may_take(&self, realm: usize, seat: Seat) -> bool {
+        self.desk.may_take(realm, seat)
+    }
+
+    pub fn epoch(&self, realm: usize) -> Option<u32> {
+        self.desk.epoch(realm)
+    }
+
+    /// What north would let go.
+    pub fn drops(&self, alloc: Global) -> Result<Vec<PartyNote>, AllocError>
+        requires { Always }
+    {
+        self.desk.drops(alloc, NORTH)
+    }
+
+    /// What is stored of north.
+    pub fn doubts(&mut self, alloc: Global) -> Result<Recovery, RenewFault>
+        requires { Always }
+    {
+        self.desk.doubts(alloc, NORTH)
+    }
+
+    /// Why north is not renewed by this, if so. What it had is let go.
+    pub fn renew(&mut self, alloc: Global, recovery: Recovery) -> Option<RenewFault>
+        requires { Always }
+    {
+        match self.desk.renew(alloc, NORTH, recovery) {
+            Ok(left) => {
+                drop(left);
+                None
+            }
+            Err((fault, recovery)) => {
+                drop(recovery);
+                Some(fault)
+            }
+        }
+    }
+
+    /// Whether the pass of whoever makes events at another desk can go on here.
+    pub fn fits(&self, other: &Serving, realm: usize) -> bool {
+        self.desk.fits(&other.pass, realm)
+    }
+
+    /// What an audit says of these passes.
+    fn audit(&self, alloc: Global, passes: &[Pass<Entry>]) -> Result<Vec<Reported>, AuditFault> {
+        self.desk.audit(alloc, passes)
+    }
+
+    /// What an audit says of this pass; where memory was wanting it is made once more.
+    pub fn audited(&self, alloc: Global) -> Result<Vec<Reported>, AuditFault> {
+        let passes = from_ref(&self.pass);
+        match self.audit(alloc, passes) {
+            Err(AuditFault::Memory) => self.audit(alloc, passes),
+            said => said,
+        }
+    }
+
+    /// Whether there is an entry that stands in no pass, where this one is left out.
+    pub fn misses_its_pass(&self, alloc: Global) -> bool {
+        matches!(self.audit(alloc, &[]), Err(AuditFault::PassMismatch))
+    }
+
+    /// Whether the pass of whoever makes events at another desk does not have the entries made here.
+    pub fn refuses(&self, alloc: Global, other: &Serving) -> bool {
+        matches!(
+            self.audit(alloc, from_ref(&other.pass)),
+            Err(AuditFault::PassMismatch)
+        )
+    }
+
+    pub fn stop(&mut self) {
+        self.desk.stop();
+    }
+
+    /// The desk ends, and its rows come back.
+    pub fn shut(self) -> MemRows
+        requires { Always }
+    {
+        let Serving { desk, pass } = self;
+        drop(pass);
+        desk.shut()
+    }
+}
+
+/// What a line says; where memory was wanting it is read once more.
+fn heard(alloc: Global, text: &str) -> Result<Heard, AllocError> {
+    match Heard::of(alloc, text.as_bytes()) {
+        Ok(heard) => Ok(heard),
+        Err(_) => Heard::of(alloc, text.as_bytes()),
+    }
+}
