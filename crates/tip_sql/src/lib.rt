@@ -11,5 +11,5 @@ mod sql_rows;
 mod statements;
 
 pub use database::Database;
-pub use opening::OverFault;
+pub use opening::{OverFault, has_tables};
 pub use sql_rows::SqlRows;

@@ -30,6 +30,13 @@ pub enum OverFault {
     BadSchema,
 }
 
+/// Whether a database has our tables and nothing else, so that nothing is made where it is taken over.
+pub fn has_tables<S: Alter>(conn: &Connection<S>) -> bool
+    ensures { OnTrue result ((state S.Store conn.now).now.schema ≡ log_schema) }
+{
+    is_whole(conn.schema())
+}
+
 /// Makes the tables that are not there, where nothing else is there.
 pub fn make_tables<S: Alter>(conn: &mut Connection<S>) -> Result<usize, Error>
     ensures { Takes log_schema (state S.Store conn.old) (state S.Store conn.new) result }
