@@ -1,4 +1,4 @@
-//! Trials of rows in SQLite: what no clause of `tip_sql` says, over databases in memory and on disks that stop; and what an operator is shown of them.
+//! Trials of rows in SQLite: what no clause of `tip_sql` says, over databases in memory; and what an operator is shown of them.
 #![tactic(auto)]
 
 ghost use Rattle.std.specs.Prelude.{◌≡◌, codes, MatchResult};

@@ -1,9 +1,7 @@
 //! What no clause says. What is expected is what the two tables and the calls are said to be, and not what was once answered.
 mod calls;
 mod databases;
-mod disks;
 mod listings;
 mod schemas;
 mod steps;
-mod stops;
 mod stored;

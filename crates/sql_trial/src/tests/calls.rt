@@ -1,5 +1,5 @@
 //! Each call, over a database in memory and over rows in memory alike.
-use super::databases::{answered, answered_and_left, made, taken};
+use super::databases::{answered, answered_and_left, made, stepped};
 use super::steps::Step::{Faults, Know, Load, Put, Raise, RaiseAll, Realms, Remove};
 use super::steps::{Step, played};
 use std::alloc::Global;
@@ -8,8 +8,7 @@ use tip_rows::MemRows;
 
 /// Whether both logs answer the steps so.
 fn are_answered(alloc: Global, steps: &[Step<'_>], expected: &str) -> Result<bool, Fail> {
-    let mut rows = taken(alloc, made(alloc, "")?)?;
-    let in_database = played(alloc, &mut rows, steps)?;
+    let (in_database, _) = stepped(alloc, made(alloc, "")?, steps)?;
     let in_memory = played(alloc, &mut MemRows::new(alloc), steps)?;
     Ok(in_database.as_str() == expected && in_memory.as_str() == expected)
 }

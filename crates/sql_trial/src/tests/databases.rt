@@ -1,4 +1,5 @@
-//! Databases in memory. Each call is in a helper without a clause, so that the proof of a test does not carry what a statement means.
+//! Databases in memory. Each call is in a helper without a clause, and generic in the store below, so that the proof of a test does
+//! not carry what a statement means.
 use super::steps::{Step, played};
 use sqlite::types::ValueRef;
 use sqlite::{Alter, Connection, Error, MemStore, Row as SqlRow};
@@ -21,8 +22,23 @@ pub fn batch<S: Alter>(conn: &mut Connection<S>, sql: &str) -> Result<(), Error>
     conn.execute_batch(sql)
 }
 
-pub fn taken<S: Alter + Drop>(alloc: Global, conn: Connection<S>) -> Result<SqlRows<S>, OverFault> {
-    SqlRows::over(alloc, conn)
+/// A database that was taken over and given back, with the tables that it lacked.
+pub fn taken<S: Alter + Drop>(
+    alloc: Global,
+    conn: Connection<S>,
+) -> Result<Connection<S>, OverFault> {
+    Ok(SqlRows::over(alloc, conn)?.release())
+}
+
+/// What the steps answer over a database that is taken over, and the database afterwards.
+pub fn stepped<S: Alter + Drop>(
+    alloc: Global,
+    conn: Connection<S>,
+    steps: &[Step<'_>],
+) -> Result<(String, Connection<S>), Fail> {
+    let mut rows = SqlRows::over(alloc, conn)?;
+    let said = played(alloc, &mut rows, steps)?;
+    Ok((said, rows.release()))
 }
 
 /// What the steps answer over the two tables with some rows.
@@ -40,9 +56,7 @@ pub fn answered_and_left(
 ) -> Result<(String, String), Fail> {
     let mut conn = made(alloc, TABLES)?;
     batch(&mut conn, sql)?;
-    let mut rows = taken(alloc, conn)?;
-    let said = played(alloc, &mut rows, steps)?;
-    let mut conn = rows.release();
+    let (said, mut conn) = stepped(alloc, conn, steps)?;
     let left = shown(alloc, &mut conn, query)?;
     Ok((said, left))
 }

@@ -1,12 +1,14 @@
 //! What an operator is shown of a store.
-use super::databases::{TABLES, batch, made, taken};
+use super::databases::{TABLES, batch, made};
 use super::steps::Step::{Know, Put, RaiseAll};
 use super::steps::played;
+use sqlite::{Alter, Connection};
 use std::alloc::Global;
 use std::io::{self, Error, ErrorKind, Write};
 use std::test::Fail;
 use tip_listing::{RowsFault, rows};
 use tip_rows::MemRows;
+use tip_sql::SqlRows;
 
 const NORTH_AND_SOUTH: &str =
     "epoch north 1\nrow north-1-9-1 2 P a.x s1 1:b1\nrow north-1-10-1 2 C -\nepoch south 1\n";
@@ -54,8 +56,15 @@ impl Write for Short {
 fn written(alloc: Global, sql: &str) -> Result<(Result<(), RowsFault>, Vec<u8>), Fail> {
     let mut conn = made(alloc, TABLES)?;
     batch(&mut conn, sql)?;
+    listed(alloc, conn)
+}
+
+fn listed<S: Alter + Drop>(
+    alloc: Global,
+    conn: Connection<S>,
+) -> Result<(Result<(), RowsFault>, Vec<u8>), Fail> {
     let mut output = Vec::new(alloc);
-    let end = rows(alloc, &mut taken(alloc, conn)?, &mut output);
+    let end = rows(alloc, &mut SqlRows::over(alloc, conn)?, &mut output);
     Ok((end, output))
 }
 

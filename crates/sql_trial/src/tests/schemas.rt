@@ -1,19 +1,21 @@
 //! Databases that are taken over, and those that are not.
 use super::databases::{TABLES, made, shown, taken};
+use sqlite::{Alter, Connection};
 use std::alloc::Global;
 use std::test::Fail;
-use tip_sql::OverFault;
+use tip_sql::{OverFault, has_tables};
 
 /// The statements that made what a database has.
 const STATEMENTS: &str = "SELECT sql FROM sqlite_schema WHERE type = 'table'";
 
+fn has_both<S: Alter>(conn: &Connection<S>) -> bool {
+    has_tables(conn)
+}
+
 /// Whether a database that these statements made is taken over; then, what it has.
 fn tables_after(alloc: Global, sql: &str) -> Result<Result<String, OverFault>, Fail> {
     match taken(alloc, made(alloc, sql)?) {
-        Ok(rows) => {
-            let mut conn = rows.release();
-            Ok(Ok(shown(alloc, &mut conn, STATEMENTS)?))
-        }
+        Ok(mut conn) => Ok(Ok(shown(alloc, &mut conn, STATEMENTS)?)),
         Err(fault) => Ok(Err(fault)),
     }
 }
@@ -27,6 +29,18 @@ fn missing_tables_are_made(rt: HostRuntime) -> Result<(), Fail> {
     for sql in ["", realm, TABLES] {
         let tables = tables_after(rt.alloc(), sql)?.map_err(|_| "not taken over")?;
         assert_eq!(rt; tables.as_str(), both.as_str(), "{sql}");
+    }
+    Ok(())
+}
+
+#[test]
+fn both_tables_are_missed_where_one_is(rt: HostRuntime) -> Result<(), Fail> {
+    let realm = "CREATE TABLE realm (name TEXT PRIMARY KEY, epoch INTEGER NOT NULL) STRICT";
+    for (sql, expected) in [("", false), (realm, false), (TABLES, true)] {
+        let conn = made(rt.alloc(), sql)?;
+        assert_eq!(rt; has_both(&conn), expected, "{sql}");
+        let conn = taken(rt.alloc(), conn)?;
+        assert!(rt; has_both(&conn), "{sql}");
     }
     Ok(())
 }

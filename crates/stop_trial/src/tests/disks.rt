@@ -62,18 +62,18 @@ impl Contents {
 
     /// What the files below rows hold after a stop.
     pub fn left(alloc: Global, rows: Rows, unsynced: Unsynced) -> Result<Contents, Fail> {
-        let mut files = rows.release().into_store().close();
-        if matches!(unsynced, Unsynced::Lost) {
-            files.log.crash();
-            files.db.crash();
-        }
-        Contents::of(alloc, &files)
+        Contents::of(alloc, rows.release().into_store().close(), unsynced)
     }
 
-    fn of(alloc: Global, files: &Files<Stopping>) -> Result<Contents, Fail> {
+    fn of(alloc: Global, files: Files<Stopping>, unsynced: Unsynced) -> Result<Contents, Fail> {
+        let Files { mut log, mut db } = files;
+        if matches!(unsynced, Unsynced::Lost) {
+            log.crash();
+            db.crash();
+        }
         Ok(Contents {
-            log: octets(alloc, files.log.inner())?,
-            db: octets(alloc, files.db.inner())?,
+            log: octets(alloc, log.inner())?,
+            db: octets(alloc, db.inner())?,
         })
     }
 
@@ -103,15 +103,31 @@ fn file(alloc: Global, octets: &[u8]) -> Result<Memory, Fail> {
 /// Opens files that hold this, unless they stop before.
 pub fn opened(alloc: Global, contents: &Contents, stop: Stop) -> Result<Option<Rows>, Fail> {
     match connected(alloc, contents.files(alloc, stop)?) {
-        Some(conn) => Ok(taken(alloc, conn).ok()),
-        None => Ok(None),
+        Ok(conn) => Ok(taken(alloc, conn).ok()),
+        Err(_) => Ok(None),
+    }
+}
+
+/// What files hold that stop while they are opened; None where they are opened.
+pub fn left_unopened(
+    alloc: Global,
+    contents: &Contents,
+    stop: Stop,
+    unsynced: Unsynced,
+) -> Result<Option<Contents>, Fail> {
+    match connected(alloc, contents.files(alloc, stop)?) {
+        Ok(_) => Ok(None),
+        Err(files) => Ok(Some(Contents::of(alloc, files, unsynced)?)),
     }
 }
 
 /// A connection that copies its log into the database file before each change, so that a stop of this file is met too.
-fn connected(alloc: Global, files: Files<Stopping>) -> Option<Connection<FileStore<Stopping>>> {
+fn connected(
+    alloc: Global,
+    files: Files<Stopping>,
+) -> Result<Connection<FileStore<Stopping>>, Files<Stopping>> {
     if !files.may_be_used() {
-        return None;
+        return Err(files);
     }
     let options = Options {
         cache_pages: FEW_PAGES,
@@ -119,7 +135,10 @@ fn connected(alloc: Global, files: Files<Stopping>) -> Option<Connection<FileSto
         checkpoint_frames: 1,
         seed: 1,
     };
-    Connection::open_files(alloc, files, options).ok()
+    match Connection::open_files(alloc, files, options) {
+        Ok(conn) => Ok(conn),
+        Err((_, left)) => Err(left.into_files()),
+    }
 }
 
 /// Opens files that stop nowhere.

@@ -1,7 +1,7 @@
 //! A stop while realms start: of a load of both, and of a renewal of one.
 use super::calls::{Call, Stage};
 use super::scenarios::PRESUME;
-use super::stops::{Case, first, goes_on};
+use super::stops::{Case, first, goes_on, stays_unopened};
 use std::alloc::Global;
 use std::test::Fail;
 
@@ -22,7 +22,7 @@ fn all_realms_start_or_none(rt: HostRuntime) -> Result<(), Fail> {
         call: Call::Load,
         stages: &[stage((1, 1)), stage((2, 2))],
     };
-    assert!(rt; goes_on(alloc, case)?);
+    assert!(rt; goes_on(alloc, case)? && stays_unopened(alloc, case)?);
     Ok(())
 }
 

@@ -3,7 +3,7 @@ ghost use Rattle.tip_branch.specs.Always.{Always};
 
 use super::acts::Reached;
 use super::calls::{Call, Stage, answered};
-use super::disks::{Contents, Rows, Stop, Unsynced, opened, reopened};
+use super::disks::{Contents, Rows, Stop, Unsynced, left_unopened, opened, reopened};
 use std::alloc::Global;
 use std::test::Fail;
 
@@ -29,6 +29,39 @@ pub fn goes_on(alloc: Global, case: Case<'_>) -> Result<bool, Fail>
         }
     }
     Ok(true)
+}
+
+/// Whether files that stop while they are opened hold what they held before, once with and once without the octets that were not
+/// synced.
+pub fn stays_unopened(alloc: Global, case: Case<'_>) -> Result<bool, Fail>
+    requires { Always }
+{
+    let mut is_met = false;
+    for is_of_log in [true, false] {
+        let first = first_stop(alloc, case, is_of_log)?;
+        for calls in 0..first.calls {
+            match is_kept(alloc, case, Stop { is_of_log, calls })? {
+                Some(true) => is_met = true,
+                Some(false) => return Ok(false),
+                None => {}
+            }
+        }
+    }
+    Ok(is_met)
+}
+
+/// Whether what a stop leaves is what was there before; None where the files are opened.
+fn is_kept(alloc: Global, case: Case<'_>, stop: Stop) -> Result<Option<bool>, Fail>
+    requires { Always }
+{
+    let lost = left_unopened(alloc, case.first, stop, Unsynced::Lost)?;
+    let kept = left_unopened(alloc, case.first, stop, Unsynced::Kept)?;
+    match (lost, kept, case.stages) {
+        (Some(lost), Some(kept), [before, ..]) => {
+            Ok(Some(is_left(alloc, before, &lost)? && is_left(alloc, before, &kept)?))
+        }
+        _ => Ok(None),
+    }
 }
 
 /// How many stops of a file there are in a call from the first one on, if the rest goes on from each.
