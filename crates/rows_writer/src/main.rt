@@ -9,16 +9,11 @@ mod words;
 
 use crate::fault::WriterFault;
 use crate::words::{Order, Way, read_words};
-use sqlite::{Connection, Error, ErrorCode, File, FileStore};
+use sqlite::{Alter, Connection, Error, ErrorCode};
+use std::alloc::Global;
 use std::process::ExitCode;
 use std::{env, io};
 use tip_sql::SqlRows;
-
-/// Opens a store, or makes it.
-fn open_store(rt: &HostRuntime, path: &str) -> Result<SqlRows<FileStore<File>>, WriterFault> {
-    let conn = Connection::open(rt, path).map_err(why)?;
-    SqlRows::over(rt.alloc(), conn).map_err(|_| WriterFault::Unopened)
-}
 
 /// Why a file is not opened.
 fn why(error: Error) -> WriterFault {
@@ -29,10 +24,14 @@ fn why(error: Error) -> WriterFault {
 }
 
 /// Writes all pairs. The statements are run on the tables that the log made.
-fn write_pairs(rt: &HostRuntime, order: Order<'_>) -> Result<(), WriterFault> {
-    let mut store = open_store(rt, order.file)?;
+fn write_pairs<S: Alter + Drop>(
+    alloc: Global,
+    conn: Connection<S>,
+    order: Order<'_>,
+) -> Result<(), WriterFault> {
+    let mut store = SqlRows::over(alloc, conn).map_err(|_| WriterFault::Unopened)?;
     match order.way {
-        Way::Rows => log::write_pairs(rt.alloc(), &mut store, order.pairs),
+        Way::Rows => log::write_pairs(alloc, &mut store, order.pairs),
         Way::Raw => statements::write_pairs(&mut store.release(), order.pairs),
     }
 }
@@ -43,7 +42,8 @@ fn obey(rt: &HostRuntime) -> Result<u32, WriterFault> {
     let words: Vec<String> = args.collect(rt.alloc())?;
     let order = read_words(&words)?;
     let pairs = order.pairs;
-    write_pairs(rt, order)?;
+    let conn = Connection::open(rt, order.file).map_err(why)?;
+    write_pairs(rt.alloc(), conn, order)?;
     Ok(pairs)
 }
 

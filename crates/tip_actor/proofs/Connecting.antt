@@ -1,9 +1,9 @@
 -- What happens to one connection of a realm.
-use Rattle.std.proofs.Common.{◌≡◌, ◌≤◌, ◌∙◌, ◌++◌, ℕ, suc, zero, true, false, List, Some, None, length, arith, refl, sym, ap, subst}
+use Rattle.std.proofs.Common.{◌≡◌, ◌≤◌, ◌∙◌, ◌++◌, ℕ, suc, zero, Bool, true, false, List, Some, None, length, arith, refl, sym, ap, subst}
 use Rattle.std.specs.Prelude.{slice_get, slice_set}
 use Rattle.std.proofs.lemmas.List.{append_assoc, append-nil}
-use Rattle.tip_actor.specs.Acting.{Acting, Done, Reading, feeds, lines_of, on_connection, on_reading, reading_on}
-use Rattle.tip_actor.specs.Standing.{Actor, AreReadings, Host, IsActing, IsReading, Tells, gives}
+use Rattle.tip_actor.specs.Acting.{Acting, Done, Reading, feeds, heard_more, on_connection, on_reading, lines_of, reading_on}
+use Rattle.tip_actor.specs.Standing.{Actor, AreReadings, Host, IsActing, IsFed, IsReading, Keeping, Tells, gives}
 use Rattle.tip_actor.specs.declared.reader.Reader.{Reader}
 use Rattle.tip_actor.proofs.Doing.{stays}
 use Rattle.tip_actor.proofs.Hearing.{lines_behind}
@@ -41,8 +41,8 @@ pub not_done_on : (f : ℕ → Reading → Acting → Done) (acting : Acting) (c
 not_done_on f acting zero none = refl
 not_done_on f acting (suc index) none = ap (λ r. on_reading f index r acting) none
 
-pub not_told : (host : Host) (place : ℕ) (actor : Actor) (printed : List ℕ) (acting : Acting) (f : ℕ → Reading → Acting → Done) (connection : ℕ) → reading_on connection acting.readings ≡ None → Tells host host place actor actor printed printed false (on_connection f connection acting)
-not_told host place actor printed acting f connection none = subst (Tells host host place actor actor printed printed false) (sym (not_done_on f acting connection none)) refl
+pub not_told : {S : Type 0} (kept : Keeping S) (host : Host S) (place : ℕ) (actor : Actor) (printed : List ℕ) (acting : Acting) (f : ℕ → Reading → Acting → Done) (connection : ℕ) → reading_on connection acting.readings ≡ None → Tells kept host host place actor actor printed printed false (on_connection f connection acting)
+not_told kept host place actor printed acting f connection none = subst (Tells kept host host place actor actor printed printed false) (sym (not_done_on f acting connection none)) refl
 
 -- Octets come
 
@@ -52,21 +52,35 @@ fed reader reader' reading octets is seat behind = (
   λ more. behind more ∙ is.1 (octets ++ more) ∙ ap (λ l. reading.waiting ++ l) (lines_behind reading.heard octets more) ∙ sym (append_assoc reading.waiting (lines_of reading.heard octets) (lines_of (reading.heard ++ octets) more)),
 )
 
-pub has_fed : (host : Host) (place : ℕ) (actor actor' : Actor) (printed : List ℕ) (acting : Acting) (connection index : ℕ) (reader reader' : Reader) (octets : List ℕ) → IsActing host place actor acting → connection ≡ suc index → slice_get actor.readers.items index ≡ Some reader → reader'.seat ≡ reader.seat → ((more : List ℕ) → gives reader' more ≡ gives reader (octets ++ more)) →
-    actor'.name ≡ actor.name → actor'.is_due ≡ actor.is_due → actor'.errands ≡ actor.errands → actor'.readers.items ≡ slice_set actor.readers.items index reader' → Tells host host place actor actor' printed printed true (on_connection (feeds octets) connection acting)
-has_fed host place actor actor' printed acting connection index reader reader' octets is number here seat behind name due errands readers =
-    let given = is_given actor.readers.items acting.readings connection index reader is.readings number here in
-    subst (Tells host host place actor actor' printed printed true) (sym (done_on (feeds octets) acting connection index given.reading number given.there)) (record {
+pub has_fed : (readers readers' : List Reader) (readings : List Reading) (connection index : ℕ) (reader reader' : Reader) (octets : List ℕ) → AreReadings readers readings → connection ≡ suc index → slice_get readers index ≡ Some reader → reader'.seat ≡ reader.seat → ((more : List ℕ) → gives reader' more ≡ gives reader (octets ++ more)) →
+    readers' ≡ slice_set readers index reader' → IsFed true connection octets readings readers'
+has_fed readers readers' readings connection index reader reader' octets are number here seat behind set =
+    let given = is_given readers readings connection index reader are number here in (
+      index,
+      given.reading,
+      number,
+      given.there,
+      subst (λ r. AreReadings r (slice_set readings index (heard_more octets given.reading))) (sym set) (readings_set readers readings index reader' _ are (fed reader reader' given.reading octets given.is seat behind)),
+    )
+
+-- a realm to whose connection octets have come
+pub feeds_so : {S : Type 0} (kept : Keeping S) (host : Host S) (place : ℕ) (actor actor' : Actor) (printed : List ℕ) (acting : Acting) (connection : ℕ) (octets : List ℕ) (told : Bool) → IsActing kept host place actor acting → actor'.name ≡ actor.name → actor'.errands ≡ actor.errands → actor'.is_due ≡ actor.is_due →
+    IsFed told connection octets acting.readings actor'.readers.items → Tells kept host host place actor actor' printed printed told (on_connection (feeds octets) connection acting)
+feeds_so kept host place actor actor' printed acting connection octets true is name errands due fed =
+    subst (Tells kept host host place actor actor' printed printed true) (sym (done_on (feeds octets) acting connection fed.0 fed.1 fed.2 fed.3)) (record {
       own = record {
         served = is.served;
-        rows = is.rows;
+        stored = is.stored;
         named = is.named;
-        name = name ∙ is.name;
-        errands = ap (λ e. e.items) errands ∙ is.errands;
-        due = due ∙ is.due;
-        readings = subst (λ r. AreReadings r (feeds octets index given.reading acting).acting.readings) (sym readers) (readings_set actor.readers.items acting.readings index reader' _ is.readings (fed reader reader' given.reading octets given.is seat behind));
+        own = record {
+          name = name ∙ is.own.name;
+          errands = ap (λ e. e.items) errands ∙ is.own.errands;
+          due = due ∙ is.own.due;
+          readings = fed.4;
+        };
       };
-      leaves = stays host place actor.name;
+      leaves = stays kept host place actor.name;
       name = name;
       text = sym (append-nil printed);
     })
+feeds_so kept host place actor actor' printed acting connection octets false is name errands due fed = subst (Tells kept host host place actor actor' printed printed false) (sym (not_done_on (feeds octets) acting connection fed.0)) refl

@@ -14,7 +14,7 @@ use Rattle.tip_machine.specs.Types.{Event}
 use Rattle.tip_machine.specs.declared.event.Event.TheVariants as event
 use Rattle.tip_machine.specs.declared.event.Heard.{Heard}
 use Rattle.tip_actor.specs.Acting.{Acting, Reading, happens, is_next, is_waiting, lines_of, said_by, takes_at, takes_from, takes_on}
-use Rattle.tip_actor.specs.Standing.{Actor, AreReadings, Finds, gives, GivesNext, Host, IsActing, IsReading, Owes, Says}
+use Rattle.tip_actor.specs.Standing.{Actor, AreReadings, Finds, gives, GivesNext, IsActor, IsReading, Owes, Says}
 use Rattle.tip_actor.proofs.Lists.{partner, reading_at, readings_length, readings_set}
 use Rattle.tip_actor.specs.declared.reader.Reader.{Reader}
 
@@ -93,17 +93,14 @@ set_itself (y ∷ xs) zero x is = ap (λ z. z ∷ xs) (sym (same_Some y x is))
 set_itself (y ∷ xs) (suc i) x is = ap (λ l. y ∷ l) (set_itself xs i x is)
 
 -- a reader more has no line that may be taken
-pub passes_on : (host : Host) (place : ℕ) (actor actor' : Actor) (acting : Acting) (index : ℕ) (reader reader' : Reader) → IsActing host place actor acting → ((k : ℕ) (reading : Reading) → k < index → slice_get acting.readings k ≡ Some reading → is_next acting.world.state reading ≡ false) → slice_get actor.readers.items index ≡ Some reader →
+pub passes_on : (actor actor' : Actor) (acting : Acting) (index : ℕ) (reader reader' : Reader) → IsActor actor acting → ((k : ℕ) (reading : Reading) → k < index → slice_get acting.readings k ≡ Some reading → is_next acting.world.state reading ≡ false) → slice_get actor.readers.items index ≡ Some reader →
     ((reading : Reading) → IsReading reader reading → GivesNext acting.world.state reader' reading None) →
     actor'.name ≡ actor.name → actor'.is_due ≡ actor.is_due → actor'.errands ≡ actor.errands → actor'.readers.items ≡ slice_set actor.readers.items index reader' →
-    IsActing host place actor' acting × ((k : ℕ) (reading : Reading) → k < index + 1 → slice_get acting.readings k ≡ Some reading → is_next acting.world.state reading ≡ false)
-passes_on host place actor actor' acting index reader reader' is before here gives_none name due errands readers =
+    IsActor actor' acting × ((k : ℕ) (reading : Reading) → k < index + 1 → slice_get acting.readings k ≡ Some reading → is_next acting.world.state reading ≡ false)
+passes_on actor actor' acting index reader reader' is before here gives_none name due errands readers =
     let mate = partner actor.readers.items acting.readings index reader (readings_length actor.readers.items acting.readings is.readings) here in
     let none = gives_none mate.0 (reading_at actor.readers.items acting.readings index reader mate.0 is.readings here mate.1) in (
       record {
-        served = is.served;
-        rows = is.rows;
-        named = is.named;
         name = name ∙ is.name;
         errands = ap (λ q. q.items) errands ∙ is.errands;
         due = due ∙ is.due;
@@ -116,28 +113,25 @@ passes_on host place actor actor' acting index reader reader' is before here giv
     )
 
 -- the first connection with a line that may be taken
-pub finds_one : (host : Host) (place : ℕ) (actor actor' : Actor) (acting : Acting) (index : ℕ) (reader reader' : Reader) (event_ : Event) → IsActing host place actor acting → ((k : ℕ) (reading : Reading) → k < index → slice_get acting.readings k ≡ Some reading → is_next acting.world.state reading ≡ false) → slice_get actor.readers.items index ≡ Some reader →
+pub finds_one : (actor actor' : Actor) (acting : Acting) (index : ℕ) (reader reader' : Reader) (event_ : Event) → IsActor actor acting → ((k : ℕ) (reading : Reading) → k < index → slice_get acting.readings k ≡ Some reading → is_next acting.world.state reading ≡ false) → slice_get actor.readers.items index ≡ Some reader →
     ((reading : Reading) → IsReading reader reading → GivesNext acting.world.state reader' reading (Some event_)) →
     actor'.name ≡ actor.name → actor'.is_due ≡ actor.is_due → actor'.errands ≡ actor.errands → actor'.readers.items ≡ slice_set actor.readers.items index reader' →
-    Finds host place actor' acting (Some event_)
-finds_one host place actor actor' acting index reader reader' event_ is before here gives_one name due errands readers =
+    Finds actor' acting (Some event_)
+finds_one actor actor' acting index reader reader' event_ is before here gives_one name due errands readers =
     let mate = partner actor.readers.items acting.readings index reader (readings_length actor.readers.items acting.readings is.readings) here in
     let one = gives_one mate.0 (reading_at actor.readers.items acting.readings index reader mate.0 is.readings here mate.1) in
-    let without = record acting { readings = slice_set acting.readings index (record mate.0 { waiting = one.0.items }) } in
+    let left = slice_set acting.readings index (record mate.0 { waiting = one.0.items }) in
     record {
-      without = without;
+      readings = left;
       stands = record {
-        served = is.served;
-        rows = is.rows;
-        named = is.named;
         name = name ∙ is.name;
         errands = ap (λ q. q.items) errands ∙ is.errands;
         due = due ∙ is.due;
         readings = rw readers (readings_set actor.readers.items acting.readings index reader' (record mate.0 { waiting = one.0.items }) is.readings one.0.stands);
       };
-      takes = ap (λ at. takes_at at acting) (position_is (is_next acting.world.state) acting.readings index mate.0 mate.1 one.1 before) ∙ ap (λ r. takes_on index r acting) mate.1 ∙ ap (λ l. takes_from index mate.0 l acting) one.0.waits ∙ ap (λ e. Some (happens e without)) (sym one.0.event_is);
+      takes = ap (λ at. takes_at at acting) (position_is (is_next acting.world.state) acting.readings index mate.0 mate.1 one.1 before) ∙ ap (λ r. takes_on index r acting) mate.1 ∙ ap (λ l. takes_from index mate.0 l acting) one.0.waits ∙ ap (λ e. Some (happens e (record acting { readings = left }))) (sym one.0.event_is);
     }
 
 -- no connection has one
-pub finds_none : (host : Host) (place : ℕ) (actor : Actor) (acting : Acting) (index : ℕ) → IsActing host place actor acting → ((k : ℕ) (reading : Reading) → k < index → slice_get acting.readings k ≡ Some reading → is_next acting.world.state reading ≡ false) → length acting.readings ≤ index → Finds host place actor acting None
-finds_none host place actor acting index is before all = (ap (λ at. takes_at at acting) (position_none (is_next acting.world.state) acting.readings (λ k reading lt at. before k reading (omega (arith, all, lt)) at)), is)
+pub finds_none : (actor : Actor) (acting : Acting) (index : ℕ) → IsActor actor acting → ((k : ℕ) (reading : Reading) → k < index → slice_get acting.readings k ≡ Some reading → is_next acting.world.state reading ≡ false) → length acting.readings ≤ index → Finds actor acting None
+finds_none actor acting index is before all = (ap (λ at. takes_at at acting) (position_none (is_next acting.world.state) acting.readings (λ k reading lt at. before k reading (omega (arith, all, lt)) at)), is)

@@ -170,8 +170,11 @@ settles done = behind done.printed (takes (count_of done.acting.readings) done.a
 -- One realm
 
 -- octets come on a connection
+abbrev pub heard_more : List ℕ → Reading → Reading
+heard_more octets reading = record reading { heard = reading.heard ++ octets; waiting = reading.waiting ++ lines_of reading.heard octets }
+
 abbrev pub feeds : List ℕ → ℕ → Reading → Acting → Done
-feeds octets index reading acting = quiet (record acting { readings = slice_set acting.readings index (record reading { heard = reading.heard ++ octets; waiting = reading.waiting ++ lines_of reading.heard octets }) })
+feeds octets index reading acting = quiet (record acting { readings = slice_set acting.readings index (heard_more octets reading) })
 
 abbrev pub forgets_on : Bool → ℕ → Acting → Acting
 forgets_on true number acting = record acting { readings = lost_on number acting.readings }

@@ -1,3 +1,4 @@
+pub mod Faults
 pub mod Promises
 pub mod Acting
 pub mod Standing

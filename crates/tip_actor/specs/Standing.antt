@@ -1,5 +1,5 @@
--- How the code's values stand for a realm at work.
-use Rattle.std.specs.Prelude.{◌≡◌, ◌≢◌, ℕ, List, [], ◌∷◌, ◌++◌, Bool, true, false, Option, Some, None, is_some}
+-- How the code's values stand for a realm at work, over a store of any kind.
+use Rattle.std.specs.Prelude.{◌≡◌, ◌≢◌, ℕ, suc, List, [], ◌∷◌, ◌++◌, Bool, true, false, Option, Some, None, is_some, slice_get, slice_set}
 use Rattle.std.specs.Str.{bytes_eq}
 use Rattle.tip_core.specs.declared.happened.Happened as happenings
 use Rattle.tip_machine.specs.Moves.{rows_after}
@@ -13,18 +13,27 @@ use Rattle.tip_line.specs.Reading.{Item, items_of}
 use Rattle.tip_machine.specs.declared.event.Event.TheVariants as events
 use Rattle.tip_machine.specs.declared.event.Heard.{Heard}
 use Rattle.tip_rows.specs.Keys.{Key}
-use Rattle.tip_rows.specs.Logs.{IsPart}
-use Rattle.tip_rows.specs.Memory.{Memory, is_due_in, log_of}
+use Rattle.tip_rows.specs.Logs.{IsPart, Log}
 use Rattle.tip_rows.specs.declared.row.Row.{Row}
-use Rattle.tip_actor.specs.Acting.{Acting, Done, Reading, happens, lines_of, is_next, outcome_of, said_by, still_due, takes_next}
+use Rattle.tip_actor.specs.Acting.{Acting, Done, Reading, happens, heard_more, is_next, lines_of, outcome_of, reading_on, said_by, still_due, takes_next}
 use Rattle.tip_actor.specs.declared.actor.Actor as actors
 use Rattle.tip_actor.specs.declared.reader.Reader.{Reader}
 use Rattle.tip_actor.specs.declared.reader.Stream.{Stream}
 use Rattle.tip_actor.specs.declared.reader.Stream.TheVariants.{Empty, Lines, Over}
 
--- the host of a script, which keeps its rows in memory
-abbrev pub Host : Type 0
-Host = hosts.Host Memory Hosted
+-- what a script relies on of a store: the logs for which it may stand, whether it may be relied on, and whether a realm's next
+-- change will be refused
+pub record Keeping (S : Type 0) : Type 1 where
+  pub stands : S → Log → Type 0
+  pub is_true : S → Type 0
+  pub is_due : S → List ℕ → Bool
+
+abbrev pub keeping : {S : Type 0} → (S → Log → Type 0) → (S → Type 0) → (S → List ℕ → Bool) → Keeping S
+keeping stands is_true is_due = record { stands = stands; is_true = is_true; is_due = is_due }
+
+-- the host of a script
+abbrev pub Host : Type 0 → Type 0
+Host S = hosts.Host S Hosted
 
 abbrev pub Actor : Type 0
 Actor = actors.Actor PartyNotes
@@ -61,56 +70,71 @@ AreReadings [] (reading ∷ readings) = ⊥
 AreReadings (reader ∷ readers) [] = ⊥
 AreReadings (reader ∷ readers) (reading ∷ readings) = IsReading reader reading × AreReadings readers readings
 
--- a realm has this place in the host, and is known to the store, which refuses its next change or not
-pub record IsServed (host : Host) (place : ℕ) (state : State) (due : Bool) : Type 0 where
-  pub state_is : realm host.core place ≡ Some state
-  pub names : HaveNames host.core
-  pub due_is : is_due_in host.store state.head.name ≡ due
-  pub known : is_some ((log_of host.store).epochs state.head.name) ≡ true
-
--- whatever the other realms were, they are
-pub record Leaves (old new : Host) (place : ℕ) (name : List ℕ) : Type 0 where
-  pub realms : (other : ℕ) → other ≢ place → realm new.core other ≡ realm old.core other
-  pub due : (other : List ℕ) → bytes_eq name other ≡ false → is_due_in new.store other ≡ is_due_in old.store other
-  pub known : (other : List ℕ) → is_some ((log_of new.store).epochs other) ≡ is_some ((log_of old.store).epochs other)
-  pub parts : (other : List ℕ) (epoch : ℕ) (rows : List (Key × Row)) → bytes_eq name other ≡ false → IsPart (log_of old.store) other epoch rows → IsPart (log_of new.store) other epoch rows
-
--- one event of a realm has happened, and its change was refused exactly where that was due
-pub record Serves (old new : Host) (place : ℕ) (state : State) (due : Bool) (event : Event) (happened : Happened) : Type 0 where
-  pub change : happened.change ≡ wants state event
-  pub outcome : happened.outcome ≡ outcome_of due (wants state event)
-  pub answer : happened.answer ≡ (step state event (outcome_of due (wants state event))).answer
-  pub served : IsServed new place (step state event (outcome_of due (wants state event))).state (still_due due (wants state event))
-  pub rows : (epoch : ℕ) (rows : List (Key × Row)) → IsPart (log_of old.store) state.head.name epoch rows → IsPart (log_of new.store) state.head.name epoch (rows_after (wants state event) (outcome_of due (wants state event)) rows)
-  pub leaves : Leaves old new place state.head.name
-
--- THE CODE STANDS FOR A REALM AT WORK
-pub record IsActing (host : Host) (place : ℕ) (actor : Actor) (acting : Acting) : Type 0 where
-  pub served : IsServed host place acting.world.state acting.due
-  pub rows : IsPart (log_of host.store) acting.world.state.head.name acting.world.state.head.epoch acting.world.rows
-  pub named : acting.world.state.head.name ≡ acting.name
+-- the realm's name, its parties that are out, whether its next change is to be refused, and what has come on its connections
+pub record IsActor (actor : Actor) (acting : Acting) : Type 0 where
   pub name : actor.name ≡ acting.name
   pub errands : actor.errands.items ≡ acting.world.errands
   pub due : actor.is_due ≡ acting.due
   pub readings : AreReadings actor.readers.items acting.readings
 
+-- octets have come on the connection of a number, or the realm has not given it
+abbrev pub IsFed : Bool → ℕ → List ℕ → List Reading → List Reader → Type 0
+IsFed true connection octets readings readers =
+    (index : ℕ) × (reading : Reading) × (connection ≡ suc index) × (slice_get readings index ≡ Some reading) × AreReadings readers (slice_set readings index (heard_more octets reading))
+IsFed false connection octets readings readers = (reading_on connection readings ≡ None) × AreReadings readers readings
+
+-- these rows are stored of a realm, in this epoch
+pub record IsStored {S : Type 0} (kept : Keeping S) (store : S) (name : List ℕ) (epoch : ℕ) (rows : List (Key × Row)) : Type 0 where
+  pub log : Log
+  pub stood : kept.stands store log
+  pub part : IsPart log name epoch rows
+  pub known : is_some (log.epochs name) ≡ true
+
+-- a realm has this place in the host, whose store refuses its next change or not
+pub record IsServed {S : Type 0} (kept : Keeping S) (host : Host S) (place : ℕ) (state : State) (due : Bool) : Type 0 where
+  pub state_is : realm host.core place ≡ Some state
+  pub names : HaveNames host.core
+  pub due_is : kept.is_due host.store state.head.name ≡ due
+
+-- whatever the other realms were, they are
+pub record Leaves {S : Type 0} (kept : Keeping S) (old new : Host S) (place : ℕ) (name : List ℕ) : Type 0 where
+  pub realms : (other : ℕ) → other ≢ place → realm new.core other ≡ realm old.core other
+  pub due : (other : List ℕ) → bytes_eq name other ≡ false → kept.is_due new.store other ≡ kept.is_due old.store other
+  pub stored : (other : List ℕ) (epoch : ℕ) (rows : List (Key × Row)) → bytes_eq name other ≡ false → IsStored kept old.store other epoch rows → IsStored kept new.store other epoch rows
+
+-- one event of a realm has happened, and its change was refused exactly where that was due
+pub record Serves {S : Type 0} (kept : Keeping S) (old new : Host S) (place : ℕ) (state : State) (due : Bool) (event : Event) (happened : Happened) : Type 0 where
+  pub change : happened.change ≡ wants state event
+  pub outcome : happened.outcome ≡ outcome_of due (wants state event)
+  pub answer : happened.answer ≡ (step state event (outcome_of due (wants state event))).answer
+  pub served : IsServed kept new place (step state event (outcome_of due (wants state event))).state (still_due due (wants state event))
+  pub stored : (epoch : ℕ) (rows : List (Key × Row)) → IsStored kept old.store state.head.name epoch rows → IsStored kept new.store state.head.name epoch (rows_after (wants state event) (outcome_of due (wants state event)) rows)
+  pub leaves : Leaves kept old new place state.head.name
+
+-- THE CODE STANDS FOR A REALM AT WORK
+pub record IsActing {S : Type 0} (kept : Keeping S) (host : Host S) (place : ℕ) (actor : Actor) (acting : Acting) : Type 0 where
+  pub served : IsServed kept host place acting.world.state acting.due
+  pub stored : IsStored kept host.store acting.world.state.head.name acting.world.state.head.epoch acting.world.rows
+  pub named : acting.world.state.head.name ≡ acting.name
+  pub own : IsActor actor acting
+
 -- a realm has done something, and printed it
-pub record IsDone (host host' : Host) (place : ℕ) (actor actor' : Actor) (printed printed' : List ℕ) (done : Done) : Type 0 where
-  pub own : IsActing host' place actor' done.acting
-  pub leaves : Leaves host host' place actor.name
+pub record IsDone {S : Type 0} (kept : Keeping S) (host host' : Host S) (place : ℕ) (actor actor' : Actor) (printed printed' : List ℕ) (done : Done) : Type 0 where
+  pub own : IsActing kept host' place actor' done.acting
+  pub leaves : Leaves kept host host' place actor.name
   pub name : actor'.name ≡ actor.name
   pub text : printed' ≡ printed ++ done.printed
 
 -- whatever realm at work the code stood for, it has done this
-abbrev pub Acts : Host → Host → ℕ → Actor → Actor → List ℕ → List ℕ → (Acting → Done) → Type 0
-Acts host host' place actor actor' printed printed' f = (acting : Acting) → IsActing host place actor acting → IsDone host host' place actor actor' printed printed' (f acting)
+abbrev pub Acts : {S : Type 0} → Keeping S → Host S → Host S → ℕ → Actor → Actor → List ℕ → List ℕ → (Acting → Done) → Type 0
+Acts kept host host' place actor actor' printed printed' f = (acting : Acting) → IsActing kept host place actor acting → IsDone kept host host' place actor actor' printed printed' (f acting)
 
 -- it was done, or could not be told
-abbrev pub Tells : Host → Host → ℕ → Actor → Actor → List ℕ → List ℕ → Bool → Option Done → Type 0
-Tells host host' place actor actor' printed printed' true (Some done) = IsDone host host' place actor actor' printed printed' done
-Tells host host' place actor actor' printed printed' true None = ⊥
-Tells host host' place actor actor' printed printed' false (Some done) = ⊥
-Tells host host' place actor actor' printed printed' false None = printed' ≡ printed
+abbrev pub Tells : {S : Type 0} → Keeping S → Host S → Host S → ℕ → Actor → Actor → List ℕ → List ℕ → Bool → Option Done → Type 0
+Tells kept host host' place actor actor' printed printed' true (Some done) = IsDone kept host host' place actor actor' printed printed' done
+Tells kept host host' place actor actor' printed printed' true None = ⊥
+Tells kept host host' place actor actor' printed printed' false (Some done) = ⊥
+Tells kept host host' place actor actor' printed printed' false None = printed' ≡ printed
 
 -- the first line that waits on a connection is taken
 pub record TakesLine (reader' : Reader) (reading : Reading) (event : Event) : Type 0 where
@@ -125,11 +149,11 @@ GivesNext state reader' reading None = IsReading reader' reading × (is_next sta
 GivesNext state reader' reading (Some event) = TakesLine reader' reading event × (is_next state reading ≡ true)
 
 -- the next line that may be taken: its event, and the realm without it
-pub record IsNextLine (host : Host) (place : ℕ) (actor' : Actor) (acting : Acting) (event : Event) : Type 0 where
-  pub without : Acting
-  pub stands : IsActing host place actor' without
-  pub takes : takes_next acting ≡ Some (happens event without)
+pub record IsNextLine (actor' : Actor) (acting : Acting) (event : Event) : Type 0 where
+  pub readings : List Reading
+  pub stands : IsActor actor' (record acting { readings = readings })
+  pub takes : takes_next acting ≡ Some (happens event (record acting { readings = readings }))
 
-abbrev pub Finds : Host → ℕ → Actor → Acting → Option Event → Type 0
-Finds host place actor' acting None = (takes_next acting ≡ None) × IsActing host place actor' acting
-Finds host place actor' acting (Some event) = IsNextLine host place actor' acting event
+abbrev pub Finds : Actor → Acting → Option Event → Type 0
+Finds actor' acting None = (takes_next acting ≡ None) × IsActor actor' acting
+Finds actor' acting (Some event) = IsNextLine actor' acting event

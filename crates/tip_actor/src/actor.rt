@@ -5,9 +5,11 @@ ghost use Rattle.tip_machine.specs.States.{State};
 ghost use Rattle.tip_machine.specs.declared.event.Outcome.TheVariants.{Refused};
 ghost use Rattle.tip_branch.specs.Always.{Always};
 ghost use Rattle.tip_actor.specs.Acting.{Acting, Reading, after_sent, answer_in, happens, lost_on, refuses, still_due, with_opened};
-ghost use Rattle.tip_actor.specs.Standing.{Acts, AreReadings, IsActing, IsDone, IsServed, Serves};
+ghost use Rattle.tip_actor.specs.Standing.{Acts, AreReadings, IsActing, IsDone, IsServed, Serves, keeping};
 
+use crate::fault::ActFault;
 use crate::reader::Reader;
+use crate::refusing::Refuser;
 use std::alloc::{AllocError, Global};
 use std::collections::VecDeque;
 use tip_branch::HeldParty;
@@ -15,7 +17,7 @@ use tip_core::Happened;
 use tip_host::Host;
 use tip_line::Realm;
 use tip_machine::{Event, Item, Outcome, Seat, Sent};
-use tip_rows::MemRows;
+use tip_rows::RowLog;
 use tip_transcript::{print, print_brought};
 
 /// A realm, who reads what comes on its connections, and its parties that are out.
@@ -49,17 +51,18 @@ impl Actor<HeldParty> {
     }
 
     /// One event of the realm, which has this place in the host; what it shows is printed. It says whether the event was refused.
-    pub fn happen(
+    pub fn happen<S: RowLog>(
         &mut self,
         alloc: Global,
-        host: &mut Host<MemRows>,
+        host: &mut Host<S>,
         place: usize,
         event: Event,
         printed: &mut String,
-    ) -> Result<bool, AllocError>
+    ) -> Result<bool, ActFault>
         requires { Always }
-        ensures acts { OnOk result (Acts host.old host.new place self.old self.new (string_bytes printed.old) (string_bytes printed.new) (happens event)) }
-        ensures refused { (acting : Acting) → IsActing host.old place self.old acting → IfOk result (λ refused. refused ≡ is_some (answer_in acting event).refusal) }
+        ensures truth { S.is_true host.new.store → S.is_true host.old.store }
+        ensures acts { OnOk result (Acts (keeping S.stands S.is_true S.is_due) host.old host.new place self.old self.new (string_bytes printed.old) (string_bytes printed.new) (happens event)) }
+        ensures refused { (acting : Acting) → IsActing (keeping S.stands S.is_true S.is_due) host.old place self.old acting → IfOk result (λ refused. refused ≡ is_some (answer_in acting event).refusal) }
     {
         let mut calls = String::new(alloc);
         print_brought(&mut calls, self.name.as_str(), &event)?;
@@ -70,12 +73,13 @@ impl Actor<HeldParty> {
         Ok(is_refused)
     }
 
-    /// The next change of its rows is to be refused.
-    pub fn refuse(&mut self, host: &mut Host<MemRows>)
+    /// The next change of its rows is to be refused, where its store can be asked for that.
+    pub fn refuse<S: RowLog, R: Refuser<S>>(&mut self, refuser: &R, host: &mut Host<S>)
         requires { Always }
-        ensures { (place : ℕ) (printed : List ℕ) (acting : Acting) → IsActing host.old place self.old acting → IsDone host.old host.new place self.old self.new printed printed (refuses acting) }
+        ensures truth { S.is_true host.new.store → S.is_true host.old.store }
+        ensures refuses { R.may ≡ true → (place : ℕ) (printed : List ℕ) (acting : Acting) → IsActing (keeping S.stands S.is_true S.is_due) host.old place self.old acting → IsDone (keeping S.stands S.is_true S.is_due) host.old host.new place self.old self.new printed printed (refuses acting) }
     {
-        host.store.refuse_next(&self.name);
+        refuser.refuse_next(&mut host.store, &self.name);
         self.is_due = true;
     }
 
@@ -140,22 +144,23 @@ impl Actor<HeldParty> {
     }
 }
 
-/// One event of a realm by the host, whose store refuses its change only where that is due: want of memory there ends the script.
-fn step(
-    host: &mut Host<MemRows>,
+/// One event of a realm by the host, whose store refuses its change only where that is due: another refusal ends the script.
+fn step<S: RowLog>(
+    host: &mut Host<S>,
     alloc: Global,
     place: usize,
     event: Event,
     is_due: bool,
-) -> Result<Happened, AllocError>
-    ensures { (state : State) → IsServed host.old place state is_due → IfOk result (λ happened. Serves host.old host.new place state is_due event happened) }
+) -> Result<Happened, ActFault>
+    ensures truth { S.is_true host.new.store → S.is_true host.old.store }
+    ensures serves { (state : State) → IsServed (keeping S.stands S.is_true S.is_due) host.old place state is_due → IfOk result (λ happened. Serves (keeping S.stands S.is_true S.is_due) host.old host.new place state is_due event happened) }
 {
     let happened = match host.step(alloc, place, event) {
         Ok(happened) => happened,
-        Err(_) => return Err(AllocError),
+        Err(_) => return Err(ActFault::Memory),
     };
     if is_unforeseen(happened.outcome, is_due) {
-        return Err(AllocError);
+        return Err(ActFault::Store);
     }
     Ok(happened)
 }

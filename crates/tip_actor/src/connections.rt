@@ -1,17 +1,18 @@
 //! What happens to the connections of a realm, which are known by their numbers.
-ghost use Rattle.std.specs.Prelude.{◌≡◌, ℕ, List, IfOk, option_map, string_bytes};
+ghost use Rattle.std.specs.Prelude.{◌≡◌, List, IfOk, option_map, string_bytes};
 ghost use Rattle.tip_script.specs.Moves.{octets_of};
 ghost use Rattle.tip_branch.specs.Always.{Always};
-ghost use Rattle.tip_actor.specs.Acting.{Acting, Reading, feeds, loses, on_connection, pulls, pushes, reading_on};
-ghost use Rattle.tip_actor.specs.Standing.{AreReadings, Host as AHost, IsActing, Tells};
+ghost use Rattle.tip_actor.specs.Acting.{Acting, Reading, loses, on_connection, pulls, pushes, reading_on};
+ghost use Rattle.tip_actor.specs.Standing.{AreReadings, IsActing, IsFed, Tells, keeping};
 
 use crate::actor::Actor;
+use crate::fault::ActFault;
 use std::alloc::{AllocError, Global};
 use tip_branch::HeldParty;
 use tip_host::Host;
 use tip_line::Id;
 use tip_machine::{Event, Seat};
-use tip_rows::MemRows;
+use tip_rows::RowLog;
 use tip_script::Octets;
 
 impl Actor<HeldParty> {
@@ -23,7 +24,8 @@ impl Actor<HeldParty> {
         octets: Octets<'_>,
     ) -> Result<bool, AllocError>
         requires { Always }
-        ensures { (host : AHost) (place : ℕ) (printed : List ℕ) (acting : Acting) → IsActing host place self.old acting → IfOk result (λ told. Tells host host place self.old self.new printed printed told (on_connection (feeds (octets_of octets.entry)) connection acting)) }
+        ensures same { (self.new.name ≡ self.old.name) × (self.new.errands ≡ self.old.errands) × (self.new.is_due ≡ self.old.is_due) }
+        ensures fed { (readings : List Reading) → AreReadings self.old.readers.items readings → IfOk result (λ told. IsFed told connection (octets_of octets.entry) readings self.new.readers.items) }
     {
         let Some(index) = (connection as usize).checked_sub(1) else {
             return Ok(false);
@@ -36,16 +38,17 @@ impl Actor<HeldParty> {
     }
 
     /// A connection is lost, and what was read on it, unless that is refused. It says whether the realm has given that connection.
-    pub fn lose_connection(
+    pub fn lose_connection<S: RowLog>(
         &mut self,
         alloc: Global,
-        host: &mut Host<MemRows>,
+        host: &mut Host<S>,
         place: usize,
         connection: u32,
         printed: &mut String,
-    ) -> Result<bool, AllocError>
+    ) -> Result<bool, ActFault>
         requires { Always }
-        ensures { (acting : Acting) → IsActing host.old place self.old acting → IfOk result (λ told. Tells host.old host.new place self.old self.new (string_bytes printed.old) (string_bytes printed.new) told (on_connection loses connection acting)) }
+        ensures truth { S.is_true host.new.store → S.is_true host.old.store }
+        ensures tells { (acting : Acting) → IsActing (keeping S.stands S.is_true S.is_due) host.old place self.old acting → IfOk result (λ told. Tells (keeping S.stands S.is_true S.is_due) host.old host.new place self.old self.new (string_bytes printed.old) (string_bytes printed.new) told (on_connection loses connection acting)) }
     {
         let Some(seat) = self.seat(connection) else {
             return Ok(false);
@@ -58,17 +61,18 @@ impl Actor<HeldParty> {
     }
 
     /// Our transaction of this identifier is to be pushed on a connection. It says whether the realm has given that connection.
-    pub fn push(
+    pub fn push<S: RowLog>(
         &mut self,
         alloc: Global,
-        host: &mut Host<MemRows>,
+        host: &mut Host<S>,
         place: usize,
         connection: u32,
         id: Id,
         printed: &mut String,
-    ) -> Result<bool, AllocError>
+    ) -> Result<bool, ActFault>
         requires { Always }
-        ensures { (acting : Acting) → IsActing host.old place self.old acting → IfOk result (λ told. Tells host.old host.new place self.old self.new (string_bytes printed.old) (string_bytes printed.new) told (on_connection (pushes id) connection acting)) }
+        ensures truth { S.is_true host.new.store → S.is_true host.old.store }
+        ensures tells { (acting : Acting) → IsActing (keeping S.stands S.is_true S.is_due) host.old place self.old acting → IfOk result (λ told. Tells (keeping S.stands S.is_true S.is_due) host.old host.new place self.old self.new (string_bytes printed.old) (string_bytes printed.new) told (on_connection (pushes id) connection acting)) }
     {
         let Some(seat) = self.seat(connection) else {
             return Ok(false);
@@ -79,17 +83,18 @@ impl Actor<HeldParty> {
 
     /// The other side's transaction of this identifier is to be pulled on a connection. It says whether the realm has given that
     /// connection.
-    pub fn pull(
+    pub fn pull<S: RowLog>(
         &mut self,
         alloc: Global,
-        host: &mut Host<MemRows>,
+        host: &mut Host<S>,
         place: usize,
         connection: u32,
         superior: Id,
         printed: &mut String,
-    ) -> Result<bool, AllocError>
+    ) -> Result<bool, ActFault>
         requires { Always }
-        ensures { (acting : Acting) → IsActing host.old place self.old acting → IfOk result (λ told. Tells host.old host.new place self.old self.new (string_bytes printed.old) (string_bytes printed.new) told (on_connection (pulls superior) connection acting)) }
+        ensures truth { S.is_true host.new.store → S.is_true host.old.store }
+        ensures tells { (acting : Acting) → IsActing (keeping S.stands S.is_true S.is_due) host.old place self.old acting → IfOk result (λ told. Tells (keeping S.stands S.is_true S.is_due) host.old host.new place self.old self.new (string_bytes printed.old) (string_bytes printed.new) told (on_connection (pulls superior) connection acting)) }
     {
         let Some(seat) = self.seat(connection) else {
             return Ok(false);

@@ -8,7 +8,7 @@ ghost use Rattle.tip_machine.specs.Outputs.{drops_of};
 ghost use Rattle.tip_machine.specs.States.{State};
 ghost use Rattle.tip_transcript.specs.Printing.{shown_text};
 ghost use Rattle.tip_actor.specs.Acting.{Acting, restarts};
-ghost use Rattle.tip_actor.specs.Standing.{IsActing};
+ghost use Rattle.tip_actor.specs.Standing.{IsActing, keeping};
 
 use crate::actor::Actor;
 use std::alloc::{AllocError, Global};
@@ -17,20 +17,20 @@ use tip_branch::HeldParty;
 use tip_core::Core;
 use tip_host::Host;
 use tip_machine::PartyPlace;
-use tip_rows::MemRows;
+use tip_rows::RowLog;
 use tip_transcript::print_drops;
 
 impl Actor<HeldParty> {
     /// Prints the active branches that are let go where the process ends: those of the parties that are out, the oldest first,
     /// and then of those that are here.
-    pub fn print_leaving(
+    pub fn print_leaving<S: RowLog>(
         &self,
-        host: &Host<MemRows>,
+        host: &Host<S>,
         place: usize,
         printed: &mut String,
     ) -> Result<(), AllocError>
         requires { Always }
-        ensures { (acting : Acting) → IsActing host.now place self.now acting → OnOk result (string_bytes printed.new ≡ string_bytes printed.old ++ (restarts acting).printed) }
+        ensures { (acting : Acting) → IsActing (keeping S.stands S.is_true S.is_due) host.now place self.now acting → OnOk result (string_bytes printed.new ≡ string_bytes printed.old ++ (restarts acting).printed) }
     {
         let name = self.name.as_str();
         print_out(printed, name, &self.errands)?;

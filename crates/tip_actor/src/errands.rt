@@ -7,28 +7,30 @@ ghost use Rattle.tip_machine.specs.Returns.{event_of};
 ghost use Rattle.tip_branch.specs.Always.{Always};
 ghost use Rattle.tip_actor.specs.Acting.{Acting, drops_from, goes_for};
 ghost use Rattle.tip_actor.specs.Promises.{answers_of, are_foretold, is_promised};
-ghost use Rattle.tip_actor.specs.Standing.{IsActing, IsDone, Tells};
+ghost use Rattle.tip_actor.specs.Standing.{IsActing, IsDone, Tells, keeping};
 
 use crate::actor::Actor;
+use crate::fault::ActFault;
 use std::alloc::{AllocError, Global};
 use tip_branch::{Errand, HeldParty, Member, Plan};
 use tip_host::{Host, done};
 use tip_machine::Event;
-use tip_rows::MemRows;
+use tip_rows::RowLog;
 use tip_transcript::{print_drops, print_idle};
 
 impl Actor<HeldParty> {
     /// The realm's oldest errand is done, and its party comes back. It says whether that can be told in a script, where each branch
     /// has promised what it answers.
-    pub fn go(
+    pub fn go<S: RowLog>(
         &mut self,
         alloc: Global,
-        host: &mut Host<MemRows>,
+        host: &mut Host<S>,
         place: usize,
         printed: &mut String,
-    ) -> Result<bool, AllocError>
+    ) -> Result<bool, ActFault>
         requires { Always }
-        ensures { (acting : Acting) → IsActing host.old place self.old acting → IfOk result (λ told. Tells host.old host.new place self.old self.new (string_bytes printed.old) (string_bytes printed.new) told (goes_for acting.world.errands acting)) }
+        ensures truth { S.is_true host.new.store → S.is_true host.old.store }
+        ensures tells { (acting : Acting) → IsActing (keeping S.stands S.is_true S.is_due) host.old place self.old acting → IfOk result (λ told. Tells (keeping S.stands S.is_true S.is_due) host.old host.new place self.old self.new (string_bytes printed.old) (string_bytes printed.new) told (goes_for acting.world.errands acting)) }
     {
         let Some(party) = self.errands.pop_front() else {
             print_idle(printed, self.name.as_str())?;
@@ -42,14 +44,14 @@ impl Actor<HeldParty> {
     }
 
     /// The realm's oldest errand is lost.
-    pub fn lose(
+    pub fn lose<S: RowLog>(
         &mut self,
-        host: &Host<MemRows>,
+        host: &Host<S>,
         place: usize,
         printed: &mut String,
     ) -> Result<(), AllocError>
         requires { Always }
-        ensures { (acting : Acting) → IsActing host.now place self.old acting → OnOk result (IsDone host.now host.now place self.old self.new (string_bytes printed.old) (string_bytes printed.new) (drops_from acting.world.errands acting)) }
+        ensures { (acting : Acting) → IsActing (keeping S.stands S.is_true S.is_due) host.now place self.old acting → OnOk result (IsDone (keeping S.stands S.is_true S.is_due) host.now host.now place self.old self.new (string_bytes printed.old) (string_bytes printed.new) (drops_from acting.world.errands acting)) }
     {
         match self.errands.pop_front() {
             Some(party) => print_drops(printed, self.name.as_str(), &party),

@@ -5,10 +5,14 @@ mod actor;
 mod connections;
 mod ending;
 mod errands;
+mod fault;
 mod lines;
 mod reader;
+mod refusing;
 mod scripted;
 
 pub use actor::Actor;
 pub use ending::print_here;
+pub use fault::ActFault;
+pub use refusing::{ByItself, ByScript, Refuser};
 pub use scripted::Scripted;

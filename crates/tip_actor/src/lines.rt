@@ -4,28 +4,30 @@ ghost use Rattle.tip_core.specs.Hosted.{realm as realm_at};
 ghost use Rattle.tip_machine.specs.States.{State};
 ghost use Rattle.tip_branch.specs.Always.{Always};
 ghost use Rattle.tip_actor.specs.Acting.{Acting, Reading, count_of, takes};
-ghost use Rattle.tip_actor.specs.Standing.{Acts, Finds, GivesNext, Host as AHost, IsActing, IsReading};
+ghost use Rattle.tip_actor.specs.Standing.{Acts, Finds, GivesNext, IsActor, IsReading, keeping};
 
 use crate::actor::Actor;
+use crate::fault::ActFault;
 use crate::reader::Reader;
 use std::alloc::{AllocError, Global};
 use tip_branch::HeldParty;
 use tip_core::Core;
 use tip_host::Host;
 use tip_machine::Event;
-use tip_rows::MemRows;
+use tip_rows::RowLog;
 
 impl Actor<HeldParty> {
     /// Lines are taken, one after another, until none may be taken.
-    pub fn settle(
+    pub fn settle<S: RowLog>(
         &mut self,
         alloc: Global,
-        host: &mut Host<MemRows>,
+        host: &mut Host<S>,
         place: usize,
         printed: &mut String,
-    ) -> Result<(), AllocError>
+    ) -> Result<(), ActFault>
         requires { Always }
-        ensures { OnOk result (Acts host.old host.new place self.old self.new (string_bytes printed.old) (string_bytes printed.new) (λ acting. takes (count_of acting.readings) acting)) }
+        ensures truth { S.is_true host.new.store → S.is_true host.old.store }
+        ensures acts { OnOk result (Acts (keeping S.stands S.is_true S.is_due) host.old host.new place self.old self.new (string_bytes printed.old) (string_bytes printed.new) (λ acting. takes (count_of acting.readings) acting)) }
     {
         for _ in 0..u64::MAX {
             match self.next_line(alloc, &host.core, place)? {
@@ -34,7 +36,7 @@ impl Actor<HeldParty> {
             };
         }
         // no memory holds so many lines
-        Err(AllocError)
+        Err(ActFault::Memory)
     }
 
     /// The next line that may be taken, of the first connection that has one. It is taken out of its reader.
@@ -45,7 +47,7 @@ impl Actor<HeldParty> {
         place: usize,
     ) -> Result<Option<Event>, AllocError>
         requires { Always }
-        ensures { (host : AHost) (acting : Acting) → host.core ≡ core.now → IsActing host place self.old acting → IfOk result (Finds host place self.new acting) }
+        ensures { (acting : Acting) → realm_at core.now place ≡ Some acting.world.state → IsActor self.old acting → IfOk result (Finds self.new acting) }
     {
         for index in 0..self.readers.len() {
             if let Some(event) = next_on(&mut self.readers[index], alloc, core, place)? {

@@ -19,7 +19,7 @@ use Rattle.tip_scene.specs.Scenes.{Scene, does, elsewhere, is_named, moved, move
 use Rattle.tip_scene.specs.Acts.{Stage, Declaring, scene_of, starts_text}
 use Rattle.tip_scene.specs.declared.declared.Declaration.{Declaration}
 use Rattle.tip_script.specs.Scripts.{Move, realm_of}
-use Rattle.tip_play.specs.Transcripts.{Ending, Fault, Reached, act_of, played, played_on}
+use Rattle.tip_play.specs.Transcripts.{Ending, Fault, Reached, act_of, in_memory, played, played_on}
 use Rattle.tip_history.specs.Alone.{IsAlone, all_moved, and_then, concerns, is_spelled, own}
 use Rattle.tip_history.specs.Histories.{History, name_of}
 use Rattle.tip_history.specs.Sayings.{Line, Saying, Shows, are_spelled, line_text, lines_on, lines_text, saying_text, shown_of, shown_on}
@@ -416,24 +416,24 @@ alone_on text (move ∷ moves) scene next spelled mixed goes = at (moved move sc
 
 -- The realms that a script declares
 
-reached : (text : List ℕ) (stage next : Stage) (number : ℕ) (lines : List (List ℕ)) → Stands text stage → (played stage number lines).ending ≡ Reached next → Stands (text ++ (played stage number lines).printed) next
+reached : (text : List ℕ) (stage next : Stage) (number : ℕ) (lines : List (List ℕ)) → Stands text stage → (played in_memory stage number lines).ending ≡ Reached next → Stands (text ++ (played in_memory stage number lines).printed) next
 reached text stage next number [] stands is = subst (Stands (text ++ [])) (same_Reached stage next is) (subst (λ t. Stands t stage) (sym (append-nil text)) stands) where
   same_Reached : (a b : Stage) → Reached a ≡ Reached b → a ≡ b
   same_Reached a b same = ap stage_of same where
     stage_of : Ending → Stage
     stage_of (Reached s) = s
     stage_of (Fault n) = a
-reached text stage next number (line ∷ lines) stands is = at (act_of stage line).stage refl is (λ mid on. reached (text ++ (act_of stage line).printed) mid next (number + 1) lines on) where
+reached text stage next number (line ∷ lines) stands is = at (act_of in_memory stage line).stage refl is (λ mid on. reached (text ++ (act_of in_memory stage line).printed) mid next (number + 1) lines on) where
   here : List ℕ
-  here = (act_of stage line).printed
+  here = (act_of in_memory stage line).printed
 
-  at : (mid : Option Stage) → (act_of stage line).stage ≡ mid → (played_on here mid number (λ later. played later (number + 1) lines)).ending ≡ Reached next → ((later : Stage) → Stands (text ++ here) later → (played later (number + 1) lines).ending ≡ Reached next → Stands ((text ++ here) ++ (played later (number + 1) lines).printed) next) → Stands (text ++ (played_on here mid number (λ later. played later (number + 1) lines)).printed) next
+  at : (mid : Option Stage) → (act_of in_memory stage line).stage ≡ mid → (played_on here mid number (λ later. played in_memory later (number + 1) lines)).ending ≡ Reached next → ((later : Stage) → Stands (text ++ here) later → (played in_memory later (number + 1) lines).ending ≡ Reached next → Stands ((text ++ here) ++ (played in_memory later (number + 1) lines).printed) next) → Stands (text ++ (played_on here mid number (λ later. played in_memory later (number + 1) lines)).printed) next
   at None was is more = absurd (fault_is_not is) where
     fault_is_not : Fault number ≡ Reached next → ⊥
     fault_is_not same = absurd (cc)
-  at (Some mid) was is more = subst (λ t. Stands t next) (append_assoc text here (played mid (number + 1) lines).printed) (more mid ((line_so text stage line stands).on mid was) is)
+  at (Some mid) was is more = subst (λ t. Stands t next) (append_assoc text here (played in_memory mid (number + 1) lines).printed) (more mid ((line_so text stage line stands).on mid was) is)
 
-pub each_alone : (lines : List (List ℕ)) (declarations : List Declaration) (moves : List Move) (next : Scene) → (played (Declaring []) 1 lines).ending ≡ Reached (Declaring declarations) → list_all is_spelled moves ≡ true → (all_moved moves (scene_of declarations)).scene ≡ Some next → IsAlone moves (scene_of declarations) next (all_moved moves (scene_of declarations)).printed
+pub each_alone : (lines : List (List ℕ)) (declarations : List Declaration) (moves : List Move) (next : Scene) → (played in_memory (Declaring []) 1 lines).ending ≡ Reached (Declaring declarations) → list_all is_spelled moves ≡ true → (all_moved moves (scene_of in_memory declarations)).scene ≡ Some next → IsAlone moves (scene_of in_memory declarations) next (all_moved moves (scene_of in_memory declarations)).printed
 each_alone lines declarations moves next declares spelled goes =
     let stands = reached [] (Declaring []) (Declaring declarations) 1 lines nothing_yet declares in
-    alone_on (starts_text declarations) moves (scene_of declarations) next spelled (started declarations stands.0) goes
+    alone_on (starts_text in_memory declarations) moves (scene_of in_memory declarations) next spelled (started declarations stands.0) goes

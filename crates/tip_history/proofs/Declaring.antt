@@ -16,10 +16,11 @@ use Rattle.tip_machine.specs.Invariants.Links.{are_distinct}
 use Rattle.tip_machine.specs.Starting.{are_counted_from, are_declared, is_starting}
 use Rattle.tip_machine.specs.declared.head.Limits.{Limits}
 use Rattle.tip_scene.specs.Acts.{are_labels, declaration_of, declared, first_branches, is_count, is_declared, is_other, labelled, labelled_at, may_be_declared, may_be_labelled, numbered, start_of, with_labels}
+use Rattle.tip_play.specs.Transcripts.{in_memory}
 use Rattle.tip_scene.specs.declared.declared.Declaration.{Declaration}
 
 abbrev pub can_be : Declaration → Bool
-can_be declaration = is_starting (starting (start_of declaration))
+can_be declaration = is_starting (starting (start_of (in_memory.before declaration.name) declaration))
 
 abbrev pub names : List Declaration → List (List ℕ)
 names declarations = map (λ declaration. declaration.name) declarations

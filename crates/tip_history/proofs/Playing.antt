@@ -16,14 +16,15 @@ use Rattle.tip_machine.specs.Invariants.Links.{are_distinct}
 use Rattle.tip_machine.specs.Moves.{fresh}
 use Rattle.tip_machine.proofs.Begun.{fresh_starts}
 use Rattle.tip_actor.specs.Acting.{Acting, Done, is_at_end, opening_text, restarts, settles}
-use Rattle.tip_scene.specs.Acts.{Acted, Stage, Declaring, Playing, acted, acts, acts_if, closing_of, declared, first_acts, labelled, scene_of, start_of, starts_text}
+use Rattle.tip_scene.specs.Acts as Stages
+use Rattle.tip_scene.specs.Acts.{Acted, Stage, Declaring, Playing, acted, acts, acts_if, closing_of, declared, first_acts, labelled, may_say, scene_of, start_of, starts_text}
 use Rattle.tip_scene.specs.Scenes as scenes
 use Rattle.tip_scene.specs.Scenes.{Scene, does, elsewhere, moved, moved_at, moved_in, openings_text, place_of, with_done, with_text}
 use Rattle.tip_scene.specs.declared.declared.Declaration.{Declaration}
 use Rattle.tip_script.specs.Scripts as Script
 use Rattle.tip_script.specs.Scripts.{move_of, realm_of}
 use Rattle.script_lines.specs.Lines.{longest_line}
-use Rattle.tip_play.specs.Transcripts.{Played, Transcribes, act_of, closing_text, ended, lines_of, played, played_of, played_on, transcript}
+use Rattle.tip_play.specs.Transcripts.{Played, Transcribes, in_memory, act_of, closing_text, ended, lines_of, played, played_of, played_on, transcript}
 use Rattle.tip_play.specs.declared.fault.PlayFault.{PlayFault}
 use Rattle.tip_play.specs.declared.fault.PlayFault.TheVariants as fault
 use Rattle.tip_history.specs.Histories.{History, IsTold, Tells}
@@ -69,20 +70,20 @@ opened text scene mixed = subst (λ t. Mixed (text ++ t) scene) (sym (openings_a
 
 -- each has a history that begins
 abbrev began : Declaration → History
-began declaration = record { start = fresh (starting (start_of declaration)); moves = [] }
+began declaration = record { start = fresh (starting (start_of (in_memory.before declaration.name) declaration)); moves = [] }
 
-begun : (declarations : List Declaration) → list_all can_be declarations ≡ true → AreOf [] (map began declarations) (scene_of declarations)
+begun : (declarations : List Declaration) → list_all can_be declarations ≡ true → AreOf [] (map began declarations) (scene_of in_memory declarations)
 begun [] can = tt
 begun (d ∷ declarations) can =
     let parts = and_parts (can_be d) (list_all can_be declarations) can in
-    (record { start = fresh_starts (starting (start_of d)) parts.0; empty = refl; run = refl; shown = refl; led = refl; named = refl }, begun declarations parts.1)
+    (record { start = fresh_starts (starting (start_of (in_memory.before d.name) d)) parts.0; empty = refl; run = refl; shown = refl; led = refl; named = refl }, begun declarations parts.1)
 
 names_began : (declarations : List Declaration) → names_of (map began declarations) ≡ names declarations
 names_began [] = refl
 names_began (d ∷ declarations) = ap (λ l. d.name ∷ l) (names_began declarations)
 
-pub started : (declarations : List Declaration) → AreDeclared declarations → Mixed (starts_text declarations) (scene_of declarations)
-started declarations are = opened [] (scene_of declarations) (record {
+pub started : (declarations : List Declaration) → AreDeclared declarations → Mixed (starts_text in_memory declarations) (scene_of in_memory declarations)
+started declarations are = opened [] (scene_of in_memory declarations) (record {
   lines = [];
   text_is = refl;
   spelled = refl;
@@ -238,8 +239,8 @@ acts_by text before scene move spelled mixed =
           subst IsTold (sym (append-nil (text ++ before)) ∙ ap (λ t. (text ++ before) ++ t) (sym nothing) ∙ joined) (told (text ++ before) scene mixed);
     }
 
-first : (text : List ℕ) (declarations : List Declaration) (move : Script.Move) → is_spelled move ≡ true → Stands text (Declaring declarations) → Acts text (first_acts declarations move)
-first text declarations move spelled stands = acts_by text (starts_text declarations) (scene_of declarations) move spelled (subst (λ t. Mixed (t ++ starts_text declarations) (scene_of declarations)) (sym stands.1) (started declarations stands.0))
+first : (text : List ℕ) (declarations : List Declaration) (move : Script.Move) → is_spelled move ≡ true → Stands text (Declaring declarations) → Acts text (first_acts in_memory declarations move)
+first text declarations move spelled stands = acts_by text (starts_text in_memory declarations) (scene_of in_memory declarations) move spelled (subst (λ t. Mixed (t ++ starts_text in_memory declarations) (scene_of in_memory declarations)) (sym stands.1) (started declarations stands.0))
 
 declares : (text : List ℕ) (more : Option (List Declaration)) → text ≡ [] → ((next : List Declaration) → more ≡ Some next → AreDeclared next) → Acts text (record { printed = []; stage = option_map Declaring more })
 declares text None empty are = record { on = λ next is. absurd (none-some next is); ends = λ none. subst IsTold (sym (append-nil text ∙ empty)) told_nothing }
@@ -248,7 +249,7 @@ declares text (Some more) empty are = record {
   ends = λ none. absurd (none-some (Declaring more) (sym none));
 }
 
-acts_so : (text : List ℕ) (stage : Stage) (move : Script.Move) → is_spelled move ≡ true → Stands text stage → Acts text (acts stage move)
+acts_so : (text : List ℕ) (stage : Stage) (move : Script.Move) → is_spelled move ≡ true → Stands text stage → Acts text (acts in_memory stage move)
 acts_so text (Declaring ds) (Script.Declare name address branches limits) spelled stands = declares text (declared name address branches limits ds) stands.1 (λ next is. one_more name address branches limits ds next stands.0 is)
 acts_so text (Declaring ds) (Script.Label realm labels) spelled stands = declares text (labelled realm labels ds) stands.1 (λ next is. with_names realm labels ds next stands.0 is)
 acts_so text (Declaring ds) (Script.Open realm plans) spelled stands = first text ds (Script.Open realm plans) spelled stands
@@ -272,60 +273,78 @@ told_of text (Playing scene) stands = told text scene stands
 not_understood : (text : List ℕ) (stage : Stage) → Stands text stage → Acts text (record { printed = []; stage = None })
 not_understood text stage stands = record { on = λ next is. absurd (none-some next is); ends = λ none. subst IsTold (sym (append-nil text)) (told_of text stage stands) }
 
-acts_if_so : (text : List ℕ) (stage : Stage) (move : Option Script.Move) → ((m : Script.Move) → move ≡ Some m → is_spelled m ≡ true) → Stands text stage → Acts text (acts_if stage move)
-acts_if_so text stage None spelled stands = not_understood text stage stands
-acts_if_so text stage (Some move) spelled stands = acts_so text stage move (spelled move refl) stands
+-- of rows in memory a refusal can be asked for
+all_said : (move : Script.Move) → may_say true move ≡ true
+all_said (Script.Declare name address branches limits) = refl
+all_said (Script.Label realm labels) = refl
+all_said (Script.Open realm plans) = refl
+all_said (Script.Dial realm address plans purpose) = refl
+all_said (Script.Feed realm connection octets) = refl
+all_said (Script.Lose realm connection) = refl
+all_said (Script.Push realm connection id) = refl
+all_said (Script.Pull realm connection superior) = refl
+all_said (Script.Go realm) = refl
+all_said (Script.Drop realm) = refl
+all_said (Script.Resume realm id) = refl
+all_said (Script.Refuse realm) = refl
+all_said (Script.Renew realm) = refl
+all_said Script.Restart = refl
 
-acted_so : (text : List ℕ) (stage : Stage) (line : List ℕ) → Stands text stage → Acts text (acted stage line)
+acts_if_so : (text : List ℕ) (stage : Stage) (move : Option Script.Move) → ((m : Script.Move) → move ≡ Some m → is_spelled m ≡ true) → Stands text stage → Acts text (acts_if in_memory stage move)
+acts_if_so text stage None spelled stands = not_understood text stage stands
+acts_if_so text stage (Some move) spelled stands = subst (λ b. Acts text (cond b (acts in_memory stage move) Stages.not_understood)) (sym (all_said move)) (acts_so text stage move (spelled move refl) stands)
+
+acted_so : (text : List ℕ) (stage : Stage) (line : List ℕ) → Stands text stage → Acts text (acted in_memory stage line)
 acted_so text stage [] stands = record {
   on = λ next is. subst (Stands (text ++ [])) (same_Some stage next is) (subst (λ t. Stands t stage) (sym (append-nil text)) stands);
   ends = λ none. absurd (none-some stage (sym none));
 }
 acted_so text stage (octet ∷ line) stands = acts_if_so text stage (move_of (octet ∷ line)) (spelled_move (octet ∷ line)) stands
 
-pub line_so : (text : List ℕ) (stage : Stage) (line : List ℕ) → Stands text stage → Acts text (act_of stage line)
+pub line_so : (text : List ℕ) (stage : Stage) (line : List ℕ) → Stands text stage → Acts text (act_of in_memory stage line)
 line_so text stage line stands = at (nat_le (length line) longest_line) where
-  at : (fits : Bool) → Acts text (cond fits (acted stage line) (record { printed = []; stage = None }))
+  at : (fits : Bool) → Acts text (cond fits (acted in_memory stage line) (record { printed = []; stage = None }))
   at true = acted_so text stage line stands
   at false = not_understood text stage stands
 
 -- Lines
 
-closes : (text : List ℕ) (stage : Stage) → Stands text stage → IsTold (text ++ closing_of stage)
-closes text (Declaring ds) stands = told (text ++ starts_text ds) (scene_of ds) (subst (λ t. Mixed (t ++ starts_text ds) (scene_of ds)) (sym stands.1) (started ds stands.0))
+closes : (text : List ℕ) (stage : Stage) → Stands text stage → IsTold (text ++ closing_of in_memory stage)
+closes text (Declaring ds) stands = told (text ++ starts_text in_memory ds) (scene_of in_memory ds) (subst (λ t. Mixed (t ++ starts_text in_memory ds) (scene_of in_memory ds)) (sym stands.1) (started ds stands.0))
 closes text (Playing scene) stands = subst IsTold (sym (append-nil text)) (told text scene stands)
 
 abbrev all_of : Played → List ℕ
-all_of done = done.printed ++ closing_text done.ending
+all_of done = done.printed ++ closing_text in_memory done.ending
 
-pub told_played : (text : List ℕ) (stage : Stage) (number : ℕ) (lines : List (List ℕ)) → Stands text stage → IsTold (text ++ all_of (played stage number lines))
+pub told_played : (text : List ℕ) (stage : Stage) (number : ℕ) (lines : List (List ℕ)) → Stands text stage → IsTold (text ++ all_of (played in_memory stage number lines))
 told_played text stage number [] stands = closes text stage stands
-told_played text stage number (line ∷ lines) stands = at (act_of stage line).stage refl (λ next on. told_played (text ++ (act_of stage line).printed) next (number + 1) lines on) where
+told_played text stage number (line ∷ lines) stands = at (act_of in_memory stage line).stage refl (λ next on. told_played (text ++ (act_of in_memory stage line).printed) next (number + 1) lines on) where
   here : List ℕ
-  here = (act_of stage line).printed
+  here = (act_of in_memory stage line).printed
 
-  at : (next : Option Stage) → (act_of stage line).stage ≡ next → ((later : Stage) → Stands (text ++ here) later → IsTold ((text ++ here) ++ all_of (played later (number + 1) lines))) → IsTold (text ++ all_of (played_on here next number (λ later. played later (number + 1) lines)))
+  at : (next : Option Stage) → (act_of in_memory stage line).stage ≡ next → ((later : Stage) → Stands (text ++ here) later → IsTold ((text ++ here) ++ all_of (played in_memory later (number + 1) lines))) → IsTold (text ++ all_of (played_on here next number (λ later. played in_memory later (number + 1) lines)))
   at None is more = subst (λ t. IsTold (text ++ t)) (sym (append-nil here)) ((line_so text stage line stands).ends is)
   at (Some next) is more =
-      let rest = played next (number + 1) lines in
-      subst IsTold (append_assoc text here (all_of rest) ∙ ap (λ t. text ++ t) (sym (append_assoc here rest.printed (closing_text rest.ending))))
+      let rest = played in_memory next (number + 1) lines in
+      subst IsTold (append_assoc text here (all_of rest) ∙ ap (λ t. text ++ t) (sym (append_assoc here rest.printed (closing_text in_memory rest.ending))))
       (more next ((line_so text stage line stands).on next is))
 
 pub nothing_yet : Stands [] (Declaring [])
 nothing_yet = (record { each = refl; named = refl }, refl)
 
-pub told_script : (script : List ℕ) → IsTold (transcript script)
+pub told_script : (script : List ℕ) → IsTold (transcript in_memory script)
 told_script script = told_played [] (Declaring []) 1 (lines_of script) nothing_yet
 
 -- What was written
 
-pub tells : (script : List ℕ) (rest old new : Option (List ℕ)) (result : Result (Unit {0}) PlayFault) → Transcribes script rest old new result → Tells old new
-tells script rest old new (Ok done) is = record { front = transcript script; later = []; told = subst IsTold (sym (append-nil (transcript script))) (told_script script); written = is.1 }
-tells script rest old new (Err (fault.Script line)) is = record { front = transcript script; later = []; told = subst IsTold (sym (append-nil (transcript script))) (told_script script); written = is.1 }
-tells script rest old new (Err fault.Read) is = record { front = (played_of is.read).printed; later = closing_text (played_of is.read).ending; told = told_played [] (Declaring []) 1 (ended is.read) nothing_yet; written = is.written }
+pub tells : (script : List ℕ) (rest old new : Option (List ℕ)) (result : Result (Unit {0}) PlayFault) → Transcribes in_memory script rest old new result → Tells old new
+tells script rest old new (Ok done) is = record { front = transcript in_memory script; later = []; told = subst IsTold (sym (append-nil (transcript in_memory script))) (told_script script); written = is.1 }
+tells script rest old new (Err (fault.Script line)) is = record { front = transcript in_memory script; later = []; told = subst IsTold (sym (append-nil (transcript in_memory script))) (told_script script); written = is.1 }
+tells script rest old new (Err fault.Read) is = record { front = (played_of in_memory is.read).printed; later = closing_text in_memory (played_of in_memory is.read).ending; told = told_played [] (Declaring []) 1 (ended is.read) nothing_yet; written = is.written }
 tells script rest old new (Err fault.Write) is = record { front = is.front; later = is.later; told = subst IsTold is.whole (told_script script); written = is.written }
 tells script rest old new (Err fault.Memory) is = record { front = is.front; later = is.later; told = subst IsTold is.whole (told_script script); written = is.written }
+tells script rest old new (Err fault.Store) is = record { front = is.front; later = is.later; told = subst IsTold is.whole (told_script script); written = is.written }
 
-pub tells_if : (script rest old new : Option (List ℕ)) (result : Result (Unit {0}) PlayFault) → IfSome script (λ s. Transcribes s rest old new result) → IfSome script (λ s. Tells old new)
+pub tells_if : (script rest old new : Option (List ℕ)) (result : Result (Unit {0}) PlayFault) → IfSome script (λ s. Transcribes in_memory s rest old new result) → IfSome script (λ s. Tells old new)
 tells_if None rest old new result is = tt
 tells_if (Some script) rest old new result is = tells script rest old new result is

@@ -1,6 +1,6 @@
 //! Playing a script.
 ghost use Rattle.std.specs.Prelude.{IfSome};
-ghost use Rattle.tip_play.specs.Transcripts.{Transcribes};
+ghost use Rattle.tip_play.specs.Transcripts.{Transcribes, in_memory};
 ghost use Rattle.tip_history.specs.Histories.{Tells};
 
 use std::alloc::Global;
@@ -14,7 +14,7 @@ pub fn play<R: BufRead, W: Write>(
     input: &mut R,
     output: &mut W,
 ) -> Result<(), PlayFault>
-    ensures transcribes { IfSome (R.remaining input.old) (λ script. Transcribes script (R.remaining input.new) (W.contents output.old) (W.contents output.new) result) }
+    ensures transcribes { IfSome (R.remaining input.old) (λ script. Transcribes in_memory script (R.remaining input.new) (W.contents output.old) (W.contents output.new) result) }
     ensures tells { IfSome (R.remaining input.old) (λ script. Tells (W.contents output.old) (W.contents output.new)) }
 {
     tip_play::play(alloc, input, output)

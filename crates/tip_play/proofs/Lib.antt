@@ -3,3 +3,4 @@ pub mod Cutting
 pub mod Transcribing
 pub mod Lines
 pub mod Reading
+pub mod Ending

@@ -1,3 +1,4 @@
 pub mod Faults
+pub mod Endings
 pub mod Transcripts
 pub mod Writing

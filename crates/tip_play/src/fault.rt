@@ -5,6 +5,7 @@ ghost use Rattle.tip_play.specs.Faults.{status_of};
 use script_lines::LineFault;
 use std::alloc::{AllocError, AllocFailed};
 use thiserror::Error;
+use tip_actor::ActFault;
 use tip_writing::WriteFault;
 
 /// Why a script was not played to its end. What was written before stands.
@@ -19,6 +20,9 @@ pub enum PlayFault {
     Write,
     #[error("out of memory")]
     Memory,
+    /// The store refused to start the realms, or a change of their rows.
+    #[error("store refused")]
+    Store,
 }
 
 impl PlayFault {
@@ -28,7 +32,7 @@ impl PlayFault {
     {
         match self {
             PlayFault::Script { .. } => 2,
-            PlayFault::Read | PlayFault::Write | PlayFault::Memory => 1,
+            PlayFault::Read | PlayFault::Write | PlayFault::Memory | PlayFault::Store => 1,
         }
     }
 }
@@ -73,5 +77,18 @@ impl From<WriteFault> for PlayFault {
 
     fn from(_: WriteFault) -> PlayFault {
         PlayFault::Write
+    }
+}
+
+impl From<ActFault> for PlayFault {
+    ghost use Rattle.tip_play.specs.Faults.{of_act_fault};
+
+    ghost from_gives = { λ fault result. result ≡ of_act_fault fault };
+
+    fn from(fault: ActFault) -> PlayFault {
+        match fault {
+            ActFault::Memory => PlayFault::Memory,
+            ActFault::Store => PlayFault::Store,
+        }
     }
 }

@@ -5,4 +5,4 @@ mod fault;
 mod player;
 
 pub use fault::PlayFault;
-pub use player::play;
+pub use player::{play, play_on};

@@ -1,71 +1,190 @@
 //! Playing a script.
 ghost use Rattle.std.specs.Prelude.{◌≡◌, ◌≢◌, true, false, map, IfSome};
 ghost use Rattle.script_lines.specs.declared.line.LineEnd.TheVariants.{EndOfInput, TooLong};
+ghost use Rattle.tip_actor.specs.Standing.{keeping};
 ghost use Rattle.tip_script.specs.Scripts.{move_of};
-ghost use Rattle.tip_scene.specs.Acts.{Stage as AStage, acted, closing_of};
-ghost use Rattle.tip_scene.specs.Stages.{ComeWith, IsStage};
-ghost use Rattle.tip_play.specs.Transcripts.{Transcribes};
-ghost use Rattle.tip_play.specs.Writing.{Acts, Closes};
+ghost use Rattle.tip_scene.specs.Acts.{Basis, Stage as AStage, acted, closing_of};
+ghost use Rattle.tip_scene.specs.Stages.{ComeWith, IsBasis, IsStage, Trusts, store_of};
+ghost use Rattle.tip_play.specs.Endings.{ended, unflushed};
+ghost use Rattle.tip_play.specs.Transcripts.{Transcribes, TranscribesOn, in_memory};
+ghost use Rattle.tip_play.specs.Writing.{ActsOn, ClosesOn, HasCome};
 
 use crate::fault::PlayFault;
 use script_lines::{LineEnd, ScriptLine};
 use std::alloc::Global;
 use std::io::{BufRead, Write};
-use tip_actor::Scripted;
-use tip_branch::Branch;
+use tip_actor::{ByItself, ByScript, Refuser, Scripted};
+use tip_branch::{Branch, Phase, Plan};
 use tip_core::Core;
-use tip_scene::{LineFault, Stage, are_of};
+use tip_host::Host;
+use tip_rows::{MemRows, RowLog};
+use tip_scene::{Declared, LineFault, Playing, Stage, Wanted, are_of};
 use tip_script::plan_of;
 use tip_writing::write_front;
 
-/// Plays the script that is read, and writes what each realm answers. What was written stands, whatever the end is.
+/// Plays the script that is read, over rows in memory, and writes what each realm answers. What was written stands, whatever the end
+/// is.
 pub fn play<R: BufRead, W: Write>(
     alloc: Global,
     input: &mut R,
     output: &mut W,
 ) -> Result<(), PlayFault>
-    ensures { IfSome (R.remaining input.old) (λ script. Transcribes script (R.remaining input.new) (W.contents output.old) (W.contents output.new) result) }
+    ensures { IfSome (R.remaining input.old) (λ script. Transcribes in_memory script (R.remaining input.new) (W.contents output.old) (W.contents output.new) result) }
 {
-    let end = play_lines(alloc, input, output);
-    match (end, output.flush()) {
-        (Ok(()) | Err(PlayFault::Script { .. }), Err(_)) => Err(PlayFault::Write),
-        (end, _) => end,
+    ended(play_over(alloc, MemRows::new(alloc), &ByScript, input, output))
+}
+
+/// How a script over rows in memory has ended: where these refuse and were not asked to, memory has ended.
+fn ended(end: Result<MemRows, (PlayFault, Option<MemRows>)>) -> Result<(), PlayFault>
+    ensures { result ≡ ended end }
+{
+    match end {
+        Ok(_) => Ok(()),
+        Err((PlayFault::Store, _)) => Err(PlayFault::Memory),
+        Err((fault, _)) => Err(fault),
     }
 }
 
-/// Reads to the end, line by line. The boxes that come with a line are made here.
-fn play_lines<R: BufRead, W: Write>(
+/// Plays the script that is read, over a store of any kind, which refuses of itself alone: no line may ask it to. The store comes
+/// back, but where memory ends in a start. What was written stands, whatever the end is.
+pub fn play_on<S: RowLog + Drop, R: BufRead, W: Write>(
     alloc: Global,
+    store: S,
     input: &mut R,
     output: &mut W,
-) -> Result<(), PlayFault>
-    ensures { IfSome (R.remaining input.old) (λ script. Transcribes script (R.remaining input.new) (W.contents output.old) (W.contents output.new) result) }
+) -> Result<S, (PlayFault, Option<S>)>
+    ensures truth { Trusts (keeping S.stands S.is_true S.is_due) store (λ left. left) result }
+    ensures transcribes { (basis : Basis) → basis.may_refuse ≡ false → IsBasis (keeping S.stands S.is_true S.is_due) basis store →
+        IfSome (R.remaining input.old) (λ script. TranscribesOn (keeping S.stands S.is_true S.is_due) basis script (R.remaining input.new) (W.contents output.old) (W.contents output.new) result) }
 {
-    let mut line = ScriptLine::new(alloc)?;
+    play_over(alloc, store, &ByItself, input, output)
+}
+
+/// The same, where a script may ask the store to refuse, or may not.
+fn play_over<S: RowLog + Drop, F: Refuser<S>, R: BufRead, W: Write>(
+    alloc: Global,
+    store: S,
+    refuser: &F,
+    input: &mut R,
+    output: &mut W,
+) -> Result<S, (PlayFault, Option<S>)>
+    ensures truth { Trusts (keeping S.stands S.is_true S.is_due) store (λ left. left) result }
+    ensures transcribes { (basis : Basis) → basis.may_refuse ≡ F.may → IsBasis (keeping S.stands S.is_true S.is_due) basis store →
+        IfSome (R.remaining input.old) (λ script. TranscribesOn (keeping S.stands S.is_true S.is_due) basis script (R.remaining input.new) (W.contents output.old) (W.contents output.new) result) }
+{
+    let end = play_lines(alloc, store, refuser, input, output);
+    match output.flush() {
+        Ok(()) => end,
+        Err(_) => unflushed(end),
+    }
+}
+
+/// How a script has ended whose output was not flushed.
+fn unflushed<S: RowLog + Drop>(
+    end: Result<S, (PlayFault, Option<S>)>,
+) -> Result<S, (PlayFault, Option<S>)>
+    ensures { result ≡ unflushed end }
+{
+    match end {
+        Ok(store) => Err((PlayFault::Write, Some(store))),
+        Err((PlayFault::Script { .. }, store)) => Err((PlayFault::Write, store)),
+        Err(fault) => Err(fault),
+    }
+}
+
+/// Reads to the end, line by line. The boxes that come with a line, and those for the rows of realms that start, are made here.
+fn play_lines<S: RowLog + Drop, F: Refuser<S>, R: BufRead, W: Write>(
+    alloc: Global,
+    store: S,
+    refuser: &F,
+    input: &mut R,
+    output: &mut W,
+) -> Result<S, (PlayFault, Option<S>)>
+    ensures truth { Trusts (keeping S.stands S.is_true S.is_due) store (λ left. left) result }
+    ensures transcribes { (basis : Basis) → basis.may_refuse ≡ F.may → IsBasis (keeping S.stands S.is_true S.is_due) basis store →
+        IfSome (R.remaining input.old) (λ script. TranscribesOn (keeping S.stands S.is_true S.is_due) basis script (R.remaining input.new) (W.contents output.old) (W.contents output.new) result) }
+{
+    let Ok(mut line) = ScriptLine::new(alloc) else {
+        return Err((PlayFault::Memory, Some(store)));
+    };
     let mut printed = String::new(alloc);
-    let mut stage = Stage::new(alloc, Core::new(alloc));
+    let mut stage = Stage::new(alloc, Core::new(alloc), store);
+    let mut is_over = false;
     for number in 1..u64::MAX {
-        let end = line.read(input)?;
-        if is_too_long(end) {
-            return Err(PlayFault::Script { line: number });
+        let coming = match next(&mut stage, alloc, number, is_over, &mut line, input) {
+            Ok(coming) => coming,
+            Err(fault) => return Err((fault, Some(stage.shut()))),
+        };
+        let mut boxes: Vec<Box<dyn Branch + Send>> = Vec::new(alloc);
+        for kind in &coming.wanted.kinds {
+            if let Ok(branch) = Box::new(alloc, Scripted::new(plan_of(*kind), Phase::Active)) {
+                let _pushed = boxes.push(branch);
+            }
+        }
+        let mut pool: Vec<Box<dyn Branch + Send>> = Vec::new(alloc);
+        for _ in 0..coming.wanted.willing {
+            if let Ok(branch) = Box::new(alloc, Scripted::new(Plan::Yes, Phase::Ready)) {
+                let _pushed = pool.push(branch);
+            }
+        }
+        // where memory ended some are missing; else it never is so, but no clause follows what a box holds into a vector
+        if !are_of(&boxes, &coming.wanted.kinds) {
+            return Err((PlayFault::Memory, Some(stage.shut())));
+        }
+        if is_over {
+            return finish(stage, alloc, &mut pool, &mut printed, output);
         }
         let text = line.as_slice();
-        let wanted = stage.wanted(alloc, text)?;
-        let mut boxes: Vec<Box<dyn Branch + Send>> = Vec::new(alloc);
-        for kind in &wanted.kinds {
-            boxes.push(Box::new(alloc, Scripted::new(plan_of(*kind), wanted.phase))?)?;
-        }
-        // it never is so: no clause follows what a box holds into a vector, so they are looked at
-        if !are_of(&boxes, &wanted.kinds) {
-            return Err(PlayFault::Memory);
-        }
-        stage = act(stage, alloc, number, text, boxes, &mut printed, output)?;
-        if is_last(end) {
-            return finish(stage, alloc, &mut printed, output);
-        }
+        stage = act(
+            stage,
+            alloc,
+            refuser,
+            number,
+            text,
+            boxes,
+            &mut pool,
+            &mut printed,
+            output,
+        )?;
+        is_over = is_last(coming.end);
     }
     // no memory holds so many lines
-    Err(PlayFault::Memory)
+    Err((PlayFault::Memory, Some(stage.shut())))
+}
+
+/// What comes next: a line, or the end of the script, and the boxes that it wants.
+#[derive(Drop)]
+struct Coming {
+    end: LineEnd,
+    wanted: Wanted,
+}
+
+/// The next line that is read, or the end of the script where it was read to its end. The store is read, and stays as it is.
+fn next<S: RowLog + Drop, R: BufRead>(
+    stage: &mut Stage<Declared<S>, Playing<Host<S>>>,
+    alloc: Global,
+    number: u64,
+    is_over: bool,
+    line: &mut ScriptLine,
+    input: &mut R,
+) -> Result<Coming, PlayFault>
+    ensures truth { S.is_true (store_of stage.new) → S.is_true (store_of stage.old) }
+    ensures stands { (basis : Basis) (now : AStage) → IsStage (keeping S.stands S.is_true S.is_due) basis stage.old now → IsStage (keeping S.stands S.is_true S.is_due) basis stage.new now }
+    ensures coming { HasCome (R.remaining input.old) (R.remaining input.new) number is_over line.new.octets.items result }
+{
+    if is_over {
+        let willing = stage.wanted_at_start()?;
+        return Ok(Coming {
+            end: LineEnd::EndOfInput,
+            wanted: Wanted::of_rows(alloc, willing),
+        });
+    }
+    let end = line.read(input)?;
+    if is_too_long(end) {
+        return Err(PlayFault::Script { line: number });
+    }
+    let wanted = stage.wanted(alloc, line.as_slice())?;
+    Ok(Coming { end, wanted })
 }
 
 /// Whether a line is the last one.
@@ -91,41 +210,53 @@ fn is_too_long(end: LineEnd) -> bool
 }
 
 /// Does what a line says, and writes what it prints.
-fn act<W: Write>(
-    stage: Stage,
+fn act<S: RowLog + Drop, F: Refuser<S>, W: Write>(
+    stage: Stage<Declared<S>, Playing<Host<S>>>,
     alloc: Global,
+    refuser: &F,
     number: u64,
     line: &[u8],
     boxes: Vec<Box<dyn Branch + Send>>,
+    pool: &mut Vec<Box<dyn Branch + Send>>,
     printed: &mut String,
     output: &mut W,
-) -> Result<Stage, PlayFault>
-    ensures { (now : AStage) → IsStage stage now → ComeWith (move_of line.now) (map standing boxes.items) → Acts number (acted now line.now) (W.contents output.old) (W.contents output.new) result }
+) -> Result<Stage<Declared<S>, Playing<Host<S>>>, (PlayFault, Option<S>)>
+    ensures truth { Trusts (keeping S.stands S.is_true S.is_due) (store_of stage) store_of result }
+    ensures acts { (basis : Basis) (now : AStage) → basis.may_refuse ≡ F.may → IsStage (keeping S.stands S.is_true S.is_due) basis stage now → ComeWith (move_of line.now) (map standing boxes.items) →
+        ActsOn (keeping S.stands S.is_true S.is_due) basis number (acted basis now line.now) (W.contents output.old) (W.contents output.new) result }
 {
     printed.clear();
-    match stage.act(alloc, line, boxes, printed) {
-        Ok(stage) => {
-            write_front(output, printed.as_bytes())?;
-            Ok(stage)
-        }
-        Err(LineFault::NotUnderstood) => {
-            write_front(output, printed.as_bytes())?;
-            Err(PlayFault::Script { line: number })
-        }
-        Err(LineFault::Memory) => Err(PlayFault::Memory),
+    match stage.act(alloc, refuser, line, boxes, pool, printed) {
+        Ok(stage) => match write_front(output, printed.as_bytes()) {
+            Ok(()) => Ok(stage),
+            Err(_) => Err((PlayFault::Write, Some(stage.shut()))),
+        },
+        Err((LineFault::NotUnderstood, store)) => match write_front(output, printed.as_bytes()) {
+            Ok(()) => Err((PlayFault::Script { line: number }, store)),
+            Err(_) => Err((PlayFault::Write, store)),
+        },
+        Err((LineFault::Memory, store)) => Err((PlayFault::Memory, store)),
+        Err((LineFault::Store, store)) => Err((PlayFault::Store, store)),
     }
 }
 
 /// The script has ended: the realms start, if they have not.
-fn finish<W: Write>(
-    stage: Stage,
+fn finish<S: RowLog + Drop, W: Write>(
+    stage: Stage<Declared<S>, Playing<Host<S>>>,
     alloc: Global,
+    pool: &mut Vec<Box<dyn Branch + Send>>,
     printed: &mut String,
     output: &mut W,
-) -> Result<(), PlayFault>
-    ensures { (now : AStage) → IsStage stage now → Closes (closing_of now) (W.contents output.old) (W.contents output.new) result }
+) -> Result<S, (PlayFault, Option<S>)>
+    ensures truth { Trusts (keeping S.stands S.is_true S.is_due) (store_of stage) (λ store. store) result }
+    ensures closes { (basis : Basis) (now : AStage) → IsStage (keeping S.stands S.is_true S.is_due) basis stage now → ClosesOn (keeping S.stands S.is_true S.is_due) (closing_of basis now) (W.contents output.old) (W.contents output.new) result }
 {
     printed.clear();
-    stage.finish(alloc, printed)?;
-    Ok(write_front(output, printed.as_bytes())?)
+    match stage.finish(alloc, pool, printed) {
+        Ok(store) => match write_front(output, printed.as_bytes()) {
+            Ok(()) => Ok(store),
+            Err(_) => Err((PlayFault::Write, Some(store))),
+        },
+        Err((fault, store)) => Err((PlayFault::from(fault), store)),
+    }
 }

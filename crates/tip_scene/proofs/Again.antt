@@ -1,32 +1,29 @@
 -- Realms that start again over their rows.
-use Rattle.std.proofs.Common.{◌≡◌, ◌+◌, ◌++◌, ◌==◌, ℕ, zero, suc, true, false, List, [], ◌∷◌, Option, Some, None, append-nil, append_assoc, length, map, option_map, refl, sym, ap, arith, subst, ◌∙◌}
-use Rattle.std.specs.Prelude.{◌||◌, slice_get}
+use Rattle.std.proofs.Common.{◌≡◌, ◌++◌, ◌==◌, ℕ, zero, suc, true, false, List, [], ◌∷◌, Option, Some, None, append-nil, append_assoc, length, map, option_map, refl, sym, ap, arith, subst, ◌∙◌}
+use Rattle.std.specs.Prelude.{◌||◌, Bool, Ok, slice_get}
 use Rattle.std.specs.List.{flat_map, list_any}
 use Rattle.std.specs.Option.{option_map_or}
-use Rattle.std.proofs.lemmas.Bool.{or_parts}
 use Rattle.std.proofs.lemmas.Option.{none-some, same_Some}
 use Rattle.tip_branch.specs.declared.branch.Badge.{Badge}
 use Rattle.tip_core.specs.Hosted.{realm}
-use Rattle.tip_host.proofs.Parts.{rises}
 use Rattle.tip_host.specs.Loading as Host
+use Rattle.tip_host.specs.Loading.{Loads}
 use Rattle.tip_host.specs.Recovering.{Recovering, adopted_each}
 use Rattle.tip_host.specs.declared.realm_spec.RealmSpec.{RealmSpec}
 use Rattle.tip_machine.proofs.Storing.{each_found}
-use Rattle.tip_machine.specs.Heads.{starting}
 use Rattle.tip_machine.specs.Moves as Moves
 use Rattle.tip_machine.specs.Recovery.{Loaded, restarted}
-use Rattle.tip_machine.specs.States.{State, started}
+use Rattle.tip_machine.specs.States.{State}
 use Rattle.tip_machine.specs.declared.head.Head.{Head}
 use Rattle.tip_recovery.specs.Adopting.{Recovery, Unfinished, adopted_all, given, loaded, unadopted, with_boxes}
 use Rattle.tip_rows.specs.Keys.{Key}
-use Rattle.tip_rows.specs.Logs.{IsPart, is_rising, last_epoch, raised_number}
-use Rattle.tip_rows.specs.Memory.{Memory, is_due_in, log_of}
+use Rattle.tip_rows.specs.Logs.{Log, is_rising, last_epoch}
 use Rattle.tip_rows.specs.declared.row.Row.{Row}
 use Rattle.tip_actor.proofs.Lists.{partner}
 use Rattle.tip_actor.specs.Acting.{Acting, boxes_in, is_at_end, restarts, willing_boxes}
-use Rattle.tip_actor.specs.Standing.{Actor, Host as AHost, IsActing}
-use Rattle.tip_scene.proofs.Loaded.{IsLoaded, LoadsRows, beyond, loaded_at}
-use Rattle.tip_scene.specs.Rising.{AreAnew, AreNew, AreRising, IsAnew, IsNew, IsRising}
+use Rattle.tip_actor.specs.Standing.{Actor, Host as AHost, Keeping, keeping}
+use Rattle.tip_scene.proofs.Loaded.{beyond, loaded_at, waits}
+use Rattle.tip_scene.specs.Rising.{AreAgain, AreAnew, AreNew, AreRising, AreWaiting, IsAnew, IsNew, IsRising, IsWaiting}
 use Rattle.tip_scene.specs.Scenes as Scenes
 use Rattle.tip_scene.specs.Scenes.{Scene}
 use Rattle.tip_scene.specs.Standing.{IsMoved, IsScene}
@@ -89,53 +86,46 @@ none_mapped f (x ∷ xs) (suc place) none = none_mapped f xs place none
 abbrev pub after : Acting → Acting
 after acting = (restarts acting).acting
 
--- what a realm is that starts again, with willing boxes for its rows
-rises_again : (host : AHost) (store : Memory) (loaded_store : Recovering Memory) (place : ℕ) (actor : Actor) (acting : Acting) → store ≡ host.store → IsActing host place actor acting → is_at_end acting ≡ false →
-    IsLoaded store loaded_store place (Host.spec_of acting.world.state.head) acting.world.state.head.epoch acting.world.rows →
-    IsRising (record loaded_store { realms = adopted_each (map boxes_of_recovery loaded_store.realms) loaded_store.realms }) place (after acting)
-rises_again host store recovering place actor acting same is not_last loads =
-    let head = acting.world.state.head in
+-- a realm whose rows wait, with willing boxes for them
+adopts : {S : Type 0} (kept : Keeping S) (recovering : Recovering S) (place : ℕ) (acting : Acting) → IsWaiting kept recovering place acting → IsRising kept (record recovering { realms = adopted_each (map boxes_of_recovery recovering.realms) recovering.realms }) place acting
+adopts kept recovering place acting is =
     let rows = acting.world.rows in
-    let epoch : raised_number head.epoch ≡ head.epoch + 1 = rises (log_of host.store) head.name head.epoch rows is.rows is.served.known not_last in
-    let risen : loads.recovery.epoch ≡ head.epoch + 1 = loads.risen ∙ epoch in
-    let own_rows : loads.recovery.rows ≡ map (unadopted acting.name) rows = loads.unadopted_are ∙ ap (λ n. map (unadopted n) rows) is.named in
-    let own_boxes : boxes_of_recovery loads.recovery ≡ boxes_of_rows rows = ap (map (λ (row : Unfinished). willing_boxes row.row)) own_rows ∙ boxes_unadopted acting.name rows in
-    let adopted : adopted_all (boxes_of_recovery loads.recovery) loads.recovery.rows ≡ given with_boxes (boxes_of_rows rows) (map (unadopted acting.name) rows) = ap (λ b. adopted_all b loads.recovery.rows) own_boxes ∙ ap (adopted_all (boxes_of_rows rows)) own_rows in
+    let own_boxes : boxes_of_recovery is.recovery ≡ boxes_of_rows rows = ap (map (λ (row : Unfinished). willing_boxes row.row)) is.rows ∙ boxes_unadopted acting.name rows in
+    let adopted : adopted_all (boxes_of_recovery is.recovery) is.recovery.rows ≡ given with_boxes (boxes_of_rows rows) (map (unadopted acting.name) rows) = ap (λ b. adopted_all b is.recovery.rows) own_boxes ∙ ap (adopted_all (boxes_of_rows rows)) is.rows in
     record {
-      recovery = record loads.recovery { rows = adopted_all (boxes_of_recovery loads.recovery) loads.recovery.rows };
-      there = given_at (λ (lots : List (List Badge)) (recovery : Recovery). record recovery { rows = adopted_all lots recovery.rows }) (map boxes_of_recovery recovering.realms) recovering.realms place (boxes_of_recovery loads.recovery) loads.recovery (mapped_at boxes_of_recovery recovering.realms place loads.recovery loads.there) loads.there;
-      core = loads.core ∙ ap (λ e. Some (started (starting (Host.start_of (Host.spec_of head) e)))) risen;
-      state = ap (restarted (Moves.risen head)) (loads_same acting.name rows is.rows.rising ∙ sym (ap (map loaded) adopted));
-      epoch = risen;
+      recovery = record is.recovery { rows = adopted_all (boxes_of_recovery is.recovery) is.recovery.rows };
+      there = given_at (λ (lots : List (List Badge)) (recovery : Recovery). record recovery { rows = adopted_all lots recovery.rows }) (map boxes_of_recovery recovering.realms) recovering.realms place (boxes_of_recovery is.recovery) is.recovery (mapped_at boxes_of_recovery recovering.realms place is.recovery is.there) is.there;
+      core = is.core;
+      state = is.state ∙ ap (restarted acting.world.state.head) (loads_same acting.name rows is.stored.part.rising ∙ sym (ap (map loaded) adopted));
+      epoch = is.epoch;
       boxes = boxes_of_rows rows;
       rows = adopted;
-      part = subst (λ e. IsPart (log_of recovering.store) head.name e rows) epoch loads.part;
-      known = loads.known;
-      due = loads.due ∙ ap (λ s. is_due_in s head.name) same ∙ is.served.due_is;
+      stored = is.stored;
+      due = is.due;
       named = is.named;
     }
 
+pub all_adopt : {S : Type 0} (kept : Keeping S) (recovering : Recovering S) (scene : Scene) → AreWaiting kept recovering scene → AreRising kept (record recovering { realms = adopted_each (map boxes_of_recovery recovering.realms) recovering.realms }) scene
+all_adopt kept recovering scene are = record { each = λ place acting here. adopts kept recovering place acting (are.each place acting here); beyond = are.beyond }
+
 -- All realms
 
-none_at_end : (scene : Scene) (place : ℕ) (acting : Acting) → list_any is_at_end scene ≡ false → slice_get scene place ≡ Some acting → is_at_end acting ≡ false
-none_at_end [] place acting none here = absurd (none-some acting here)
-none_at_end (y ∷ scene) zero acting none here = subst (λ a. is_at_end a ≡ false) (same_Some y acting here) (or_parts (is_at_end y) (list_any is_at_end scene) none).0
-none_at_end (y ∷ scene) (suc place) acting none here = none_at_end scene place acting (or_parts (is_at_end y) (list_any is_at_end scene) none).1 here
-
-pub rise_again : (host : AHost) (actors : List Actor) (scene : Scene) (specs : List RealmSpec) (recovering : Recovering Memory) → IsScene host actors scene → list_any is_at_end scene ≡ false →
-    ((place : ℕ) → slice_get specs place ≡ option_map (λ (state : State). Host.spec_of state.head) (realm host.core place)) → LoadsRows specs host.store recovering →
-    AreRising (record recovering { realms = adopted_each (map boxes_of_recovery recovering.realms) recovering.realms }) (map after scene)
-rise_again host actors scene specs recovering is none specs_are loads = record {
+-- each realm was loaded again
+pub wait_again : {S : Type 0} (stands may_leave : S → Log → Type 0) (is_true : S → Type 0) (faults : S → ℕ) (is_due : S → List ℕ → Bool) (host : AHost S) (actors : List Actor) (scene : Scene) (specs : List RealmSpec) (recovering : Recovering S) → IsScene (keeping stands is_true is_due) host actors scene →
+    ((place : ℕ) → slice_get specs place ≡ option_map (λ (state : State). Host.spec_of state.head) (realm host.core place)) → Loads stands may_leave is_true faults is_due specs host.store (Ok recovering) → is_true recovering.store → AreWaiting (keeping stands is_true is_due) recovering (map after scene)
+wait_again stands may_leave is_true faults is_due host actors scene specs recovering is specs_are loads truth = record {
   each = λ place again here.
       let was = unmapped_at after scene place again here in
       let mate = partner scene actors place was.0 (sym is.count) was.1 in
       let acts = is.each place mate.0 was.0 mate.1 was.1 in
+      let head = was.0.world.state.head in
       let spec = specs_are place ∙ ap (option_map (λ (state : State). Host.spec_of state.head)) acts.served.state_is in
-      subst (IsRising (record recovering { realms = adopted_each (map boxes_of_recovery recovering.realms) recovering.realms }) place) (sym was.2)
-      (rises_again host host.store recovering place mate.0 was.0 refl acts (none_at_end scene place was.0 none was.1) (loaded_at specs host.store recovering loads place (Host.spec_of was.0.world.state.head) was.0.world.state.head.epoch was.0.world.rows spec acts.rows));
+      let loaded_ = loaded_at stands may_leave is_true faults is_due specs host.store recovering loads truth place (Host.spec_of head) acts.stored.log head.epoch was.0.world.rows spec acts.stored.stood acts.stored.part in
+      subst (IsWaiting (keeping stands is_true is_due) recovering place) (sym was.2)
+      (waits (keeping stands is_true is_due) host.store recovering place (Host.spec_of head) head.epoch was.0.world.rows was.0.name was.0.due [] loaded_ acts.named acts.served.due_is);
   beyond = λ place none.
       let nobody = is.beyond place (none_mapped after scene place none) in
-      beyond specs host.store recovering loads place (specs_are place ∙ ap (option_map (λ (state : State). Host.spec_of state.head)) nobody);
+      beyond stands may_leave is_true faults is_due specs host.store recovering loads place (specs_are place ∙ ap (option_map (λ (state : State). Host.spec_of state.head)) nobody);
 }
 
 -- nothing has come to any realm
@@ -157,8 +147,8 @@ all_anew (n ∷ news) [] scene are count same = absurd are
 all_anew (n ∷ news) (o ∷ olds) [] are count same = absurd (omega (arith, count))
 all_anew (n ∷ news) (o ∷ olds) (y ∷ scene) are count same = let own = same 0 o y refl refl in (anew_are_new n o y are.0 own.0 own.1, all_anew news olds scene are.1 (omega (arith, count)) (λ place. same (suc place)))
 
-pub new_again : (host : AHost) (news olds : List Actor) (scene : Scene) → IsScene host olds scene → AreAnew news olds → AreNew news (map after scene)
-new_again host news olds scene is are = all_anew news olds scene are is.count (λ place old acting o s. let acts = is.each place old acting o s in (acts.name, acts.due))
+pub new_again : {S : Type 0} (kept : Keeping S) (host : AHost S) (olds : List Actor) (scene : Scene) → IsScene kept host olds scene → AreAgain olds (map after scene)
+new_again kept host olds scene is = λ news are. all_anew news olds scene are is.count (λ place old acting o s. let acts = is.each place old acting o s in (acts.own.name, acts.own.due))
 
 -- The last epoch
 
@@ -168,13 +158,13 @@ same_lists [] (y ∷ ys) same = absurd (none-some y (same 0))
 same_lists (x ∷ xs) [] same = absurd (none-some x (sym (same 0)))
 same_lists (x ∷ xs) (y ∷ ys) same = ap (λ z. z ∷ xs) (same_Some x y (same 0)) ∙ ap (λ l. y ∷ l) (same_lists xs ys (λ place. same (suc place)))
 
-heads_at : (host : AHost) (actors : List Actor) (scene : Scene) → IsScene host actors scene → (place : ℕ) (found : Option Acting) → slice_get scene place ≡ found → option_map (λ (state : State). state.head) (realm host.core place) ≡ slice_get (map (λ (a : Acting). a.world.state.head) scene) place
-heads_at host actors scene is place None none = ap (option_map (λ (state : State). state.head)) (is.beyond place none) ∙ sym (none_of scene place none) where
+heads_at : {S : Type 0} (kept : Keeping S) (host : AHost S) (actors : List Actor) (scene : Scene) → IsScene kept host actors scene → (place : ℕ) (found : Option Acting) → slice_get scene place ≡ found → option_map (λ (state : State). state.head) (realm host.core place) ≡ slice_get (map (λ (a : Acting). a.world.state.head) scene) place
+heads_at kept host actors scene is place None none = ap (option_map (λ (state : State). state.head)) (is.beyond place none) ∙ sym (none_of scene place none) where
   none_of : (scene : Scene) (place : ℕ) → slice_get scene place ≡ None → slice_get (map (λ (a : Acting). a.world.state.head) scene) place ≡ None
   none_of [] place none = refl
   none_of (y ∷ scene) zero none = absurd (none-some y (sym none))
   none_of (y ∷ scene) (suc place) none = none_of scene place none
-heads_at host actors scene is place (Some acting) here =
+heads_at kept host actors scene is place (Some acting) here =
     let mate = partner scene actors place acting (sym is.count) here in
     ap (option_map (λ (state : State). state.head)) (is.each place mate.0 acting mate.1 here).served.state_is ∙ sym (mapped_at (λ (a : Acting). a.world.state.head) scene place acting here)
 
@@ -183,17 +173,17 @@ any_mapped [] = refl
 any_mapped (y ∷ scene) = ap (λ b. is_at_end y || b) (any_mapped scene)
 
 -- the heads tell whether a realm is in its last epoch
-pub any_at_end : (host : AHost) (actors : List Actor) (scene : Scene) (heads : List Head) → IsScene host actors scene → ((place : ℕ) → slice_get heads place ≡ option_map (λ (state : State). state.head) (realm host.core place)) → list_any (λ (head : Head). head.epoch == last_epoch) heads ≡ list_any is_at_end scene
-any_at_end host actors scene heads is heads_are =
-    ap (list_any (λ (head : Head). head.epoch == last_epoch)) (same_lists heads (map (λ (a : Acting). a.world.state.head) scene) (λ place. heads_are place ∙ heads_at host actors scene is place (slice_get scene place) refl)) ∙ any_mapped scene
+pub any_at_end : {S : Type 0} (kept : Keeping S) (host : AHost S) (actors : List Actor) (scene : Scene) (heads : List Head) → IsScene kept host actors scene → ((place : ℕ) → slice_get heads place ≡ option_map (λ (state : State). state.head) (realm host.core place)) → list_any (λ (head : Head). head.epoch == last_epoch) heads ≡ list_any is_at_end scene
+any_at_end kept host actors scene heads is heads_are =
+    ap (list_any (λ (head : Head). head.epoch == last_epoch)) (same_lists heads (map (λ (a : Acting). a.world.state.head) scene) (λ place. heads_are place ∙ heads_at kept host actors scene is place (slice_get scene place) refl)) ∙ any_mapped scene
 
 -- where one is, nothing is done
 pub stays_put : (scene : Scene) (printed : List ℕ) → list_any is_at_end scene ≡ true → ((Scenes.restarted scene).scene ≡ None) × (printed ≡ printed ++ (Scenes.restarted scene).printed)
 stays_put scene printed last = rw last (refl, sym (append-nil printed))
 
 -- else all start again, and are at work
-pub starts_again : (host : AHost) (actors : List Actor) (scene : Scene) (printed between printed' : List ℕ) → list_any is_at_end scene ≡ false → between ≡ printed ++ flat_map (λ (acting : Acting). (restarts acting).printed) scene → printed' ≡ between ++ Scenes.openings_text (map after scene) → IsScene host actors (map after scene) → IsMoved host actors printed printed' (Scenes.restarted scene)
-starts_again host actors scene printed between printed' none first second stands = rw none (record {
+pub starts_again : {S : Type 0} (kept : Keeping S) (host : AHost S) (actors : List Actor) (scene : Scene) (printed between printed' : List ℕ) → list_any is_at_end scene ≡ false → between ≡ printed ++ flat_map (λ (acting : Acting). (restarts acting).printed) scene → printed' ≡ between ++ Scenes.openings_text (map after scene) → IsScene kept host actors (map after scene) → IsMoved kept host actors printed printed' (Scenes.restarted scene)
+starts_again kept host actors scene printed between printed' none first second stands = rw none (record {
   text = second ∙ ap (λ t. t ++ Scenes.openings_text (map after scene)) first ∙ append_assoc printed (flat_map (λ (acting : Acting). (restarts acting).printed) scene) (Scenes.openings_text (map after scene));
   scene = map after scene;
   is = refl;

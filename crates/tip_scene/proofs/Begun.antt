@@ -1,6 +1,6 @@
 -- Realms that have started are at work.
 use Rattle.std.proofs.Common.{◌≡◌, ◌+◌, ◌≤◌, ◌++◌, ℕ, zero, suc, List, [], ◌∷◌, Option, Some, None, append-nil, append_assoc, arith, drop, length, map, refl, sym, ap, subst, ◌∙◌}
-use Rattle.std.specs.Prelude.{is_some, option_map, slice_get, true}
+use Rattle.std.specs.Prelude.{option_map, slice_get}
 use Rattle.std.specs.List.{flat_map}
 use Rattle.std.specs.Option.{option_map_or}
 use Rattle.std.proofs.Math.ListN.{drop_of_length-le}
@@ -13,12 +13,10 @@ use Rattle.tip_machine.specs.Answers.{identifier}
 use Rattle.tip_recovery.specs.Adopting.{Recovery, Unfinished, given, unadopted, with_boxes}
 use Rattle.tip_rows.specs.Keys.{Key}
 use Rattle.tip_rows.specs.Rows.{branches_of}
-use Rattle.tip_rows.specs.Memory.{Memory, is_due_in, log_of}
-use Rattle.tip_rows.specs.Logs.{IsPart}
 use Rattle.tip_rows.specs.declared.row.Row.{Row}
 use Rattle.tip_transcript.specs.Printing.{adopted_text, start_text}
 use Rattle.tip_actor.specs.Acting.{Acting, adoption_text, opening_text}
-use Rattle.tip_actor.specs.Standing.{Actor, AreReadings, Host, IsActing}
+use Rattle.tip_actor.specs.Standing.{Actor, AreReadings, Host, IsActing, IsStored, Keeping}
 use Rattle.tip_actor.specs.declared.reader.Reader.{Reader}
 use Rattle.tip_scene.specs.Rising.{AreAnew, AreNew, AreRising, IsAnew, IsNew, IsRising}
 use Rattle.tip_scene.specs.Scenes.{Scene}
@@ -46,22 +44,22 @@ said_all name (b ∷ boxes) (stored ∷ rows) =
     ∙ ap (λ text. text ++ flat_map (row_text name) (given with_boxes boxes (map (unadopted name) rows))) (said_of name b stored)
     ∙ ap (λ rest. adoption_text name stored ++ rest) (said_all name boxes rows) ∙ sym (flat_map-cons (adoption_text name) stored rows)
 
-pub opening_is : (recovering : Recovering Memory) (place : ℕ) (acting : Acting) (name : List ℕ) (rising : IsRising recovering place acting) → name ≡ acting.name → start_text name rising.recovery.epoch ++ flat_map (row_text name) rising.recovery.rows ≡ opening_text acting
-opening_is recovering place acting name rising named =
+pub opening_is : {S : Type 0} (kept : Keeping S) (recovering : Recovering S) (place : ℕ) (acting : Acting) (name : List ℕ) (rising : IsRising kept recovering place acting) → name ≡ acting.name → start_text name rising.recovery.epoch ++ flat_map (row_text name) rising.recovery.rows ≡ opening_text acting
+opening_is kept recovering place acting name rising named =
     ap (λ n. start_text n rising.recovery.epoch ++ flat_map (row_text n) rising.recovery.rows) named
     ∙ ap (λ e. start_text acting.name e ++ flat_map (row_text acting.name) rising.recovery.rows) rising.epoch
     ∙ ap (λ rows. start_text acting.name acting.world.state.head.epoch ++ flat_map (row_text acting.name) rows) rising.rows
     ∙ ap (λ text. start_text acting.name acting.world.state.head.epoch ++ text) (said_all acting.name rising.boxes acting.world.rows)
 
-pub opening_said : (recovering : Recovering Memory) (place : ℕ) (acting : Acting) (name : List ℕ) (epoch : ℕ) (rows : List Unfinished) (printed between printed' : List ℕ) → IsRising recovering place acting → name ≡ acting.name →
+pub opening_said : {S : Type 0} (kept : Keeping S) (recovering : Recovering S) (place : ℕ) (acting : Acting) (name : List ℕ) (epoch : ℕ) (rows : List Unfinished) (printed between printed' : List ℕ) → IsRising kept recovering place acting → name ≡ acting.name →
     Some epoch ≡ option_map (λ (r : Recovery). r.epoch) (slice_get recovering.realms place) → rows ≡ option_map_or (λ (r : Recovery). r.rows) (slice_get recovering.realms place) [] →
     between ≡ printed ++ start_text name epoch → printed' ≡ between ++ flat_map (row_text name) rows → printed' ≡ printed ++ opening_text acting
-opening_said recovering place acting name epoch rows printed between printed' rising named epoch_is rows_are first second =
+opening_said kept recovering place acting name epoch rows printed between printed' rising named epoch_is rows_are first second =
     let own_epoch : epoch ≡ rising.recovery.epoch = same_Some epoch rising.recovery.epoch (epoch_is ∙ ap (option_map (λ (r : Recovery). r.epoch)) rising.there) in
     let own_rows : rows ≡ rising.recovery.rows = rows_are ∙ ap (λ (found : Option Recovery). option_map_or (λ (r : Recovery). r.rows) found []) rising.there in
     second ∙ ap (λ t. t ++ flat_map (row_text name) rows) first ∙ append_assoc printed (start_text name epoch) (flat_map (row_text name) rows)
     ∙ ap (λ e. printed ++ (start_text name e ++ flat_map (row_text name) rows)) own_epoch ∙ ap (λ l. printed ++ (start_text name rising.recovery.epoch ++ flat_map (row_text name) l)) own_rows
-    ∙ ap (λ t. printed ++ t) (opening_is recovering place acting name rising named)
+    ∙ ap (λ t. printed ++ t) (opening_is kept recovering place acting name rising named)
 
 -- One after another
 
@@ -111,7 +109,7 @@ no_readings : (readers : List Reader) (acting : Acting) → readers ≡ [] → a
 no_readings readers acting none nothing = rw (none, nothing) tt
 
 -- what begins: the store is as it was, and each realm is as recovery makes it
-pub record HasBegun (recovering : Recovering Memory) (host : Host) : Type 0 where
+pub record HasBegun {S : Type 0} (recovering : Recovering S) (host : Host S) : Type 0 where
   pub store : host.store ≡ recovering.store
   pub realms : (place : ℕ) → realm host.core place ≡ recovered (slice_get recovering.realms place) (realm recovering.core place)
   pub names : HaveNames host.core
@@ -120,24 +118,25 @@ recovered_none : (found : Option Recovery) → recovered found None ≡ None
 recovered_none None = refl
 recovered_none (Some recovery) = refl
 
-module _ (recovering : Recovering Memory) (host : Host) (begun : HasBegun recovering host) where
-  acts_at : (place : ℕ) (actor : Actor) (acting : Acting) → IsNew actor acting → IsRising recovering place acting → IsActing host place actor acting
+module _ {S : Type 0} (kept : Keeping S) (recovering : Recovering S) (host : Host S) (begun : HasBegun recovering host) where
+  acts_at : (place : ℕ) (actor : Actor) (acting : Acting) → IsNew actor acting → IsRising kept recovering place acting → IsActing kept host place actor acting
   acts_at place actor acting new rising = record {
     served = record {
       state_is = begun.realms place ∙ ap (λ found. recovered found (realm recovering.core place)) rising.there ∙ ap (recovered (Some rising.recovery)) rising.core ∙ ap Some (sym rising.state);
       names = begun.names;
-      due_is = ap (λ s. is_due_in s acting.world.state.head.name) begun.store ∙ rising.due;
-      known = subst (λ s. is_some ((log_of s).epochs acting.world.state.head.name) ≡ true) (sym begun.store) rising.known;
+      due_is = ap (λ s. kept.is_due s acting.world.state.head.name) begun.store ∙ rising.due;
     };
-    rows = subst (λ s. IsPart (log_of s) acting.world.state.head.name acting.world.state.head.epoch acting.world.rows) (sym begun.store) rising.part;
+    stored = subst (λ s. IsStored kept s acting.world.state.head.name acting.world.state.head.epoch acting.world.rows) (sym begun.store) rising.stored;
     named = rising.named;
-    name = new.name;
-    errands = new.errands ∙ sym new.none_out;
-    due = new.due;
-    readings = no_readings actor.readers.items acting new.readers new.readings;
+    own = record {
+      name = new.name;
+      errands = new.errands ∙ sym new.none_out;
+      due = new.due;
+      readings = no_readings actor.readers.items acting new.readers new.readings;
+    };
   }
 
-  pub begins : (actors : List Actor) (scene : Scene) → AreNew actors scene → AreRising recovering scene → IsScene host actors scene
+  pub begins : (actors : List Actor) (scene : Scene) → AreNew actors scene → AreRising kept recovering scene → IsScene kept host actors scene
   begins actors scene are rising = record {
     count = new_count actors scene are;
     each = λ place actor acting a s. acts_at place actor acting (new_at actors scene place actor acting are a s) (rising.each place acting s);

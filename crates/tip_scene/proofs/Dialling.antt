@@ -4,8 +4,8 @@ use Rattle.std.specs.Prelude.{if◌then◌else◌}
 use Rattle.std.proofs.lemmas.Option.{same_Some}
 use Rattle.tip_machine.specs.Types.{Event}
 use Rattle.tip_actor.specs.Acting.{Acting, happens}
-use Rattle.tip_actor.specs.Standing.{Actor, Host, IsDone, Tells}
+use Rattle.tip_actor.specs.Standing.{Actor, Host, IsDone, Keeping, Tells}
 
-pub dialled : (host host' : Host) (place : ℕ) (actor actor' : Actor) (printed printed' : List ℕ) (acting : Acting) (are_words : Bool) (dial event : Event) → Some event ≡ (if are_words then Some dial else None) → IsDone host host' place actor actor' printed printed' (happens event acting) → Tells host host' place actor actor' printed printed' true (if are_words then Some (happens dial acting) else None)
-dialled host host' place actor actor' printed printed' acting true dial event is done = subst (λ e. IsDone host host' place actor actor' printed printed' (happens e acting)) (same_Some event dial is) done
-dialled host host' place actor actor' printed printed' acting false dial event is done = absurd (cc)
+pub dialled : {S : Type 0} (kept : Keeping S) (host host' : Host S) (place : ℕ) (actor actor' : Actor) (printed printed' : List ℕ) (acting : Acting) (are_words : Bool) (dial event : Event) → Some event ≡ (if are_words then Some dial else None) → IsDone kept host host' place actor actor' printed printed' (happens event acting) → Tells kept host host' place actor actor' printed printed' true (if are_words then Some (happens dial acting) else None)
+dialled kept host host' place actor actor' printed printed' acting true dial event is done = subst (λ e. IsDone kept host host' place actor actor' printed printed' (happens e acting)) (same_Some event dial is) done
+dialled kept host host' place actor actor' printed printed' acting false dial event is done = absurd (cc)

@@ -1,16 +1,16 @@
 -- Labels that are read one after another.
-use Rattle.std.proofs.Common.{◌≡◌, ◌+◌, ◌<◌, ◌≤◌, ◌++◌, ◌∷◌, [], ℕ, suc, List, Bool, true, false, length, nat_le, None, Err, Some, append-nil, append_assoc, arith, option_map, refl, sym, ap, subst, ◌∙◌}
-use Rattle.std.specs.Prelude.{◌&&◌, ◌==◌, slice_get, slice_set}
+use Rattle.std.proofs.Common.{◌≡◌, ◌+◌, ◌<◌, ◌≤◌, ◌++◌, ◌∷◌, [], ℕ, suc, List, Bool, true, false, length, nat_le, None, Some, append-nil, append_assoc, arith, option_map, refl, sym, ap, subst, ◌∙◌}
+use Rattle.std.specs.Prelude.{◌&&◌, ◌==◌, Err, IsErrOf, Ok, OnOk, Result, slice_get, slice_set}
 use Rattle.std.specs.List.{list_all, position_or_len}
 use Rattle.std.proofs.lemmas.Bool.{and_from}
 use Rattle.std.proofs.lemmas.Bool.Decides.{nat_tests}
 use Rattle.tip_rows.specs.Branches.{are_branches}
 use Rattle.tip_rows.specs.Labels.{is_label}
 use Rattle.tip_scene.specs.Acts.{are_labels, is_declared, labelled, labelled_at, numbered, with_labels}
-use Rattle.tip_scene.specs.Stages.{Declared, Declares, IsDeclared}
+use Rattle.tip_scene.specs.Stages.{Declares}
 use Rattle.tip_scene.specs.declared.declared.Declaration.{Declaration}
 use Rattle.tip_scene.specs.declared.fault.LineFault.{LineFault}
-use Rattle.tip_scene.specs.declared.fault.LineFault.TheVariants.{NotUnderstood, Memory}
+use Rattle.tip_scene.specs.declared.fault.LineFault.TheVariants.{NotUnderstood, Memory, Store}
 
 -- so many labels were read, and each is one
 pub record AreRead (all left : List (List ℕ)) (items : List (ℕ × List ℕ)) (number : ℕ) : Type 0 where
@@ -115,15 +115,20 @@ module _ (labels : List (List ℕ)) (declaration : Declaration) (branches : List
 
 -- One realm of those that are declared
 
-module _ (realms : Declared) (declarations : List Declaration) (name : List ℕ) (labels : List (List ℕ)) (place : ℕ) (declaration : Declaration) (is : IsDeclared realms declarations) (here : place ≡ position_or_len (is_declared name) realms.declarations.items) (there : slice_get realms.declarations.items place ≡ Some declaration) where
-  labelled_is : labelled name labels declarations ≡ option_map (λ now. slice_set realms.declarations.items place now) (with_labels labels declaration)
+module _ (declarations : List Declaration) (name : List ℕ) (labels : List (List ℕ)) (place : ℕ) (declaration : Declaration) (here : place ≡ position_or_len (is_declared name) declarations) (there : slice_get declarations place ≡ Some declaration) where
+  labelled_is : labelled name labels declarations ≡ option_map (λ now. slice_set declarations place now) (with_labels labels declaration)
   labelled_is =
-      ap (labelled name labels) (sym is) ∙ ap (λ p. labelled_at labels p (slice_get realms.declarations.items p) realms.declarations.items) (sym here)
-      ∙ ap (λ found. labelled_at labels place found realms.declarations.items) there
+      ap (λ p. labelled_at labels p (slice_get declarations p) declarations) (sym here)
+      ∙ ap (λ found. labelled_at labels place found declarations) there
 
-  pub labels_one : (now : Declaration) → with_labels labels declaration ≡ Some now → (all : List Declaration) × (labelled name labels declarations ≡ Some all) × (slice_set realms.declarations.items place now ≡ all)
-  labels_one now fits = (slice_set realms.declarations.items place now, labelled_is ∙ ap (option_map (λ d. slice_set realms.declarations.items place d)) fits, refl)
+  labels_one : (now : Declaration) → with_labels labels declaration ≡ Some now → labelled name labels declarations ≡ Some (slice_set declarations place now)
+  labels_one now fits = labelled_is ∙ ap (option_map (λ d. slice_set declarations place d)) fits
 
-  pub labels_none : (fault : LineFault) → (fault ≡ NotUnderstood → with_labels labels declaration ≡ None) → Declares (labelled name labels declarations) (Err fault)
-  labels_none NotUnderstood none = labelled_is ∙ ap (option_map (λ d. slice_set realms.declarations.items place d)) (none refl)
-  labels_none Memory none = tt
+  labels_none : with_labels labels declaration ≡ None → labelled name labels declarations ≡ None
+  labels_none none = labelled_is ∙ ap (option_map (λ d. slice_set declarations place d)) none
+
+  pub labelled_so : (now : Declaration) (result : Result (Unit {0}) LineFault) → OnOk result (with_labels labels declaration ≡ Some now) → (IsErrOf result NotUnderstood → with_labels labels declaration ≡ None) → Declares (labelled name labels declarations) (slice_set declarations place now) result
+  labelled_so now (Ok done) ok bad = labels_one now ok
+  labelled_so now (Err NotUnderstood) ok bad = labels_none (bad refl)
+  labelled_so now (Err Memory) ok bad = tt
+  labelled_so now (Err Store) ok bad = tt

@@ -1,6 +1,6 @@
 -- One realm that starts again while the others run.
 use Rattle.std.proofs.Common.{◌≡◌, ◌≢◌, ◌+◌, ◌++◌, if◌then◌else◌, ◌==◌, ◌∷◌, ℕ, Bool, true, false, List, [], Option, Some, None, append-nil, append_assoc, map, refl, sym, ap, subst, ◌∙◌}
-use Rattle.std.specs.Prelude.{Err, IsTrue, Ok, OnOk, Result, is_some}
+use Rattle.std.specs.Prelude.{Err, IsTrue, Ok, OnOk, Result}
 use Rattle.std.specs.List.{flat_map}
 use Rattle.std.specs.Option.{option_and_then}
 use Rattle.std.specs.Str.{bytes_eq}
@@ -19,7 +19,6 @@ use Rattle.tip_recovery.specs.Adopting.{Recovery, Unfinished, adopted_all, given
 use Rattle.tip_recovery.specs.Renewing.{taking, taking_all}
 use Rattle.tip_rows.specs.Keys.{Key}
 use Rattle.tip_rows.specs.Logs.{IsPart, IsSpent, Log, last_epoch, with_raised}
-use Rattle.tip_rows.specs.Memory.{Memory, is_due_in, log_of}
 use Rattle.tip_rows.specs.declared.row.Row.{Row}
 use Rattle.tip_transcript.specs.Printing.{refusal_text, shown_text, start_text}
 use Rattle.tip_line.specs.declared.refusal.Refusal.TheVariants.{EpochEnd, Refused}
@@ -27,7 +26,7 @@ use Rattle.tip_actor.proofs.Doing.{leaves_on, stays}
 use Rattle.tip_actor.proofs.Leaving.{left_here, shown_each}
 use Rattle.tip_actor.proofs.Serving.{itself}
 use Rattle.tip_actor.specs.Acting.{Acting, boxes_in, renewed, renews, willing_boxes}
-use Rattle.tip_actor.specs.Standing.{Actor, AreReadings, Host, IsActing, IsDone, Leaves}
+use Rattle.tip_actor.specs.Standing.{Actor, AreReadings, Host, IsActing, IsDone, IsStored, Keeping, Leaves}
 use Rattle.tip_scene.proofs.Again.{boxes_of_rows, boxes_unadopted, loads_same}
 use Rattle.tip_scene.proofs.Begun.{row_text, said_all}
 use Rattle.tip_scene.specs.Rising.{IsWilling, willing_rows}
@@ -79,55 +78,66 @@ pub not_due : (b : Bool) → (IsTrue b → ⊥) → b ≡ false
 not_due true never = absurd (never refl)
 not_due false never = refl
 
-module _ (host new : Host) (place : ℕ) (actor actor' : Actor) (acting : Acting) (is : IsActing host place actor acting) where
+module _ {S : Type 0} (kept : Keeping S) (host new : Host S) (place : ℕ) (actor actor' : Actor) (acting : Acting) (is : IsActing kept host place actor acting) where
   own_name : actor.name ≡ acting.world.state.head.name
-  own_name = is.name ∙ sym is.named
+  own_name = is.own.name ∙ sym is.named
 
   -- it has started again, by what is stored of it
-  module _ (recovery : Recovery) (willing : IsWilling recovery acting) (after : IsRenewed {S = Memory} (λ s log. log_of s ≡ log) (λ s. Unit {0}) recovery acting.world.state host.store new.store (realm new.core place)) where
+  module _ (recovery : Recovery) (willing : IsWilling recovery acting) (truth : kept.is_true new.store) (after : IsRenewed kept.stands kept.is_true recovery acting.world.state host.store new.store (realm new.core place)) where
     rows_again : taking_all recovery.rows after.fresh.rows ≡ willing_rows acting
     rows_again =
         let rows = acting.world.rows in
-        let fresh : after.fresh.rows ≡ map (unadopted acting.name) rows = read_rows (log_of host.store) acting.world.state.head.name acting.world.state.head.epoch rows after.fresh is.rows (after.read (log_of host.store) refl tt) ∙ ap (λ n. map (unadopted n) rows) is.named in
+        let fresh : after.fresh.rows ≡ map (unadopted acting.name) rows = read_rows is.stored.log acting.world.state.head.name acting.world.state.head.epoch rows after.fresh is.stored.part (after.read is.stored.log is.stored.stood truth) ∙ ap (λ n. map (unadopted n) rows) is.named in
         ap (taking_all recovery.rows) fresh ∙ ap (λ r. taking_all r (map (unadopted acting.name) rows)) willing ∙ taking_same (boxes_of_rows rows) (map (unadopted acting.name) rows)
 
     state_again : realm new.core place ≡ Some (Moves.restarted_from (boxes_in acting.world.rows) acting.world)
-    state_again = after.state_is ∙ ap (λ rows. Some (restarted (Moves.risen acting.world.state.head) rows)) (ap (map loaded) rows_again ∙ sym (loads_same acting.name acting.world.rows is.rows.rising))
+    state_again = after.state_is ∙ ap (λ rows. Some (restarted (Moves.risen acting.world.state.head) rows)) (ap (map loaded) rows_again ∙ sym (loads_same acting.name acting.world.rows is.stored.part.rising))
 
-  module _ (log : log_of new.store ≡ with_raised acting.world.state.head.name (log_of host.store)) (spent : IsSpent (is_due_in host.store) (is_due_in new.store) acting.world.state.head.name) where
-    leaves_renewed : ((other : ℕ) → other ≢ place → realm new.core other ≡ realm host.core other) → Leaves host new place actor.name
+  module _ (stood : (log : Log) → kept.stands host.store log → kept.stands new.store (with_raised acting.world.state.head.name log)) (spent : IsSpent (kept.is_due host.store) (kept.is_due new.store) acting.world.state.head.name) where
+    leaves_renewed : ((other : ℕ) → other ≢ place → realm new.core other ≡ realm host.core other) → Leaves kept host new place actor.name
     leaves_renewed others =
         let name = acting.world.state.head.name in record {
           realms = others;
-          due = λ other differ. spent other ∙ ap (λ n. if bytes_eq n other then false else is_due_in host.store other) (sym own_name) ∙ rw differ refl;
-          known = λ other. ap (λ (l : Log). is_some (l.epochs other)) log ∙ renewed_known (log_of host.store) name other;
-          parts = λ other epoch rows differ part. subst (λ l. IsPart l other epoch rows) (sym log) (renewed_others (log_of host.store) name other epoch rows (ap (λ n. bytes_eq n other) (sym own_name) ∙ differ) part);
+          due = λ other differ. spent other ∙ ap (λ n. if bytes_eq n other then false else kept.is_due host.store other) (sym own_name) ∙ rw differ refl;
+          stored = λ other epoch rows differ stored. record {
+            log = with_raised name stored.log;
+            stood = stood stored.log stored.stood;
+            part = renewed_others stored.log name other epoch rows (ap (λ n. bytes_eq n other) (sym own_name) ∙ differ) stored.part;
+            known = renewed_known stored.log name other ∙ stored.known;
+          };
         }
 
-    pub renews_so : (recovery : Recovery) → IsWilling recovery acting → IsRenewed {S = Memory} (λ s log. log_of s ≡ log) (λ s. Unit {0}) recovery acting.world.state host.store new.store (realm new.core place) →
-        (IsTrue (is_due_in host.store acting.world.state.head.name) → ⊥) → (acting.world.state.head.epoch == last_epoch) ≡ false →
+    pub renews_so : (recovery : Recovery) → IsWilling recovery acting → kept.is_true new.store → IsRenewed kept.stands kept.is_true recovery acting.world.state host.store new.store (realm new.core place) →
+        (IsTrue (kept.is_due host.store acting.world.state.head.name) → ⊥) → (acting.world.state.head.epoch == last_epoch) ≡ false →
         ((other : ℕ) → other ≢ place → realm new.core other ≡ realm host.core other) → HaveNames new.core →
         actor'.name ≡ actor.name → actor'.readers.items ≡ [] → actor'.errands ≡ actor.errands → actor'.is_due ≡ actor.is_due →
-        (printed printed' : List ℕ) → printed' ≡ printed ++ (renewed acting.due acting).printed → IsDone host new place actor actor' printed printed' (renewed acting.due acting)
-    renews_so recovery willing after never not_last others names name' readers' errands' due' printed printed' text =
+        (printed printed' : List ℕ) → printed' ≡ printed ++ (renewed acting.due acting).printed → IsDone kept host new place actor actor' printed printed' (renewed acting.due acting)
+    renews_so recovery willing truth after never not_last others names name' readers' errands' due' printed printed' text =
         let name = acting.world.state.head.name in
         let rows = acting.world.rows in
-        let due : acting.due ≡ false = sym is.served.due_is ∙ not_due (is_due_in host.store name) never in
-        let epoch = rises (log_of host.store) name acting.world.state.head.epoch rows is.rows is.served.known not_last in
-        subst (λ b. IsDone host new place actor actor' printed printed' (renewed b acting)) (sym due) (record {
+        let log = is.stored.log in
+        let due : acting.due ≡ false = sym is.served.due_is ∙ not_due (kept.is_due host.store name) never in
+        let epoch = rises log name acting.world.state.head.epoch rows is.stored.part is.stored.known not_last in
+        subst (λ b. IsDone kept host new place actor actor' printed printed' (renewed b acting)) (sym due) (record {
           own = record {
             served = record {
-              state_is = state_again recovery willing after;
+              state_is = state_again recovery willing truth after;
               names = names;
               due_is = spent name ∙ rw (itself name) (sym due);
-              known = ap (λ (l : Log). is_some (l.epochs name)) log ∙ renewed_known (log_of host.store) name name ∙ is.served.known;
             };
-            rows = subst (λ l. IsPart l name (acting.world.state.head.epoch + 1) rows) (sym log) (subst (λ e. IsPart (with_raised name (log_of host.store)) name e rows) epoch (renewed_part (log_of host.store) name acting.world.state.head.epoch rows is.rows is.served.known));
+            stored = record {
+              log = with_raised name log;
+              stood = stood log is.stored.stood;
+              part = subst (λ e. IsPart (with_raised name log) name e rows) epoch (renewed_part log name acting.world.state.head.epoch rows is.stored.part is.stored.known);
+              known = renewed_known log name name ∙ is.stored.known;
+            };
             named = is.named;
-            name = name' ∙ is.name;
-            errands = ap (λ e. e.items) errands' ∙ is.errands;
-            due = due' ∙ is.due;
-            readings = subst (λ rs. AreReadings rs []) (sym readers') tt;
+            own = record {
+              name = name' ∙ is.own.name;
+              errands = ap (λ e. e.items) errands' ∙ is.own.errands;
+              due = due' ∙ is.own.due;
+              readings = subst (λ rs. AreReadings rs []) (sym readers') tt;
+            };
           };
           leaves = leaves_renewed others;
           name = name';
@@ -135,35 +145,35 @@ module _ (host new : Host) (place : ℕ) (actor actor' : Actor) (acting : Acting
         })
 
   -- the store was to refuse it
-  pub refuses_so : log_of new.store ≡ log_of host.store → IsSpent (is_due_in host.store) (is_due_in new.store) acting.world.state.head.name → ((other : ℕ) → realm new.core other ≡ realm host.core other) →
+  pub refuses_so : ((log : Log) → kept.stands host.store log → kept.stands new.store log) → IsSpent (kept.is_due host.store) (kept.is_due new.store) acting.world.state.head.name → ((other : ℕ) → realm new.core other ≡ realm host.core other) →
       actor.is_due ≡ true → actor'.name ≡ actor.name → actor'.readers ≡ actor.readers → actor'.errands ≡ actor.errands → actor'.is_due ≡ false →
-      (printed printed' : List ℕ) → printed' ≡ printed ++ refusal_text actor.name Refused → IsDone host new place actor actor' printed printed' (renewed acting.due acting)
-  refuses_so log spent same due name' readers' errands' due' printed printed' text =
+      (printed printed' : List ℕ) → printed' ≡ printed ++ refusal_text actor.name Refused → IsDone kept host new place actor actor' printed printed' (renewed acting.due acting)
+  refuses_so stood spent same due name' readers' errands' due' printed printed' text =
       let name = acting.world.state.head.name in
-      let was_due : acting.due ≡ true = sym is.due ∙ due in
-      subst (λ b. IsDone host new place actor actor' printed printed' (renewed b acting)) (sym was_due) (record {
+      let was_due : acting.due ≡ true = sym is.own.due ∙ due in
+      subst (λ b. IsDone kept host new place actor actor' printed printed' (renewed b acting)) (sym was_due) (record {
         own = record {
           served = record {
             state_is = same place ∙ is.served.state_is;
             names = λ p q this that here there. is.served.names p q this that (sym (same p) ∙ here) (sym (same q) ∙ there);
             due_is = spent name ∙ rw (itself name) refl;
-            known = ap (λ (l : Log). is_some (l.epochs name)) log ∙ is.served.known;
           };
-          rows = subst (λ l. IsPart l name acting.world.state.head.epoch acting.world.rows) (sym log) is.rows;
+          stored = record { log = is.stored.log; stood = stood is.stored.log is.stored.stood; part = is.stored.part; known = is.stored.known };
           named = is.named;
-          name = name' ∙ is.name;
-          errands = ap (λ e. e.items) errands' ∙ is.errands;
-          due = due';
-          readings = subst (λ (rs : _). AreReadings rs.items acting.readings) (sym readers') is.readings;
+          own = record {
+            name = name' ∙ is.own.name;
+            errands = ap (λ e. e.items) errands' ∙ is.own.errands;
+            due = due';
+            readings = subst (λ (rs : _). AreReadings rs.items acting.readings) (sym readers') is.own.readings;
+          };
         };
         leaves = record {
           realms = λ other differ. same other;
-          due = λ other differ. spent other ∙ ap (λ n. if bytes_eq n other then false else is_due_in host.store other) (sym own_name) ∙ rw differ refl;
-          known = λ other. ap (λ (l : Log). is_some (l.epochs other)) log;
-          parts = λ other epoch rows differ part. subst (λ l. IsPart l other epoch rows) (sym log) part;
+          due = λ other differ. spent other ∙ ap (λ n. if bytes_eq n other then false else kept.is_due host.store other) (sym own_name) ∙ rw differ refl;
+          stored = λ other epoch rows differ stored. record { log = stored.log; stood = stood stored.log stored.stood; part = stored.part; known = stored.known };
         };
         name = name';
-        text = text ∙ ap (λ n. printed ++ refusal_text n Refused) is.name ∙ ap (λ t. printed ++ t) (sym (append-nil (refusal_text acting.name Refused)));
+        text = text ∙ ap (λ n. printed ++ refusal_text n Refused) is.own.name ∙ ap (λ t. printed ++ t) (sym (append-nil (refusal_text acting.name Refused)));
       })
 
 -- The next epoch
@@ -186,47 +196,45 @@ module _ (head : Head) (found : Option Head) (result : Option ℕ) (there : foun
 
 -- The whole
 
-module _ (host : Host) (place : ℕ) (actor : Actor) (acting : Acting) (is : IsActing host place actor acting) where
-  pub at_its_end : (printed printed' : List ℕ) → (acting.world.state.head.epoch == last_epoch) ≡ true → printed' ≡ printed ++ refusal_text actor.name EpochEnd → IsDone host host place actor actor printed printed' (renews acting)
+module _ {S : Type 0} (kept : Keeping S) (host : Host S) (place : ℕ) (actor : Actor) (acting : Acting) (is : IsActing kept host place actor acting) where
+  pub at_its_end : (printed printed' : List ℕ) → (acting.world.state.head.epoch == last_epoch) ≡ true → printed' ≡ printed ++ refusal_text actor.name EpochEnd → IsDone kept host host place actor actor printed printed' (renews acting)
   at_its_end printed printed' last text = rw last (record {
     own = is;
-    leaves = stays host place actor.name;
+    leaves = stays kept host place actor.name;
     name = refl;
-    text = text ∙ ap (λ n. printed ++ refusal_text n EpochEnd) is.name;
+    text = text ∙ ap (λ n. printed ++ refusal_text n EpochEnd) is.own.name;
   })
 
-  pub renews_all : (mid host' : Host) (actor' : Actor) (printed printed' : List ℕ) → (acting.world.state.head.epoch == last_epoch) ≡ false → Leaves host mid place actor.name → IsDone mid host' place actor actor' printed printed' (renewed acting.due acting) → IsDone host host' place actor actor' printed printed' (renews acting)
+  pub renews_all : (mid host' : Host S) (actor' : Actor) (printed printed' : List ℕ) → (acting.world.state.head.epoch == last_epoch) ≡ false → Leaves kept host mid place actor.name → IsDone kept mid host' place actor actor' printed printed' (renewed acting.due acting) → IsDone kept host host' place actor actor' printed printed' (renews acting)
   renews_all mid host' actor' printed printed' not_last first done = rw not_last (record {
     own = done.own;
-    leaves = leaves_on host mid host' place actor.name first done.leaves;
+    leaves = leaves_on kept host mid host' place actor.name first done.leaves;
     name = done.name;
     text = done.text;
   })
 
 -- where nothing but a reading was done
-module _ (host mid : Host) (core : mid.core ≡ host.core) (log : log_of mid.store ≡ log_of host.store) (due : (name : List ℕ) → is_due_in mid.store name ≡ is_due_in host.store name) (place : ℕ) where
-  pub acts_still : (actor : Actor) (acting : Acting) → IsActing host place actor acting → IsActing mid place actor acting
+pub still_stored : {S : Type 0} (kept : Keeping S) (old new : S) → ((log : Log) → kept.stands old log → kept.stands new log) → (name : List ℕ) (epoch : ℕ) (rows : List (Key × Row)) → IsStored kept old name epoch rows → IsStored kept new name epoch rows
+still_stored kept old new stood name epoch rows stored = record { log = stored.log; stood = stood stored.log stored.stood; part = stored.part; known = stored.known }
+
+module _ {S : Type 0} (kept : Keeping S) (host mid : Host S) (core : mid.core ≡ host.core) (stood : (log : Log) → kept.stands host.store log → kept.stands mid.store log) (due : (name : List ℕ) → kept.is_due mid.store name ≡ kept.is_due host.store name) (place : ℕ) where
+  pub acts_still : (actor : Actor) (acting : Acting) → IsActing kept host place actor acting → IsActing kept mid place actor acting
   acts_still actor acting acts = record {
     served = record {
       state_is = ap (λ c. realm c place) core ∙ acts.served.state_is;
       names = subst HaveNames (sym core) acts.served.names;
       due_is = due acting.world.state.head.name ∙ acts.served.due_is;
-      known = ap (λ (l : Log). is_some (l.epochs acting.world.state.head.name)) log ∙ acts.served.known;
     };
-    rows = subst (λ l. IsPart l acting.world.state.head.name acting.world.state.head.epoch acting.world.rows) (sym log) acts.rows;
+    stored = still_stored kept host.store mid.store stood acting.world.state.head.name acting.world.state.head.epoch acting.world.rows acts.stored;
     named = acts.named;
-    name = acts.name;
-    errands = acts.errands;
-    due = acts.due;
-    readings = acts.readings;
+    own = acts.own;
   }
 
-  pub leaves_still : (name : List ℕ) → Leaves host mid place name
+  pub leaves_still : (name : List ℕ) → Leaves kept host mid place name
   leaves_still name = record {
     realms = λ other differ. ap (λ c. realm c other) core;
     due = λ other differ. due other;
-    known = λ other. ap (λ (l : Log). is_some (l.epochs other)) log;
-    parts = λ other epoch rows differ part. subst (λ l. IsPart l other epoch rows) (sym log) part;
+    stored = λ other epoch rows differ stored. still_stored kept host.store mid.store stood other epoch rows stored;
   }
 
 -- of each realm that it may be

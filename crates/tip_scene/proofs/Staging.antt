@@ -1,6 +1,6 @@
 -- Declared realms, and what a line makes of a stage.
-use Rattle.std.proofs.Common.{◌≡◌, ◌≢◌, ◌<◌, ◌++◌, ◌∷◌, [], ℕ, List, true, false, ◌==◌, nat_lt, Some, option_map, length, arith, refl, sym, ap, ◌∙◌}
-use Rattle.std.specs.Prelude.{Err, Option, Result}
+use Rattle.std.proofs.Common.{◌≡◌, ◌≢◌, ◌<◌, ◌++◌, ◌∷◌, [], ℕ, List, true, false, ◌==◌, nat_lt, Some, option_map, length, arith, refl, sym, ap, subst, ◌∙◌}
+use Rattle.std.specs.Prelude.{Err, Ok, Option, Result, if◌then◌else◌}
 use Rattle.std.specs.List.{list_all}
 use Rattle.std.proofs.lemmas.Bool.{false≢true}
 use Rattle.std.proofs.lemmas.Bool.Decides.{nat_tests}
@@ -13,9 +13,10 @@ use Rattle.tip_script.specs.Scripts.{Move, is_start, move_of, realm_of}
 use Rattle.std.proofs.lemmas.Option.{none-some}
 use Rattle.tip_script.specs.declared.instruction.Instruction.{Instruction}
 use Rattle.tip_script.specs.declared.instruction.Instruction.TheVariants as instruction
-use Rattle.tip_scene.specs.Acts.{Stage, Declaring, Playing, Acted, acted, acted_by, acts, acts_if, declaration_of, declared, is_count, is_other, scene_of, starts_text}
+use Rattle.tip_scene.specs.Acts.{Stage, Declaring, Playing, Acted, Basis, acted, acted_by, acts, acts_if, declaration_of, declared, is_count, is_other, may_say, not_understood, scene_of, starts_text}
 use Rattle.tip_scene.specs.Scenes.{Scene, moved}
-use Rattle.tip_scene.specs.Stages.{APlaying, AStage, ActsSo, Declared, Declares, IsDeclared, IsStage}
+use Rattle.tip_actor.specs.Standing.{Keeping}
+use Rattle.tip_scene.specs.Stages.{APlaying, AStage, ActsSo, Declared, Declares, IsDeclared, IsBasis, IsReliable, IsStage, Moves}
 use Rattle.tip_scene.specs.Standing.{IsScene, IsMoved}
 use Rattle.tip_scene.specs.declared.declared.Declaration.{Declaration}
 use Rattle.tip_scene.specs.declared.fault.LineFault.{LineFault}
@@ -25,51 +26,70 @@ use Rattle.tip_scene.specs.declared.stage.Stage.TheVariants as stage
 -- Declarations
 
 -- a realm more was declared
-pub declares : (realms realms' : Declared) (declarations : List Declaration) (name address : List ℕ) (branches : ℕ) (limits : Limits) → IsDeclared realms declarations → list_all (is_other name) realms.declarations.items ≡ true → length realms.declarations.items < 64 → is_count branches ≡ true → are_allowed limits ≡ true → is_realm name ≡ true → is_address address ≡ true →
-    realms'.declarations.items ≡ realms.declarations.items ++ declaration_of name address branches limits ∷ [] →
-    (all : List Declaration) × (declared name address branches limits declarations ≡ Some all) × IsDeclared realms' all
-declares realms realms' declarations name address branches limits is new few some allowed named reached more =
-    let other : list_all (is_other name) declarations ≡ true = ap (list_all (is_other name)) (sym is) ∙ new in
-    let short : nat_lt (length declarations) 64 ≡ true = let e = ap length is in grind (arith, nat_tests) in (
-      declarations ++ declaration_of name address branches limits ∷ [],
-      rw (other, short, some, allowed, named, reached) refl,
-      more ∙ ap (λ l. l ++ declaration_of name address branches limits ∷ []) is,
-    )
-
--- it may not be declared, or memory ends
-pub fails_to_declare : (more : Option (List Declaration)) (printed : List ℕ) (fault : LineFault) → Declares more (Err fault) → ActsSo printed printed (record { printed = []; stage = option_map Declaring more }) (Err fault)
-fails_to_declare more printed fault.NotUnderstood none = (ap (option_map Declaring) none, sym (append-nil printed))
-fails_to_declare more printed fault.Memory none = tt
+pub declares : (declarations : List Declaration) (name address : List ℕ) (branches : ℕ) (limits : Limits) → list_all (is_other name) declarations ≡ true → length declarations < 64 → is_count branches ≡ true → are_allowed limits ≡ true → is_realm name ≡ true → is_address address ≡ true →
+    declared name address branches limits declarations ≡ Some (declarations ++ declaration_of name address branches limits ∷ [])
+declares declarations name address branches limits new few some allowed named reached =
+    let short : nat_lt (length declarations) 64 ≡ true = grind (arith, nat_tests) in
+    rw (new, short, some, allowed, named, reached) refl
 
 -- One line
 
--- before the realms have started
-pub obeys_first : (realms : Declared) (printed printed' : List ℕ) (move : Move) (result : Result AStage LineFault) (now : Stage) → IsStage (stage.Declaring realms) now → ((declarations : List Declaration) → IsDeclared realms declarations → ActsSo printed printed' (acts (Declaring declarations) move) result) → ActsSo printed printed' (acts now move) result
-obeys_first realms printed printed' move result (Declaring declarations) is obeys = obeys declarations is
-obeys_first realms printed printed' move result (Playing scene) is obeys = absurd is
+module _ {S : Type 0} (kept : Keeping S) (basis : Basis) where
+  -- before the realms have started
+  pub obeys_first : (realms : Declared S) (printed printed' : List ℕ) (move : Move) (result : Result (AStage S) (LineFault × Option S)) (now : Stage) → IsStage kept basis (stage.Declaring realms) now → ((declarations : List Declaration) → IsDeclared kept basis realms declarations → ActsSo kept basis printed printed' (acts basis (Declaring declarations) move) result) → ActsSo kept basis printed printed' (acts basis now move) result
+  obeys_first realms printed printed' move result (Declaring declarations) is obeys = obeys declarations is
+  obeys_first realms printed printed' move result (Playing scene) is obeys = absurd is
 
-pub plays_on : (playing playing' : APlaying) (printed printed' : List ℕ) (move : Move) (now : Stage) → IsStage (stage.Playing playing) now → ((scene : Scene) → IsScene playing.host playing.actors.items scene → IsMoved playing'.host playing'.actors.items printed printed' (moved move scene)) →
-    (then_ : Stage) × ((acts now move).stage ≡ Some then_) × IsStage (stage.Playing playing') then_ × (printed' ≡ printed ++ (acts now move).printed)
-plays_on playing playing' printed printed' move (Declaring declarations) is moves = absurd is
-plays_on playing playing' printed printed' move (Playing scene) is moves =
-    let m = moves scene is in
-    (Playing m.scene, ap (option_map Playing) m.is, m.stands, m.text)
+  -- a realm was declared, or labelled
+  pub declares_so : (realms realms' : Declared S) (declarations : List Declaration) (printed : List ℕ) (more : List Declaration → Option (List Declaration)) (result : Result (Unit {0}) LineFault) (done : Unit {0}) → IsDeclared kept basis realms declarations → realms'.store ≡ realms.store → Declares (more realms.declarations.items) realms'.declarations.items result → result ≡ Ok done →
+      ActsSo kept basis printed printed (record { printed = []; stage = option_map Declaring (more declarations) }) (Ok (stage.Declaring realms'))
+  declares_so realms realms' declarations printed more result done is store said ok = λ truth.
+      let items = subst (Declares (more realms.declarations.items) realms'.declarations.items) ok said in (
+        Declaring realms'.declarations.items,
+        ap (option_map Declaring) (ap more (sym is.declared) ∙ items),
+        record { founded = subst (IsBasis kept basis) (sym store) is.founded; declared = refl },
+        sym (append-nil printed),
+      )
 
-starts_first : (declarations : List Declaration) (i : Instruction) → ((name : _) (address : _) (branches : ℕ) (limits : Limits) → i ≢ instruction.Realm name address branches limits) → ((realm : _) (labels : _) → i ≢ instruction.Labels realm labels) → acts (Declaring declarations) (move_by i) ≡ acted_by (starts_text declarations) (moved (move_by i) (scene_of declarations))
-starts_first declarations (instruction.Realm name address branches limits) other unlabelled = absurd (other name address branches limits refl)
-starts_first declarations (instruction.Labels realm labels) other unlabelled = absurd (unlabelled realm labels refl)
-starts_first declarations (instruction.Open realm kinds) other unlabelled = refl
-starts_first declarations (instruction.Dial realm address kinds aim) other unlabelled = refl
-starts_first declarations (instruction.Feed realm connection octets) other unlabelled = refl
-starts_first declarations (instruction.Lost realm connection) other unlabelled = refl
-starts_first declarations (instruction.Push asked) other unlabelled = refl
-starts_first declarations (instruction.Pull asked) other unlabelled = refl
-starts_first declarations (instruction.Go realm) other unlabelled = refl
-starts_first declarations (instruction.Drop realm) other unlabelled = refl
-starts_first declarations (instruction.Resume realm id) other unlabelled = refl
-starts_first declarations (instruction.Refuse realm) other unlabelled = refl
-starts_first declarations (instruction.Renew realm) other unlabelled = refl
-starts_first declarations instruction.Restart other unlabelled = refl
+  -- or may not be
+  pub declares_not : (realms realms' : Declared S) (declarations : List Declaration) (printed : List ℕ) (more : List Declaration → Option (List Declaration)) (result : Result (Unit {0}) LineFault) (why : LineFault) (store : Option S) → IsDeclared kept basis realms declarations → Declares (more realms.declarations.items) realms'.declarations.items result → result ≡ Err why →
+      ActsSo kept basis printed printed (record { printed = []; stage = option_map Declaring (more declarations) }) (Err (why, store))
+  declares_not realms realms' declarations printed more result fault.NotUnderstood store is said err = λ truth. (ap (option_map Declaring) (ap more (sym is.declared) ∙ subst (Declares (more realms.declarations.items) realms'.declarations.items) err said), sym (append-nil printed))
+  declares_not realms realms' declarations printed more result fault.Memory store is said err = tt
+  declares_not realms realms' declarations printed more result fault.Store store is said err = tt
+
+  -- once they have
+  pub plays_on : (playing playing' : APlaying S) (printed printed' : List ℕ) (move : Move) (now : Stage) → IsStage kept basis (stage.Playing playing) now → ((scene : Scene) → IsScene kept playing.host playing.actors.items scene → Moves kept printed printed' (moved move scene) (Ok playing')) →
+      ActsSo kept basis printed printed' (acts basis now move) (Ok (stage.Playing playing'))
+  plays_on playing playing' printed printed' move (Declaring declarations) is moves = absurd is
+  plays_on playing playing' printed printed' move (Playing scene) is moves = λ truth.
+      let m = moves scene is truth in
+      (Playing m.scene, ap (option_map Playing) m.is, m.stands, m.text)
+
+  pub plays_not : (playing : APlaying S) (printed printed' : List ℕ) (move : Move) (why : LineFault × Option S) (now : Stage) → IsStage kept basis (stage.Playing playing) now → ((scene : Scene) → IsScene kept playing.host playing.actors.items scene → Moves kept printed printed' (moved move scene) (Err why)) →
+      ActsSo kept basis printed printed' (acts basis now move) (Err why)
+  plays_not playing printed printed' move why (Declaring declarations) is moves = absurd is
+  plays_not playing printed printed' move (fault.NotUnderstood, store) (Playing scene) is moves = λ truth.
+      let m = moves scene is truth in
+      (ap (option_map Playing) m.0, m.1)
+  plays_not playing printed printed' move (fault.Memory, store) (Playing scene) is moves = tt
+  plays_not playing printed printed' move (fault.Store, store) (Playing scene) is moves = tt
+
+starts_first : (basis : Basis) (declarations : List Declaration) (i : Instruction) → ((name : _) (address : _) (branches : ℕ) (limits : Limits) → i ≢ instruction.Realm name address branches limits) → ((realm : _) (labels : _) → i ≢ instruction.Labels realm labels) → acts basis (Declaring declarations) (move_by i) ≡ acted_by (starts_text basis declarations) (moved (move_by i) (scene_of basis declarations))
+starts_first basis declarations (instruction.Realm name address branches limits) other unlabelled = absurd (other name address branches limits refl)
+starts_first basis declarations (instruction.Labels realm labels) other unlabelled = absurd (unlabelled realm labels refl)
+starts_first basis declarations (instruction.Open realm kinds) other unlabelled = refl
+starts_first basis declarations (instruction.Dial realm address kinds aim) other unlabelled = refl
+starts_first basis declarations (instruction.Feed realm connection octets) other unlabelled = refl
+starts_first basis declarations (instruction.Lost realm connection) other unlabelled = refl
+starts_first basis declarations (instruction.Push asked) other unlabelled = refl
+starts_first basis declarations (instruction.Pull asked) other unlabelled = refl
+starts_first basis declarations (instruction.Go realm) other unlabelled = refl
+starts_first basis declarations (instruction.Drop realm) other unlabelled = refl
+starts_first basis declarations (instruction.Resume realm id) other unlabelled = refl
+starts_first basis declarations (instruction.Refuse realm) other unlabelled = refl
+starts_first basis declarations (instruction.Renew realm) other unlabelled = refl
+starts_first basis declarations instruction.Restart other unlabelled = refl
 
 -- a line of one realm that renews none starts none again
 pub starts_none : (i : Instruction) (realm : List ℕ) → realm_of (move_by i) ≡ Some realm → ((r : _) → i ≢ instruction.Renew r) → is_start (move_by i) ≡ false
@@ -88,13 +108,27 @@ starts_none (instruction.Refuse r) realm named other = refl
 starts_none (instruction.Renew r) realm named other = absurd (other r refl)
 starts_none instruction.Restart realm named other = absurd (none-some realm named)
 
-pub plays_first : (playing' : APlaying) (declarations : List Declaration) (printed between printed' : List ℕ) (i : Instruction) → ((name : _) (address : _) (branches : ℕ) (limits : Limits) → i ≢ instruction.Realm name address branches limits) → ((realm : _) (labels : _) → i ≢ instruction.Labels realm labels) → between ≡ printed ++ starts_text declarations → IsMoved playing'.host playing'.actors.items between printed' (moved (move_by i) (scene_of declarations)) →
-    (then_ : Stage) × ((acts (Declaring declarations) (move_by i)).stage ≡ Some then_) × IsStage (stage.Playing playing') then_ × (printed' ≡ printed ++ (acts (Declaring declarations) (move_by i)).printed)
-plays_first playing' declarations printed between printed' i other unlabelled text m =
-    let first = starts_first declarations i other unlabelled in
-    (Playing m.scene, ap (λ (a : Acted). a.stage) first ∙ ap (option_map Playing) m.is, m.stands, m.text ∙ ap (λ t. t ++ (moved (move_by i) (scene_of declarations)).printed) text ∙ append_assoc printed (starts_text declarations) (moved (move_by i) (scene_of declarations)).printed ∙ ap (λ (a : Acted). printed ++ a.printed) (sym first))
+-- the first line that declares none
+module _ {S : Type 0} (kept : Keeping S) (basis : Basis) (declarations : List Declaration) (printed between printed' : List ℕ) (i : Instruction) (other : (name : _) (address : _) (branches : ℕ) (limits : Limits) → i ≢ instruction.Realm name address branches limits) (unlabelled : (realm : _) (labels : _) → i ≢ instruction.Labels realm labels) where
+  joined : between ≡ printed ++ starts_text basis declarations → printed' ≡ between ++ (moved (move_by i) (scene_of basis declarations)).printed → printed' ≡ printed ++ (acts basis (Declaring declarations) (move_by i)).printed
+  joined first second =
+      second ∙ ap (λ t. t ++ (moved (move_by i) (scene_of basis declarations)).printed) first ∙ append_assoc printed (starts_text basis declarations) (moved (move_by i) (scene_of basis declarations)).printed
+      ∙ ap (λ (a : Acted). printed ++ a.printed) (sym (starts_first basis declarations i other unlabelled))
+
+  pub plays_first : (playing : APlaying S) → (kept.is_true playing.host.store → (between ≡ printed ++ starts_text basis declarations) × IsMoved kept playing.host playing.actors.items between printed' (moved (move_by i) (scene_of basis declarations))) →
+      ActsSo kept basis printed printed' (acts basis (Declaring declarations) (move_by i)) (Ok (stage.Playing playing))
+  plays_first playing all = λ truth.
+      let m = (all truth).1 in
+      (Playing m.scene, ap (λ (a : Acted). a.stage) (starts_first basis declarations i other unlabelled) ∙ ap (option_map Playing) m.is, m.stands, joined (all truth).0 m.text)
+
+  pub fails_first : (why : LineFault × Option S) → (IsReliable kept why.1 → between ≡ printed ++ starts_text basis declarations) → (IsReliable kept why.1 → Moves kept between printed' (moved (move_by i) (scene_of basis declarations)) (Err why)) → ActsSo kept basis printed printed' (acts basis (Declaring declarations) (move_by i)) (Err why)
+  fails_first (fault.NotUnderstood, store) text moves = λ truth.
+      let m = moves truth truth in
+      (ap (λ (a : Acted). a.stage) (starts_first basis declarations i other unlabelled) ∙ ap (option_map Playing) m.0, joined (text truth) m.1)
+  fails_first (fault.Memory, store) text moves = tt
+  fails_first (fault.Store, store) text moves = tt
 
 -- a line that is not empty does what it says
-pub acts_as_said : (now : Stage) (line : List ℕ) (move : Move) → false ≡ (length line == 0) → move_of line ≡ Some move → acted now line ≡ acts now move
-acts_as_said now [] move some is = absurd (false≢true some)
-acts_as_said now (x ∷ line) move some is = ap (acts_if now) is
+pub acts_as_said : (basis : Basis) (now : Stage) (line : List ℕ) (move : Move) → false ≡ (length line == 0) → move_of line ≡ Some move → may_say basis.may_refuse move ≡ true → acted basis now line ≡ acts basis now move
+acts_as_said basis now [] move some is may = absurd (false≢true some)
+acts_as_said basis now (x ∷ line) move some is may = ap (acts_if basis now) is ∙ ap (λ b. if b then acts basis now move else not_understood) may

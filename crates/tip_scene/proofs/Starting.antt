@@ -1,62 +1,38 @@
--- Realms that start over a store that is empty.
-use Rattle.std.proofs.Common.{◌≡◌, ℕ, zero, suc, false, List, [], ◌∷◌, Some, None, map, refl, sym, ap, subst, inl, inr, ◌∙◌}
-use Rattle.std.specs.Prelude.{slice_get}
+-- Realms that start over what a store has of them.
+use Rattle.std.proofs.Common.{◌≡◌, ℕ, zero, suc, List, [], ◌∷◌, Some, None, map, refl, sym, ap, subst, ◌∙◌}
+use Rattle.std.specs.Prelude.{Bool, Ok, false, slice_get}
 use Rattle.std.proofs.lemmas.Option.{none-some, same_Some}
-use Rattle.tip_host.specs.Loading as Host
+use Rattle.tip_host.specs.Loading.{Loads}
 use Rattle.tip_host.specs.Recovering.{Recovering}
 use Rattle.tip_host.specs.declared.realm_spec.RealmSpec.{RealmSpec}
-use Rattle.tip_machine.specs.Heads.{starting}
-use Rattle.tip_machine.specs.Recovery.{restarted}
-use Rattle.tip_machine.specs.States.{started}
-use Rattle.tip_recovery.specs.Adopting.{loaded}
-use Rattle.tip_rows.specs.Logs.{IsPart, IsSpoiled, empty_log}
-use Rattle.tip_rows.specs.Memory.{Memory, is_due_in, log_of}
+use Rattle.tip_rows.specs.Logs.{Log}
 use Rattle.tip_actor.specs.Acting.{Acting}
-use Rattle.tip_scene.proofs.Loaded.{IsLoaded, LoadsRows, beyond, loaded_at}
-use Rattle.tip_scene.specs.Acts.{acting_of, scene_of, start_of}
-use Rattle.tip_scene.specs.Rising.{AreRising, IsRising}
-use Rattle.tip_scene.specs.Stages.{spec_of}
+use Rattle.tip_actor.specs.Standing.{keeping}
+use Rattle.tip_scene.proofs.Loaded.{beyond, loaded_at, waits}
+use Rattle.tip_scene.specs.Acts.{Basis, acting_of, scene_of}
+use Rattle.tip_scene.specs.Rising.{AreWaiting, IsWaiting}
+use Rattle.tip_scene.specs.Stages.{IsBasis, spec_of}
 use Rattle.tip_scene.specs.declared.declared.Declaration.{Declaration}
 
-sound : (name : List ℕ) → ¬ IsSpoiled empty_log name
-sound name (inl bad) = none-some bad.0 bad.1
-sound name (inr (inl stray)) = absurd (cc)
-sound name (inr (inr unread)) = absurd (cc)
+declaration_at : (basis : Basis) (declarations : List Declaration) (place : ℕ) (acting : Acting) → slice_get (scene_of basis declarations) place ≡ Some acting → (declaration : Declaration) × (slice_get (map spec_of declarations) place ≡ Some (spec_of declaration)) × (acting ≡ acting_of basis declaration)
+declaration_at basis [] place acting here = absurd (none-some acting here)
+declaration_at basis (d ∷ declarations) zero acting here = (d, refl, sym (same_Some (acting_of basis d) acting here))
+declaration_at basis (d ∷ declarations) (suc place) acting here = declaration_at basis declarations place acting here
 
--- nothing is stored of any realm
-nothing : (name : List ℕ) → IsPart empty_log name 0 []
-nothing name = record { epoch = refl; rising = refl; same = λ key. refl; sound = sound name }
+none_declared : (basis : Basis) (declarations : List Declaration) (place : ℕ) → slice_get (scene_of basis declarations) place ≡ None → slice_get (map spec_of declarations) place ≡ None
+none_declared basis [] place none = refl
+none_declared basis (d ∷ declarations) zero none = absurd (none-some (acting_of basis d) (sym none))
+none_declared basis (d ∷ declarations) (suc place) none = none_declared basis declarations place none
 
-declaration_at : (declarations : List Declaration) (place : ℕ) (acting : Acting) → slice_get (scene_of declarations) place ≡ Some acting → (declaration : Declaration) × (slice_get (map spec_of declarations) place ≡ Some (spec_of declaration)) × (acting ≡ acting_of declaration)
-declaration_at [] place acting here = absurd (none-some acting here)
-declaration_at (d ∷ declarations) zero acting here = (d, refl, sym (same_Some (acting_of d) acting here))
-declaration_at (d ∷ declarations) (suc place) acting here = declaration_at declarations place acting here
-
-none_declared : (declarations : List Declaration) (place : ℕ) → slice_get (scene_of declarations) place ≡ None → slice_get (map spec_of declarations) place ≡ None
-none_declared [] place none = refl
-none_declared (d ∷ declarations) zero none = absurd (none-some (acting_of d) (sym none))
-none_declared (d ∷ declarations) (suc place) none = none_declared declarations place none
-
-rises_new : (store : Memory) (recovering : Recovering Memory) (place : ℕ) (declaration : Declaration) → ((name : List ℕ) → is_due_in store name ≡ false) → IsLoaded store recovering place (spec_of declaration) 0 [] → IsRising recovering place (acting_of declaration)
-rises_new store recovering place declaration due is = record {
-  recovery = is.recovery;
-  there = is.there;
-  core = is.core ∙ ap (λ epoch. Some (started (starting (Host.start_of (spec_of declaration) epoch)))) is.risen;
-  state = ap (λ rows. restarted (starting (start_of declaration)) (map loaded rows)) (sym is.unadopted_are);
-  epoch = is.risen;
-  boxes = [];
-  rows = is.unadopted_are;
-  part = is.part;
-  known = is.known;
-  due = is.due ∙ due declaration.name;
-  named = refl;
-}
-
-pub rises_all : (store : Memory) (recovering : Recovering Memory) (declarations : List Declaration) (specs : List RealmSpec) → log_of store ≡ empty_log → ((name : List ℕ) → is_due_in store name ≡ false) → specs ≡ map spec_of declarations → LoadsRows specs store recovering → AreRising recovering (scene_of declarations)
-rises_all store recovering declarations specs empty due specs_are loads = record {
+pub all_wait : {S : Type 0} (stands may_leave : S → Log → Type 0) (is_true : S → Type 0) (faults : S → ℕ) (is_due : S → List ℕ → Bool) (store : S) (recovering : Recovering S) (basis : Basis) (declarations : List Declaration) (specs : List RealmSpec) → IsBasis (keeping stands is_true is_due) basis store → specs ≡ map spec_of declarations →
+    Loads stands may_leave is_true faults is_due specs store (Ok recovering) → is_true recovering.store → AreWaiting (keeping stands is_true is_due) recovering (scene_of basis declarations)
+all_wait stands may_leave is_true faults is_due store recovering basis declarations specs on specs_are loads truth = record {
   each = λ place acting here.
-      let is = declaration_at declarations place acting here in
+      let is = declaration_at basis declarations place acting here in
+      let before = basis.before is.0.name in
       let spec = ap (λ l. slice_get l place) specs_are ∙ is.1 in
-      subst (IsRising recovering place) (sym is.2) (rises_new store recovering place is.0 due (loaded_at specs store recovering loads place (spec_of is.0) 0 [] spec (subst (λ l. IsPart l is.0.name 0 []) (sym empty) (nothing is.0.name))));
-  beyond = λ place none. beyond specs store recovering loads place (ap (λ l. slice_get l place) specs_are ∙ none_declared declarations place none);
+      let loaded_ = loaded_at stands may_leave is_true faults is_due specs store recovering loads truth place (spec_of is.0) on.log before.epoch before.rows spec on.stood (on.before is.0.name) in
+      subst (IsWaiting (keeping stands is_true is_due) recovering place) (sym is.2)
+      (waits (keeping stands is_true is_due) store recovering place (spec_of is.0) before.epoch before.rows is.0.name false [] loaded_ refl (on.none_due is.0.name));
+  beyond = λ place none. beyond stands may_leave is_true faults is_due specs store recovering loads place (ap (λ l. slice_get l place) specs_are ∙ none_declared basis declarations place none);
 }

@@ -4,13 +4,17 @@ use Rattle.std.specs.List.{list_all, position_or_len}
 use Rattle.std.specs.Str.{bytes_eq}
 use Rattle.tip_line.specs.Words.{is_address, is_realm}
 use Rattle.tip_rows.specs.Branches.{are_branches}
+use Rattle.tip_rows.specs.Keys.{Key}
 use Rattle.tip_rows.specs.Labels.{is_label}
 use Rattle.tip_rows.specs.Rows.{first_label}
+use Rattle.tip_rows.specs.declared.row.Row.{Row}
+use Rattle.tip_machine.specs.declared.head.Head.{Head}
 use Rattle.tip_machine.specs.Heads.{are_allowed, starting}
-use Rattle.tip_machine.specs.Moves.{fresh}
+use Rattle.tip_machine.specs.Moves.{World, loaded}
+use Rattle.tip_machine.specs.Recovery as Recovery
 use Rattle.tip_machine.specs.declared.head.Limits.{Limits}
 use Rattle.tip_machine.specs.declared.head.Start.{Start}
-use Rattle.tip_actor.specs.Acting.{Acting}
+use Rattle.tip_actor.specs.Acting.{Acting, boxes_in}
 use Rattle.tip_scene.specs.Scenes.{Scene, Moved, moved, openings_text}
 use Rattle.tip_scene.specs.declared.declared.Declaration.{Declaration}
 use Rattle.tip_script.specs.Scripts.{Move, Declare, Label, Open, Dial, Feed, Lose, Push, Pull, Go, Drop, Resume, Refuse, Renew, Restart, move_of}
@@ -85,54 +89,81 @@ labelled name labels declarations =
 
 -- The start
 
--- a realm that has no rows starts in its first epoch
-abbrev pub start_of : Declaration → Start
-start_of declaration = record { name = declaration.name; address = declaration.address; limits = declaration.limits; branches = declaration.branches; epoch = 1 }
+-- what is stored of a realm before a script is played: its last epoch, which is 0 where it has not started yet, and its rows by key
+pub record Before : Type 0 where
+  pub epoch : ℕ
+  pub rows : List (Key × Row)
 
-abbrev pub acting_of : Declaration → Acting
-acting_of declaration = record { name = declaration.name; world = fresh (starting (start_of declaration)); due = false; readings = [] }
+-- WHAT A SCRIPT IS PLAYED ON: whether its store can be asked to refuse, and what it has of each realm
+pub record Basis : Type 0 where
+  pub may_refuse : Bool
+  pub before : List ℕ → Before
 
-abbrev pub scene_of : List Declaration → Scene
-scene_of declarations = map acting_of declarations
+-- a realm starts in the epoch after its last one
+abbrev pub start_of : Before → Declaration → Start
+start_of before declaration = record { name = declaration.name; address = declaration.address; limits = declaration.limits; branches = declaration.branches; epoch = before.epoch + 1 }
 
-abbrev pub starts_text : List Declaration → List ℕ
-starts_text declarations = openings_text (scene_of declarations)
+-- from its rows, whose branches have their boxes again
+abbrev pub world_of : Head → List (Key × Row) → World
+world_of head rows = record { state = Recovery.restarted head (loaded (boxes_in rows) rows); rows = rows; errands = [] }
+
+abbrev pub acting_of : Basis → Declaration → Acting
+acting_of basis declaration = record {
+  name = declaration.name;
+  world = world_of (starting (start_of (basis.before declaration.name) declaration)) (basis.before declaration.name).rows;
+  due = false;
+  readings = [];
+}
+
+abbrev pub scene_of : Basis → List Declaration → Scene
+scene_of basis declarations = map (acting_of basis) declarations
+
+abbrev pub starts_text : Basis → List Declaration → List ℕ
+starts_text basis declarations = openings_text (scene_of basis declarations)
 
 -- One line
 
 abbrev pub acted_by : List ℕ → Moved → Acted
 acted_by before moved = record { printed = before ++ moved.printed; stage = option_map Playing moved.scene }
 
-abbrev pub first_acts : List Declaration → Move → Acted
-first_acts declarations move = acted_by (starts_text declarations) (moved move (scene_of declarations))
+abbrev pub first_acts : Basis → List Declaration → Move → Acted
+first_acts basis declarations move = acted_by (starts_text basis declarations) (moved move (scene_of basis declarations))
 
-abbrev pub acts : Stage → Move → Acted
-acts (Declaring declarations) (Declare name address branches limits) = record { printed = []; stage = option_map Declaring (declared name address branches limits declarations) }
-acts (Declaring declarations) (Label realm labels) = record { printed = []; stage = option_map Declaring (labelled realm labels declarations) }
-acts (Declaring declarations) (Open realm plans) = first_acts declarations (Open realm plans)
-acts (Declaring declarations) (Dial realm address plans purpose) = first_acts declarations (Dial realm address plans purpose)
-acts (Declaring declarations) (Feed realm connection octets) = first_acts declarations (Feed realm connection octets)
-acts (Declaring declarations) (Lose realm connection) = first_acts declarations (Lose realm connection)
-acts (Declaring declarations) (Push realm connection id) = first_acts declarations (Push realm connection id)
-acts (Declaring declarations) (Pull realm connection superior) = first_acts declarations (Pull realm connection superior)
-acts (Declaring declarations) (Go realm) = first_acts declarations (Go realm)
-acts (Declaring declarations) (Drop realm) = first_acts declarations (Drop realm)
-acts (Declaring declarations) (Resume realm id) = first_acts declarations (Resume realm id)
-acts (Declaring declarations) (Refuse realm) = first_acts declarations (Refuse realm)
-acts (Declaring declarations) (Renew realm) = first_acts declarations (Renew realm)
-acts (Declaring declarations) Restart = first_acts declarations Restart
-acts (Playing scene) move = acted_by [] (moved move scene)
+abbrev pub acts : Basis → Stage → Move → Acted
+acts basis (Declaring declarations) (Declare name address branches limits) = record { printed = []; stage = option_map Declaring (declared name address branches limits declarations) }
+acts basis (Declaring declarations) (Label realm labels) = record { printed = []; stage = option_map Declaring (labelled realm labels declarations) }
+acts basis (Declaring declarations) (Open realm plans) = first_acts basis declarations (Open realm plans)
+acts basis (Declaring declarations) (Dial realm address plans purpose) = first_acts basis declarations (Dial realm address plans purpose)
+acts basis (Declaring declarations) (Feed realm connection octets) = first_acts basis declarations (Feed realm connection octets)
+acts basis (Declaring declarations) (Lose realm connection) = first_acts basis declarations (Lose realm connection)
+acts basis (Declaring declarations) (Push realm connection id) = first_acts basis declarations (Push realm connection id)
+acts basis (Declaring declarations) (Pull realm connection superior) = first_acts basis declarations (Pull realm connection superior)
+acts basis (Declaring declarations) (Go realm) = first_acts basis declarations (Go realm)
+acts basis (Declaring declarations) (Drop realm) = first_acts basis declarations (Drop realm)
+acts basis (Declaring declarations) (Resume realm id) = first_acts basis declarations (Resume realm id)
+acts basis (Declaring declarations) (Refuse realm) = first_acts basis declarations (Refuse realm)
+acts basis (Declaring declarations) (Renew realm) = first_acts basis declarations (Renew realm)
+acts basis (Declaring declarations) Restart = first_acts basis declarations Restart
+acts basis (Playing scene) move = acted_by [] (moved move scene)
 
-abbrev pub acts_if : Stage → Option Move → Acted
-acts_if stage None = record { printed = []; stage = None }
-acts_if stage (Some move) = acts stage move
+-- a refusal is asked for only where it can be
+abbrev pub may_say : Bool → Move → Bool
+may_say may (Refuse realm) = may
+may_say may other = true
+
+abbrev pub not_understood : Acted
+not_understood = record { printed = []; stage = None }
+
+abbrev pub acts_if : Basis → Stage → Option Move → Acted
+acts_if basis stage None = not_understood
+acts_if basis stage (Some move) = if may_say basis.may_refuse move then acts basis stage move else not_understood
 
 -- WHAT A LINE DOES to a stage; an empty one says nothing
-abbrev pub acted : Stage → List ℕ → Acted
-acted stage [] = record { printed = []; stage = Some stage }
-acted stage (octet ∷ line) = acts_if stage (move_of (octet ∷ line))
+abbrev pub acted : Basis → Stage → List ℕ → Acted
+acted basis stage [] = record { printed = []; stage = Some stage }
+acted basis stage (octet ∷ line) = acts_if basis stage (move_of (octet ∷ line))
 
 -- at the end of a script the realms start, if they have not
-abbrev pub closing_of : Stage → List ℕ
-closing_of (Declaring declarations) = starts_text declarations
-closing_of (Playing scene) = []
+abbrev pub closing_of : Basis → Stage → List ℕ
+closing_of basis (Declaring declarations) = starts_text basis declarations
+closing_of basis (Playing scene) = []

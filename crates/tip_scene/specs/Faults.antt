@@ -3,8 +3,15 @@ use Rattle.tip_line.specs.declared.fault.WordFault.{WordFault}
 use Rattle.tip_line.specs.declared.fault.WordFault.TheVariants as words
 use Rattle.tip_rows.specs.declared.label.LabelFault.{LabelFault}
 use Rattle.tip_rows.specs.declared.label.LabelFault.TheVariants as labels
+use Rattle.tip_actor.specs.declared.fault.ActFault.{ActFault}
+use Rattle.tip_actor.specs.declared.fault.ActFault.TheVariants as acts
 use Rattle.tip_scene.specs.declared.fault.LineFault.{LineFault}
 use Rattle.tip_scene.specs.declared.fault.LineFault.TheVariants as lines
+
+-- why a line that is understood ends its script
+abbrev pub of_act_fault : ActFault → LineFault
+of_act_fault acts.Memory = lines.Memory
+of_act_fault acts.Store = lines.Store
 
 -- what is no label makes a bad line
 abbrev pub of_label_fault : LabelFault → LineFault

@@ -1,15 +1,14 @@
 -- Realms that have started, before they are at work.
-use Rattle.std.specs.Prelude.{◌≡◌, ℕ, List, [], ◌∷◌, map, true, Some, None, is_some, slice_get}
+use Rattle.std.specs.Prelude.{◌≡◌, ℕ, List, [], ◌∷◌, map, Some, None, slice_get}
 use Rattle.tip_branch.specs.declared.branch.Badge.{Badge}
 use Rattle.tip_core.specs.Hosted.{realm}
+use Rattle.tip_machine.specs.Moves as Moves
 use Rattle.tip_machine.specs.Recovery.{restarted}
 use Rattle.tip_machine.specs.States.{started}
 use Rattle.tip_recovery.specs.Adopting.{Recovery, Unfinished, given, loaded, unadopted, with_boxes}
-use Rattle.tip_rows.specs.Logs.{IsPart}
-use Rattle.tip_rows.specs.Memory.{Memory, is_due_in, log_of}
 use Rattle.tip_host.specs.Recovering.{Recovering}
-use Rattle.tip_actor.specs.Acting.{Acting, willing_boxes}
-use Rattle.tip_actor.specs.Standing.{Actor}
+use Rattle.tip_actor.specs.Acting.{Acting, boxes_in, willing_boxes}
+use Rattle.tip_actor.specs.Standing.{Actor, IsStored, Keeping}
 use Rattle.tip_scene.specs.Scenes.{Scene}
 
 -- nothing has come to it, and no party is out
@@ -40,8 +39,29 @@ AreAnew [] (old ∷ olds) = ⊥
 AreAnew (new ∷ news) [] = ⊥
 AreAnew (new ∷ news) (old ∷ olds) = IsAnew new old × AreAnew news olds
 
--- the realm at a place has started: its rows are stored, and its boxes are adopted
-pub record IsRising (recovering : Recovering Memory) (place : ℕ) (acting : Acting) : Type 0 where
+-- those of these realms, before nothing is to have come to them
+abbrev pub AreAgain : List Actor → Scene → Type 0
+AreAgain olds scene = (news : List Actor) → AreAnew news olds → AreNew news scene
+
+-- the realm at a place has started, and its rows wait for boxes
+pub record IsWaiting {S : Type 0} (kept : Keeping S) (recovering : Recovering S) (place : ℕ) (acting : Acting) : Type 0 where
+  pub recovery : Recovery
+  pub there : slice_get recovering.realms place ≡ Some recovery
+  pub core : realm recovering.core place ≡ Some (started acting.world.state.head)
+  pub state : acting.world.state ≡ restarted acting.world.state.head (Moves.loaded (boxes_in acting.world.rows) acting.world.rows)
+  pub epoch : recovery.epoch ≡ acting.world.state.head.epoch
+  pub rows : recovery.rows ≡ map (unadopted acting.name) acting.world.rows
+  pub stored : IsStored kept recovering.store acting.world.state.head.name acting.world.state.head.epoch acting.world.rows
+  pub due : kept.is_due recovering.store acting.world.state.head.name ≡ acting.due
+  pub named : acting.world.state.head.name ≡ acting.name
+
+pub record AreWaiting {S : Type 0} (kept : Keeping S) (recovering : Recovering S) (scene : Scene) : Type 0 where
+  pub each : (place : ℕ) (acting : Acting) → slice_get scene place ≡ Some acting → IsWaiting kept recovering place acting
+  -- and there are no others
+  pub beyond : (place : ℕ) → slice_get scene place ≡ None → realm recovering.core place ≡ None
+
+-- its rows are stored, and its boxes are adopted
+pub record IsRising {S : Type 0} (kept : Keeping S) (recovering : Recovering S) (place : ℕ) (acting : Acting) : Type 0 where
   pub recovery : Recovery
   pub there : slice_get recovering.realms place ≡ Some recovery
   pub core : realm recovering.core place ≡ Some (started acting.world.state.head)
@@ -49,13 +69,12 @@ pub record IsRising (recovering : Recovering Memory) (place : ℕ) (acting : Act
   pub epoch : recovery.epoch ≡ acting.world.state.head.epoch
   pub boxes : List (List Badge)
   pub rows : recovery.rows ≡ given with_boxes boxes (map (unadopted acting.name) acting.world.rows)
-  pub part : IsPart (log_of recovering.store) acting.world.state.head.name acting.world.state.head.epoch acting.world.rows
-  pub known : is_some ((log_of recovering.store).epochs acting.world.state.head.name) ≡ true
-  pub due : is_due_in recovering.store acting.world.state.head.name ≡ acting.due
+  pub stored : IsStored kept recovering.store acting.world.state.head.name acting.world.state.head.epoch acting.world.rows
+  pub due : kept.is_due recovering.store acting.world.state.head.name ≡ acting.due
   pub named : acting.world.state.head.name ≡ acting.name
 
-pub record AreRising (recovering : Recovering Memory) (scene : Scene) : Type 0 where
-  pub each : (place : ℕ) (acting : Acting) → slice_get scene place ≡ Some acting → IsRising recovering place acting
+pub record AreRising {S : Type 0} (kept : Keeping S) (recovering : Recovering S) (scene : Scene) : Type 0 where
+  pub each : (place : ℕ) (acting : Acting) → slice_get scene place ≡ Some acting → IsRising kept recovering place acting
   -- and there are no others
   pub beyond : (place : ℕ) → slice_get scene place ≡ None → realm recovering.core place ≡ None
 

@@ -1,75 +1,113 @@
 -- How the code's stage stands for the script's.
 use Rattle.std.specs.Prelude.{◌≡◌, ℕ, List, ◌++◌, false, Option, Some, None, Result, Ok, Err}
 use Rattle.tip_actor.specs.Acting.{boxes_of}
-use Rattle.tip_actor.specs.Standing.{Actor, Host}
+use Rattle.tip_actor.specs.Standing.{Actor, Host, Keeping}
 use Rattle.tip_core.specs.Hosted.{Hosted}
 use Rattle.tip_host.specs.declared.realm_spec.RealmSpec.{RealmSpec}
 use Rattle.tip_branch.specs.Lots.{badges_of}
-use Rattle.tip_branch.specs.declared.branch.Phase.TheVariants.{Active}
 use Rattle.tip_branch.specs.declared.branch.Standing.{Standing}
-use Rattle.tip_script.specs.Scripts.{Move, is_start, plans_of, plans_with}
-use Rattle.tip_scene.specs.Acts.{Stage, Declaring, Playing, Acted}
+use Rattle.tip_rows.specs.Logs.{IsPart, Log}
+use Rattle.tip_script.specs.Scripts.{Move, plans_of, plans_with}
+use Rattle.tip_scene.specs.Acts.{Stage, Declaring, Playing, Acted, Basis}
 use Rattle.tip_scene.specs.Scenes.{Moved}
 use Rattle.tip_scene.specs.Standing.{IsScene, IsMoved}
 use Rattle.tip_scene.specs.declared.declared.Declaration.{Declaration}
 use Rattle.tip_scene.specs.declared.declared.Declared as declarations
 use Rattle.tip_scene.specs.declared.fault.LineFault.{LineFault}
-use Rattle.tip_scene.specs.declared.fault.LineFault.TheVariants.{NotUnderstood, Memory}
+use Rattle.tip_scene.specs.declared.fault.LineFault.TheVariants.{NotUnderstood, Memory, Store}
 use Rattle.tip_scene.specs.declared.playing.Playing as playings
 use Rattle.tip_scene.specs.declared.boxes.Wanted.{Wanted}
 use Rattle.tip_scene.specs.declared.stage.Stage as stages
 use Rattle.tip_scene.specs.declared.stage.Stage.TheVariants as stage
 
 -- the code's values: the realms declared, the realms at work, and the stage
-abbrev pub Declared : Type 0
-Declared = declarations.Declared Hosted
+abbrev pub Declared : Type 0 → Type 0
+Declared S = declarations.Declared S Hosted
 
-abbrev pub APlaying : Type 0
-APlaying = playings.Playing Host Actor
+abbrev pub APlaying : Type 0 → Type 0
+APlaying S = playings.Playing (Host S) Actor
 
-abbrev pub AStage : Type 0
-AStage = stages.Stage Declared APlaying
+abbrev pub AStage : Type 0 → Type 0
+AStage S = stages.Stage (Declared S) (APlaying S)
+
+-- the store of a stage
+abbrev pub store_of : {S : Type 0} → AStage S → S
+store_of (stage.Declaring realms) = realms.store
+store_of (stage.Playing playing) = playing.host.store
 
 -- a realm as it is to be hosted
 abbrev pub spec_of : Declaration → RealmSpec
 spec_of declaration = record { name = declaration.name; address = declaration.address; limits = declaration.limits; branches = declaration.branches }
 
-abbrev pub IsDeclared : Declared → List Declaration → Type 0
-IsDeclared realms declarations = realms.declarations.items ≡ declarations
+-- The store
 
-abbrev pub IsStage : AStage → Stage → Type 0
-IsStage (stage.Declaring realms) (Declaring declarations) = IsDeclared realms declarations
-IsStage (stage.Declaring realms) (Playing scene) = ⊥
-IsStage (stage.Playing playing) (Declaring declarations) = ⊥
-IsStage (stage.Playing playing) (Playing scene) = IsScene playing.host playing.actors.items scene
+-- a store that has of each realm what the basis says, and of which no refusal was asked
+pub record IsBasis {S : Type 0} (kept : Keeping S) (basis : Basis) (store : S) : Type 0 where
+  pub log : Log
+  pub stood : kept.stands store log
+  pub before : (name : List ℕ) → IsPart log name (basis.before name).epoch (basis.before name).rows
+  pub none_due : (name : List ℕ) → kept.is_due store name ≡ false
+
+-- a store that comes back may be relied on; of one that does not, where memory ended in a start, nothing is known
+abbrev pub IsReliable : {S : Type 0} → Keeping S → Option S → Type 0
+IsReliable kept None = (store : _) → kept.is_true store
+IsReliable kept (Some store) = kept.is_true store
+
+-- who relies on the store afterwards may rely on it before
+abbrev pub Trusts : {S T E : Type 0} → Keeping S → S → (T → S) → Result T (E × Option S) → Type 0
+Trusts kept old store (Ok x) = kept.is_true (store x) → kept.is_true old
+Trusts kept old store (Err fault) = IsReliable kept fault.1 → kept.is_true old
+
+-- The stage
+
+pub record IsDeclared {S : Type 0} (kept : Keeping S) (basis : Basis) (realms : Declared S) (declarations : List Declaration) : Type 0 where
+  pub founded : IsBasis kept basis realms.store
+  pub declared : realms.declarations.items ≡ declarations
+
+abbrev pub IsStage : {S : Type 0} → Keeping S → Basis → AStage S → Stage → Type 0
+IsStage kept basis (stage.Declaring realms) (Declaring declarations) = IsDeclared kept basis realms declarations
+IsStage kept basis (stage.Declaring realms) (Playing scene) = ⊥
+IsStage kept basis (stage.Playing playing) (Declaring declarations) = ⊥
+IsStage kept basis (stage.Playing playing) (Playing scene) = IsScene kept playing.host playing.actors.items scene
 
 -- a realm more was declared, or may not be; where memory ends nothing is said
-abbrev pub Declares : Option (List Declaration) → Result Declared LineFault → Type 0
-Declares more (Ok realms) = (all : List Declaration) × (more ≡ Some all) × IsDeclared realms all
-Declares more (Err NotUnderstood) = more ≡ None
-Declares more (Err Memory) = Unit {0}
+abbrev pub Declares : Option (List Declaration) → List Declaration → Result (Unit {0}) LineFault → Type 0
+Declares more now (Ok done) = more ≡ Some now
+Declares more now (Err NotUnderstood) = more ≡ None
+Declares more now (Err Memory) = Unit {0}
+Declares more now (Err Store) = Unit {0}
 
--- a line was done, or may not stand here; where memory ends nothing is said
-abbrev pub Moves : List ℕ → List ℕ → Moved → Result APlaying LineFault → Type 0
-Moves printed printed' moved (Ok playing) = IsMoved playing.host playing.actors.items printed printed' moved
-Moves printed printed' moved (Err NotUnderstood) = (moved.scene ≡ None) × (printed' ≡ printed ++ moved.printed)
-Moves printed printed' moved (Err Memory) = Unit {0}
+-- a line was done, or may not stand here; where memory ends, or the store refuses, nothing is said
+abbrev pub Serves : {S : Type 0} → Keeping S → List ℕ → List ℕ → Moved → APlaying S → Result (Unit {0}) LineFault → Type 0
+Serves kept printed printed' moved playing (Ok done) = IsMoved kept playing.host playing.actors.items printed printed' moved
+Serves kept printed printed' moved playing (Err NotUnderstood) = (moved.scene ≡ None) × (printed' ≡ printed ++ moved.printed)
+Serves kept printed printed' moved playing (Err Memory) = Unit {0}
+Serves kept printed printed' moved playing (Err Store) = Unit {0}
 
--- the boxes that come with a line are those that it names; those of a start are for the branches of stored rows
+-- the same, as long as the store may be relied on
+abbrev pub Moves : {S : Type 0} → Keeping S → List ℕ → List ℕ → Moved → Result (APlaying S) (LineFault × Option S) → Type 0
+Moves kept printed printed' moved (Ok playing) = kept.is_true playing.host.store → IsMoved kept playing.host playing.actors.items printed printed' moved
+Moves kept printed printed' moved (Err (NotUnderstood, store)) = IsReliable kept store → (moved.scene ≡ None) × (printed' ≡ printed ++ moved.printed)
+Moves kept printed printed' moved (Err (Memory, store)) = Unit {0}
+Moves kept printed printed' moved (Err (Store, store)) = Unit {0}
+
+-- the boxes that come with a line are those that it names
 abbrev pub ComeWith : Option Move → List Standing → Type 0
-ComeWith line boxes = (move : Move) → line ≡ Some move → is_start move ≡ false → badges_of boxes ≡ boxes_of (plans_with move)
+ComeWith line boxes = (move : Move) → line ≡ Some move → badges_of boxes ≡ boxes_of (plans_with move)
 
--- and so do those that are wanted, by their letters
+-- and so are those that are wanted, by their letters
 abbrev pub AreWanted : Option Move → Wanted → Type 0
-AreWanted line wanted = (move : Move) → line ≡ Some move → is_start move ≡ false → (wanted.phase ≡ Active) × (plans_of wanted.kinds.items ≡ plans_with move)
+AreWanted line wanted = (move : Move) → line ≡ Some move → plans_of wanted.kinds.items ≡ plans_with move
 
-abbrev pub ActsSo : List ℕ → List ℕ → Acted → Result AStage LineFault → Type 0
-ActsSo printed printed' acted (Ok code) = (now : Stage) × (acted.stage ≡ Some now) × IsStage code now × (printed' ≡ printed ++ acted.printed)
-ActsSo printed printed' acted (Err NotUnderstood) = (acted.stage ≡ None) × (printed' ≡ printed ++ acted.printed)
-ActsSo printed printed' acted (Err Memory) = Unit {0}
+abbrev pub ActsSo : {S : Type 0} → Keeping S → Basis → List ℕ → List ℕ → Acted → Result (AStage S) (LineFault × Option S) → Type 0
+ActsSo kept basis printed printed' acted (Ok code) = kept.is_true (store_of code) → (now : Stage) × (acted.stage ≡ Some now) × IsStage kept basis code now × (printed' ≡ printed ++ acted.printed)
+ActsSo kept basis printed printed' acted (Err (NotUnderstood, store)) = IsReliable kept store → (acted.stage ≡ None) × (printed' ≡ printed ++ acted.printed)
+ActsSo kept basis printed printed' acted (Err (Memory, store)) = Unit {0}
+ActsSo kept basis printed printed' acted (Err (Store, store)) = Unit {0}
 
 -- a text was printed, if there is one
 abbrev pub Prints : List ℕ → List ℕ → Option (List ℕ) → Result (Unit {0}) LineFault → Type 0
 Prints printed printed' text (Ok done) = (said : List ℕ) × (text ≡ Some said) × (printed' ≡ printed ++ said)
 Prints printed printed' text (Err NotUnderstood) = (text ≡ None) × (printed' ≡ printed)
 Prints printed printed' text (Err Memory) = Unit {0}
+Prints printed printed' text (Err Store) = Unit {0}

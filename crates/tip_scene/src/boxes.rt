@@ -6,7 +6,7 @@ ghost use Rattle.tip_branch.specs.Lots.{badges_of};
 ghost use Rattle.tip_script.specs.Scripts.{plan_of, plans_of};
 
 use std::alloc::{AllocError, Global};
-use tip_branch::{Branch, Fresh, HeldFresh, HeldPrepared, Phase, Prepared};
+use tip_branch::{Branch, Fresh, HeldFresh, HeldPrepared, Prepared};
 use tip_recovery::{Recovery, Unfinished, branches_of};
 use tip_rows::{Key, Row};
 use tip_script::plan_of;
@@ -14,43 +14,42 @@ use tip_script::plan_of;
 /// How many branches a row may name.
 const MOST_BRANCHES: usize = 8;
 
-/// The boxes that a line wants: a letter for each, and the phase in which all are.
+/// The boxes that a line wants: a letter for each that it names, and willing ones for the rows of realms that start.
 #[derive(Drop)]
 pub struct Wanted {
     pub kinds: Vec<u8>,
-    pub phase: Phase,
+    pub willing: usize,
 }
 
 impl Wanted {
-    /// Active boxes of these letters.
-    pub(crate) fn active(alloc: Global, letters: &[u8]) -> Result<Wanted, AllocError>
-        ensures { IfOk result (λ wanted. (wanted.kinds.items ≡ letters.now) × (wanted.phase ≡ Phase.Active)) }
+    /// So many willing boxes alone.
+    pub fn of_rows(alloc: Global, willing: usize) -> Wanted {
+        Wanted {
+            kinds: Vec::new(alloc),
+            willing,
+        }
+    }
+
+    /// Boxes of these letters, and so many willing ones.
+    pub(crate) fn new(alloc: Global, letters: &[u8], willing: usize) -> Result<Wanted, AllocError>
+        ensures { IfOk result (λ wanted. wanted.kinds.items ≡ letters.now) }
     {
         let mut kinds = Vec::new(alloc);
         kinds.extend_from_slice(letters)?;
-        Ok(Wanted {
-            kinds,
-            phase: Phase::Active,
-        })
+        Ok(Wanted { kinds, willing })
     }
+}
 
-    /// No box, ready for its outcome.
-    pub(crate) fn none_ready(alloc: Global) -> Wanted {
-        Wanted {
-            kinds: Vec::new(alloc),
-            phase: Phase::Ready,
-        }
+/// How many branches rows have; more than can be counted find no memory.
+pub(crate) fn count_branches(rows: &[(Key, Row)]) -> Result<usize, AllocError> {
+    let mut count: usize = 0;
+    for (_, row) in rows {
+        count = match count.checked_add(branches_of(row).len()) {
+            Some(more) => more,
+            None => return Err(AllocError),
+        };
     }
-
-    /// One willing box more for each branch of rows.
-    pub(crate) fn add_willing(&mut self, rows: &[(Key, Row)]) -> Result<(), AllocError> {
-        for (_, row) in rows {
-            for _ in branches_of(row) {
-                self.kinds.push(b'y')?;
-            }
-        }
-        Ok(())
-    }
+    Ok(count)
 }
 
 /// Boxes that no transaction has yet.

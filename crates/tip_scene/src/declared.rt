@@ -1,27 +1,30 @@
 //! The realms of a script, before they start.
-ghost use Rattle.std.specs.Prelude.{◌≡◌, ◌≤◌, ◌++◌, ◌&&◌, ℕ, true, false, List, [], None, Some, map, IfOk, OnOk, IsErrOf, string_bytes};
+ghost use Rattle.std.specs.Prelude.{◌≡◌, ◌≤◌, ◌++◌, ◌&&◌, true, false, List, [], None, Some, map, IfOk, OnOk, IsErrOf, string_bytes};
 ghost use Rattle.std.specs.List.{list_all, position_or_len};
 ghost use Rattle.tip_branch.specs.Always.{Always};
 ghost use Rattle.tip_line.specs.Fields.{fields_of};
 ghost use Rattle.tip_line.specs.Words.{is_address, is_realm};
-ghost use Rattle.tip_scene.specs.Acts.{declaration_of, declared, is_count, is_declared, is_other, labelled, scene_of, starts_text, with_labels};
+ghost use Rattle.tip_actor.specs.Standing.{keeping};
+ghost use Rattle.tip_scene.specs.Acts.{Basis, declaration_of, declared, is_count, is_declared, is_other, labelled, scene_of, starts_text, with_labels};
 ghost use Rattle.tip_scene.specs.Rising.{AreNew};
-ghost use Rattle.tip_scene.specs.Stages.{Declares, IsDeclared, spec_of};
+ghost use Rattle.tip_scene.specs.Stages.{Declares, IsDeclared, IsBasis, Trusts, spec_of};
 ghost use Rattle.tip_scene.specs.Standing.{IsScene};
 ghost use Rattle.tip_scene.specs.declared.fault.LineFault.TheVariants.{NotUnderstood};
 
 use crate::branches::{first_branches, labelled_branches};
+use crate::counting::count_declared;
 use crate::fault::LineFault;
 use crate::playing::Playing;
-use crate::rising::begin;
+use crate::rising::rise;
 use std::alloc::{AllocError, Global};
 use std::collections::VecDeque;
-use tip_actor::Actor;
+use tip_actor::{ActFault, Actor};
+use tip_branch::Branch;
 use tip_core::Core;
 use tip_host::{Host, RealmSpec};
 use tip_line::{Address, Realm};
 use tip_machine::Limits;
-use tip_rows::{Branches, MemRows};
+use tip_rows::{Branches, RowLog};
 
 /// How many realms a script may declare.
 const MOST_REALMS: usize = 64;
@@ -29,7 +32,7 @@ const MOST_REALMS: usize = 64;
 /// A realm that a script declares.
 #[derive(Drop)]
 pub struct Declaration {
-    name: Realm,
+    pub(crate) name: Realm,
     address: Address,
     limits: Limits,
     branches: Branches,
@@ -37,36 +40,40 @@ pub struct Declaration {
     is_labelled: bool,
 }
 
-/// The realms declared so far.
+/// The realms declared so far, and the store over which they are to start.
 #[derive(Drop)]
-pub struct Declared<C = Core> {
+pub struct Declared<S, C = Core> {
     core: C,
+    pub(crate) store: S,
     declarations: Vec<Declaration>,
 }
 
-impl Declared<Core> {
+impl<S: RowLog + Drop> Declared<S, Core> {
     /// None are declared. The core, which has no realms yet, is for their start.
-    pub fn new(alloc: Global, core: Core) -> Declared<Core>
+    pub fn new(alloc: Global, core: Core, store: S) -> Declared<S, Core>
         requires { Always }
-        ensures { IsDeclared result [] }
+        ensures store { result.store ≡ store }
+        ensures none { (basis : Basis) → IsBasis (keeping S.stands S.is_true S.is_due) basis store → IsDeclared (keeping S.stands S.is_true S.is_due) basis result [] }
     {
         Declared {
             core,
+            store,
             declarations: Vec::new(alloc),
         }
     }
 
     /// One realm more.
     pub fn add(
-        mut self,
+        &mut self,
         alloc: Global,
         name: &str,
         address: &[u8],
         branches: u32,
         limits: Limits,
-    ) -> Result<Declared, LineFault>
+    ) -> Result<(), LineFault>
         requires { Always }
-        ensures { (declarations : List Declaration) → IsDeclared self declarations → Declares (declared name.now address.now branches limits declarations) result }
+        ensures store { self.new.store ≡ self.old.store }
+        ensures declares { Declares (declared name.now address.now branches limits self.old.declarations.items) self.new.declarations.items result }
     {
         if self.declarations.len() >= MOST_REALMS
             || !is_count(branches)
@@ -77,35 +84,59 @@ impl Declared<Core> {
         }
         let declaration = declaration_of(alloc, name, address, branches, limits)?;
         self.declarations.push(declaration)?;
-        Ok(self)
+        Ok(())
     }
 
     /// The branches of a realm's transactions have these labels, by number; spaces stand between them.
-    pub fn label(mut self, alloc: Global, name: &str, labels: &[u8]) -> Result<Declared, LineFault>
+    pub fn label(&mut self, alloc: Global, name: &str, labels: &[u8]) -> Result<(), LineFault>
         requires { Always }
-        ensures { (declarations : List Declaration) → IsDeclared self declarations → Declares (labelled name.now (fields_of 32 labels.now) declarations) result }
+        ensures store { self.new.store ≡ self.old.store }
+        ensures declares { Declares (labelled name.now (fields_of 32 labels.now) self.old.declarations.items) self.new.declarations.items result }
     {
         let place = place_of(name, &self.declarations);
         let Some(declaration) = self.declarations.get_mut(place) else {
             return Err(LineFault::NotUnderstood);
         };
-        declaration.label(alloc, labels)?;
-        Ok(self)
+        declaration.label(alloc, labels)
     }
 
-    /// The realms start, and say in which epoch.
-    pub fn start(self, alloc: Global, printed: &mut String) -> Result<Playing, AllocError>
+    /// The realms start, and say in which epoch; each branch of a stored row has a box out of this pool. At a fault the store comes
+    /// back, but where memory ends in the start.
+    pub fn start(
+        self,
+        alloc: Global,
+        pool: &mut Vec<Box<dyn Branch + Send>>,
+        printed: &mut String,
+    ) -> Result<Playing<Host<S>>, (ActFault, Option<S>)>
         requires { Always }
-        ensures text { (declarations : List Declaration) → IsDeclared self declarations → IfOk result (λ playing. string_bytes printed.new ≡ string_bytes printed.old ++ starts_text declarations) }
-        ensures scene { (declarations : List Declaration) → IsDeclared self declarations → IfOk result (λ playing. IsScene playing.host playing.actors.items (scene_of declarations)) }
+        ensures truth { Trusts (keeping S.stands S.is_true S.is_due) self.store (λ playing. playing.host.store) result }
+        ensures text { (basis : Basis) (declarations : List Declaration) → IsDeclared (keeping S.stands S.is_true S.is_due) basis self declarations → IfOk result (λ playing. S.is_true playing.host.store → string_bytes printed.new ≡ string_bytes printed.old ++ starts_text basis declarations) }
+        ensures scene { (basis : Basis) (declarations : List Declaration) → IsDeclared (keeping S.stands S.is_true S.is_due) basis self declarations → IfOk result (λ playing. S.is_true playing.host.store → IsScene (keeping S.stands S.is_true S.is_due) playing.host playing.actors.items (scene_of basis declarations)) }
     {
-        let Declared { core, declarations } = self;
-        let actors = actors_of(alloc, &declarations)?;
-        let specs = specs_of(alloc, declarations)?;
-        match Host::load(alloc, MemRows::new(alloc), core, specs) {
-            Ok(recovering) => begin(recovering, actors, printed),
-            Err(_) => Err(AllocError),
+        let Declared {
+            core,
+            store,
+            declarations,
+        } = self;
+        let Ok((actors, specs)) = parts_of(alloc, declarations) else {
+            return Err((ActFault::Memory, Some(store)));
+        };
+        match Host::load(alloc, store, core, specs) {
+            Ok(recovering) => match rise(alloc, recovering, actors, pool, printed) {
+                Ok(playing) => Ok(playing),
+                Err(AllocError) => Err((ActFault::Memory, None)),
+            },
+            Err((fault, store)) => Err((ActFault::from(fault), Some(store))),
         }
+    }
+
+    /// How many boxes a start wants: a willing one for each branch of each stored row, of one realm or of all.
+    pub(crate) fn willing(&mut self, only: Option<&str>) -> Result<usize, ActFault>
+        requires { Always }
+        ensures truth { S.is_true self.new.store → S.is_true self.old.store }
+        ensures stands { (basis : Basis) (declarations : List Declaration) → IsDeclared (keeping S.stands S.is_true S.is_due) basis self.old declarations → IsDeclared (keeping S.stands S.is_true S.is_due) basis self.new declarations }
+    {
+        count_declared(&mut self.store, &self.declarations, only)
     }
 }
 
@@ -194,9 +225,21 @@ fn declaration_of(
     })
 }
 
+/// Each realm at its start, and as it is to be hosted.
+fn parts_of(
+    alloc: Global,
+    declarations: Vec<Declaration>,
+) -> Result<(Vec<Actor>, Vec<RealmSpec>), AllocError>
+    ensures { IfOk result (λ parts. ((basis : Basis) → AreNew parts.0.items (scene_of basis declarations.items)) × (parts.1.items ≡ map spec_of declarations.items)) }
+{
+    let actors = actors_of(alloc, &declarations)?;
+    let specs = specs_of(alloc, declarations)?;
+    Ok((actors, specs))
+}
+
 /// Each realm at its start.
 fn actors_of(alloc: Global, declarations: &[Declaration]) -> Result<Vec<Actor>, AllocError>
-    ensures { IfOk result (λ actors. AreNew actors.items (scene_of declarations.now)) }
+    ensures { IfOk result (λ actors. (basis : Basis) → AreNew actors.items (scene_of basis declarations.now)) }
 {
     let mut actors = Vec::with_capacity(alloc, declarations.len())?;
     for declaration in declarations {

@@ -2,6 +2,7 @@
 ghost use Rattle.std.specs.Prelude.{◌≡◌};
 
 use std::alloc::{AllocError, AllocFailed};
+use tip_actor::ActFault;
 use tip_line::WordFault;
 use tip_rows::LabelFault;
 
@@ -11,6 +12,8 @@ pub enum LineFault {
     /// It says nothing, or what may not stand here.
     NotUnderstood,
     Memory,
+    /// As `ActFault::Store` says.
+    Store,
 }
 
 impl From<AllocError> for LineFault {
@@ -30,6 +33,19 @@ impl<T: Drop> From<AllocFailed<T>> for LineFault {
 
     fn from(_: AllocFailed<T>) -> LineFault {
         LineFault::Memory
+    }
+}
+
+impl From<ActFault> for LineFault {
+    ghost use Rattle.tip_scene.specs.Faults.{of_act_fault};
+
+    ghost from_gives = { λ fault result. result ≡ of_act_fault fault };
+
+    fn from(fault: ActFault) -> LineFault {
+        match fault {
+            ActFault::Memory => LineFault::Memory,
+            ActFault::Store => LineFault::Store,
+        }
     }
 }
 

@@ -3,6 +3,7 @@
 
 mod boxes;
 mod branches;
+mod counting;
 mod declared;
 mod fault;
 mod playing;
@@ -13,6 +14,7 @@ mod rising;
 mod stage;
 
 pub use boxes::{Wanted, are_of};
+pub use declared::Declared;
 pub use fault::LineFault;
 pub use playing::Playing;
 pub use stage::Stage;

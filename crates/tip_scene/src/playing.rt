@@ -1,105 +1,138 @@
 //! The realms of a script at work.
-ghost use Rattle.std.specs.Prelude.{◌≡◌, ◌++◌, ℕ, List, Some, None, false, map, IfOk, OnOk, string_bytes};
+ghost use Rattle.std.specs.Prelude.{◌≡◌, Some, None, true, false, map, IfOk, string_bytes};
 ghost use Rattle.std.specs.List.{position_or_len};
 ghost use Rattle.tip_branch.specs.Always.{Always};
 ghost use Rattle.tip_actor.specs.Acting.{Acting, boxes_of};
-ghost use Rattle.tip_actor.specs.Standing.{Host as AHost, IsActing, Tells};
+ghost use Rattle.tip_actor.specs.Standing.{IsActing, Tells, keeping};
 ghost use Rattle.tip_script.specs.Moves.{move_by};
-ghost use Rattle.tip_script.specs.Scripts.{Renew as Renews, is_start, plans_with};
+ghost use Rattle.tip_script.specs.Scripts.{Renew as Renews, is_start, plans_with, realm_of};
+ghost use Rattle.tip_scene.specs.Acts.{may_say};
 ghost use Rattle.tip_scene.specs.Scenes.{Scene, does, elsewhere, moved, moved_in};
 ghost use Rattle.tip_scene.specs.Standing.{has_name, IsScene};
-ghost use Rattle.tip_scene.specs.Stages.{ComeWith, Moves, Prints};
+ghost use Rattle.tip_scene.specs.Stages.{ComeWith, Moves, Prints, Serves, Trusts};
 
-use crate::boxes::{Wanted, fresh};
+use crate::boxes::fresh;
+use crate::counting::count_acting;
 use crate::fault::LineFault;
 use crate::renewing::renew;
 use crate::requests::{dial, pull, push, resume};
 use crate::restarting::restart;
-use std::alloc::{AllocError, Global};
-use tip_actor::Actor;
+use std::alloc::Global;
+use tip_actor::{ActFault, Actor, Refuser};
 use tip_branch::{Branch, HeldFresh};
 use tip_host::Host;
 use tip_machine::Event;
-use tip_rows::{MemRows, RowLog};
+use tip_rows::RowLog;
 use tip_script::Instruction;
 use tip_transcript::{print_idle, print_nowhere};
 
 /// All realms, each at its place in the order of declaration.
 #[derive(Drop)]
-pub struct Playing<H = Host<MemRows>, A = Actor> {
+pub struct Playing<H, A = Actor> {
     pub host: H,
     pub actors: Vec<A>,
 }
 
-impl Playing<Host<MemRows>, Actor> {
-    /// Does what a line says, with the boxes that come with it; then all lines of its realm that may be taken are taken.
-    /// `NotUnderstood` where the line may not stand here.
-    pub fn act(
-        self,
+impl<S: RowLog + Drop> Playing<Host<S>, Actor> {
+    /// Does what a line says, with the boxes that come with it, and willing ones for rows out of a pool; then all lines of its
+    /// realm that may be taken are taken. `NotUnderstood` where the line may not stand here. At a fault the store comes back, but
+    /// where memory ends in a start.
+    pub fn act<R: Refuser<S>>(
+        mut self,
         alloc: Global,
+        refuser: &R,
         instruction: Instruction<'_>,
         boxes: Vec<Box<dyn Branch + Send>>,
+        pool: &mut Vec<Box<dyn Branch + Send>>,
         printed: &mut String,
-    ) -> Result<Playing, LineFault>
+    ) -> Result<Playing<Host<S>>, (LineFault, Option<S>)>
         requires { Always }
-        ensures { (scene : Scene) → IsScene self.host self.actors.items scene → ComeWith (Some (move_by instruction.entry)) (map standing boxes.items) →
-            Moves (string_bytes printed.old) (string_bytes printed.new) (moved (move_by instruction.entry) scene) result }
+        ensures truth { Trusts (keeping S.stands S.is_true S.is_due) self.host.store (λ playing. playing.host.store) result }
+        ensures moves { (scene : Scene) → IsScene (keeping S.stands S.is_true S.is_due) self.host self.actors.items scene → may_say R.may (move_by instruction.entry) ≡ true → ComeWith (Some (move_by instruction.entry)) (map standing boxes.items) →
+            Moves (keeping S.stands S.is_true S.is_due) (string_bytes printed.old) (string_bytes printed.new) (moved (move_by instruction.entry) scene) result }
     {
         let Some(realm) = instruction.realm() else {
-            return restart(self, alloc, boxes, printed);
+            return restart(self, alloc, pool, printed);
         };
+        match self.serve(alloc, refuser, realm, instruction, boxes, pool, printed) {
+            Ok(()) => Ok(self),
+            Err(fault) => Err((fault, Some(self.host.shut()))),
+        }
+    }
+
+    /// Does what a line says that is of this realm.
+    fn serve<R: Refuser<S>>(
+        &mut self,
+        alloc: Global,
+        refuser: &R,
+        realm: &str,
+        instruction: Instruction<'_>,
+        boxes: Vec<Box<dyn Branch + Send>>,
+        pool: &mut Vec<Box<dyn Branch + Send>>,
+        printed: &mut String,
+    ) -> Result<(), LineFault>
+        requires always { Always }
+        requires named { realm_of (move_by instruction) ≡ Some realm.now }
+        ensures truth { S.is_true self.new.host.store → S.is_true self.old.host.store }
+        ensures serves { (scene : Scene) → IsScene (keeping S.stands S.is_true S.is_due) self.old.host self.old.actors.items scene → may_say R.may (move_by instruction.entry) ≡ true → ComeWith (Some (move_by instruction.entry)) (map standing boxes.items) → S.is_true self.new.host.store →
+            Serves (keeping S.stands S.is_true S.is_due) (string_bytes printed.old) (string_bytes printed.new) (moved (move_by instruction.entry) scene) self.new result }
+    {
         if let Instruction::Renew { .. } = instruction {
-            return self.renew(alloc, realm, boxes, printed);
+            return self.renew(alloc, realm, pool, printed);
         }
         let boxes = fresh(alloc, boxes)?;
-        self.act_in(alloc, realm, instruction, boxes, printed)
+        self.act_in(alloc, refuser, realm, instruction, boxes, printed)
     }
 
     /// This realm starts again while the others run.
     fn renew(
-        mut self,
+        &mut self,
         alloc: Global,
         name: &str,
-        boxes: Vec<Box<dyn Branch + Send>>,
+        pool: &mut Vec<Box<dyn Branch + Send>>,
         printed: &mut String,
-    ) -> Result<Playing, LineFault>
+    ) -> Result<(), LineFault>
         requires { Always }
-        ensures { (scene : Scene) → IsScene self.host self.actors.items scene → Moves (string_bytes printed.old) (string_bytes printed.new) (moved_in (Renews name.now) (Some name.now) scene) result }
+        ensures truth { S.is_true self.new.host.store → S.is_true self.old.host.store }
+        ensures serves { (scene : Scene) → IsScene (keeping S.stands S.is_true S.is_due) self.old.host self.old.actors.items scene → S.is_true self.new.host.store → Serves (keeping S.stands S.is_true S.is_due) (string_bytes printed.old) (string_bytes printed.new) (moved_in (Renews name.now) (Some name.now) scene) self.new result }
     {
         let place = self.place_of(name);
         let Some(actor) = self.actors.get_mut(place) else {
             print_nowhere(printed, name)?;
-            return Ok(self);
+            return Ok(());
         };
         let host = &mut self.host;
-        renew(actor, alloc, host, place, boxes, printed)?;
+        renew(actor, alloc, host, place, pool, printed)?;
         actor.settle(alloc, host, place, printed)?;
-        Ok(self)
+        Ok(())
     }
 
     /// Does what a line says that is of this realm, and starts none again.
-    fn act_in(
-        mut self,
+    fn act_in<R: Refuser<S>>(
+        &mut self,
         alloc: Global,
+        refuser: &R,
         realm: &str,
         instruction: Instruction<'_>,
         boxes: HeldFresh,
         printed: &mut String,
-    ) -> Result<Playing, LineFault>
+    ) -> Result<(), LineFault>
         requires always { Always }
         requires same { is_start (move_by instruction) ≡ false }
-        ensures { (scene : Scene) → IsScene self.host self.actors.items scene → boxes ≡ boxes_of (plans_with (move_by instruction.entry)) →
-            Moves (string_bytes printed.old) (string_bytes printed.new) (moved_in (move_by instruction.entry) (Some realm.now) scene) result }
+        ensures truth { S.is_true self.new.host.store → S.is_true self.old.host.store }
+        ensures serves { (scene : Scene) → IsScene (keeping S.stands S.is_true S.is_due) self.old.host self.old.actors.items scene → may_say R.may (move_by instruction.entry) ≡ true → boxes ≡ boxes_of (plans_with (move_by instruction.entry)) →
+            Serves (keeping S.stands S.is_true S.is_due) (string_bytes printed.old) (string_bytes printed.new) (moved_in (move_by instruction.entry) (Some realm.now) scene) self.new result }
     {
         let place = self.place_of(realm);
         let Some(actor) = self.actors.get_mut(place) else {
-            print_elsewhere(printed, instruction)?;
-            return Ok(self);
+            return print_elsewhere(printed, instruction);
         };
+        let host = &mut self.host;
         if !obey(
             actor,
             alloc,
-            &mut self.host,
+            refuser,
+            host,
             place,
             instruction,
             boxes,
@@ -108,16 +141,16 @@ impl Playing<Host<MemRows>, Actor> {
             return Err(LineFault::NotUnderstood);
         }
         actor.settle(alloc, &mut self.host, place, printed)?;
-        Ok(self)
+        Ok(())
     }
 
-    /// The boxes that a start wants: a willing one for each branch of each stored row, of one realm or of all.
-    pub fn willing(&mut self, alloc: Global, only: Option<&str>) -> Result<Wanted, AllocError>
+    /// How many boxes a start wants: a willing one for each branch of each stored row, of one realm or of all.
+    pub(crate) fn willing(&mut self, only: Option<&str>) -> Result<usize, ActFault>
         requires { Always }
-        ensures { (scene : Scene) → IsScene self.old.host self.old.actors.items scene → OnOk result (IsScene self.new.host self.new.actors.items scene) }
+        ensures truth { S.is_true self.new.host.store → S.is_true self.old.host.store }
+        ensures stands { (scene : Scene) → IsScene (keeping S.stands S.is_true S.is_due) self.old.host self.old.actors.items scene → IsScene (keeping S.stands S.is_true S.is_due) self.new.host self.new.actors.items scene }
     {
-        let Playing { host, actors } = self;
-        willing_for(alloc, host, actors, only)
+        count_acting(&mut self.host.store, &self.actors, only)
     }
 
     /// The place of a realm; one behind all realms where it is not declared.
@@ -133,49 +166,21 @@ impl Playing<Host<MemRows>, Actor> {
     }
 }
 
-/// A willing box for each branch of each stored row of these realms, or of the one of this name alone.
-fn willing_for(
-    alloc: Global,
-    host: &mut Host<MemRows>,
-    actors: &[Actor],
-    only: Option<&str>,
-) -> Result<Wanted, AllocError>
-    ensures { (scene : Scene) → IsScene host.old actors.now scene → OnOk result (IsScene host.new actors.now scene) }
-{
-    let mut wanted = Wanted::none_ready(alloc);
-    for actor in actors {
-        if !is_meant(actor, only) {
-            continue;
-        }
-        let Ok(loaded) = host.store.load(&actor.name) else {
-            return Err(AllocError);
-        };
-        wanted.add_willing(&loaded.rows)?;
-    }
-    Ok(wanted)
-}
-
-/// Whether this realm is meant.
-fn is_meant(actor: &Actor, only: Option<&str>) -> bool {
-    match only {
-        Some(name) => actor.name.as_str() == name,
-        None => true,
-    }
-}
-
 /// Does what a line says to the realm that it is of, which has this place. It says whether the line may stand here.
-fn obey(
+fn obey<S: RowLog + Drop, R: Refuser<S>>(
     actor: &mut Actor,
     alloc: Global,
-    host: &mut Host<MemRows>,
+    refuser: &R,
+    host: &mut Host<S>,
     place: usize,
     instruction: Instruction<'_>,
     boxes: HeldFresh,
     printed: &mut String,
-) -> Result<bool, AllocError>
+) -> Result<bool, ActFault>
     requires { is_start (move_by instruction) ≡ false }
-    ensures { (acting : Acting) → IsActing host.old place actor.old acting → boxes ≡ boxes_of (plans_with (move_by instruction.entry)) →
-        IfOk result (λ told. Tells host.old host.new place actor.old actor.new (string_bytes printed.old) (string_bytes printed.new) told (does (move_by instruction.entry) acting)) }
+    ensures truth { S.is_true host.new.store → S.is_true host.old.store }
+    ensures tells { (acting : Acting) → IsActing (keeping S.stands S.is_true S.is_due) host.old place actor.old acting → may_say R.may (move_by instruction.entry) ≡ true → boxes ≡ boxes_of (plans_with (move_by instruction.entry)) →
+        IfOk result (λ told. Tells (keeping S.stands S.is_true S.is_due) host.old host.new place actor.old actor.new (string_bytes printed.old) (string_bytes printed.new) told (does (move_by instruction.entry) acting)) }
 {
     match instruction {
         Instruction::Realm { .. }
@@ -193,7 +198,7 @@ fn obey(
             connection,
             octets,
             ..
-        } => actor.feed(alloc, connection, octets),
+        } => Ok(actor.feed(alloc, connection, octets)?),
         Instruction::Lost { connection, .. } => {
             actor.lose_connection(alloc, host, place, connection, printed)
         }
@@ -206,7 +211,7 @@ fn obey(
         }
         Instruction::Resume { id, .. } => resume(actor, alloc, host, place, id, printed),
         Instruction::Refuse { .. } => {
-            actor.refuse(host);
+            actor.refuse(refuser, host);
             Ok(true)
         }
     }

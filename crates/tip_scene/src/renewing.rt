@@ -3,7 +3,7 @@ ghost use Rattle.std.specs.Prelude.{◌≡◌, ◌+◌, ◌++◌, ◌==◌, None
 ghost use Rattle.std.specs.List.{flat_map};
 ghost use Rattle.std.specs.Option.{option_and_then};
 ghost use Rattle.tip_actor.specs.Acting.{Acting, renewed, renews};
-ghost use Rattle.tip_actor.specs.Standing.{Acts, IsActing, IsDone};
+ghost use Rattle.tip_actor.specs.Standing.{Acts, IsActing, IsDone, keeping};
 ghost use Rattle.tip_core.specs.Hosted.{realm as realm_at};
 ghost use Rattle.tip_machine.specs.Answers.{identifier};
 ghost use Rattle.tip_machine.specs.Moves.{drops_at};
@@ -16,36 +16,36 @@ ghost use Rattle.tip_scene.specs.Rising.{IsWilling};
 use crate::boxes::dealt_to_rows;
 use crate::rising::print_adoptions;
 use std::alloc::{AllocError, Global};
-use tip_actor::{Actor, print_here};
+use tip_actor::{ActFault, Actor, print_here};
 use tip_branch::Branch;
 use tip_core::Core;
 use tip_host::{Host, RenewFault};
 use tip_line::Refusal;
 use tip_machine::Head;
 use tip_recovery::{Recovery, Unfinished};
-use tip_rows::MemRows;
+use tip_rows::RowLog;
 use tip_transcript::{print_refusal, print_start};
 
 /// The realm starts again, and each branch of its rows has one of these boxes. After the last epoch it does not.
-pub(crate) fn renew(
+pub(crate) fn renew<S: RowLog + Drop>(
     actor: &mut Actor,
     alloc: Global,
-    host: &mut Host<MemRows>,
+    host: &mut Host<S>,
     place: usize,
-    mut boxes: Vec<Box<dyn Branch + Send>>,
+    pool: &mut Vec<Box<dyn Branch + Send>>,
     printed: &mut String,
-) -> Result<(), AllocError>
-    ensures { OnOk result (Acts host.old host.new place actor.old actor.new (string_bytes printed.old) (string_bytes printed.new) renews) }
+) -> Result<(), ActFault>
+    ensures truth { S.is_true host.new.store → S.is_true host.old.store }
+    ensures acts { S.is_true host.new.store → OnOk result (Acts (keeping S.stands S.is_true S.is_due) host.old host.new place actor.old actor.new (string_bytes printed.old) (string_bytes printed.new) renews) }
 {
     let Some(epoch) = next_epoch(host.core.heads(), place) else {
-        return print_refusal(printed, actor.name.as_str(), Refusal::EpochEnd);
+        print_refusal(printed, actor.name.as_str(), Refusal::EpochEnd)?;
+        return Ok(());
     };
-    let Ok(mut recovery) = host.doubts(alloc, place) else {
-        return Err(AllocError);
-    };
-    let lots = dealt_to_rows(alloc, &mut boxes, recovery.rows())?;
+    let mut recovery = host.doubts(alloc, place)?;
+    let lots = dealt_to_rows(alloc, pool, recovery.rows())?;
     if !recovery.adopt_all(lots) {
-        return Err(AllocError);
+        return Err(ActFault::Memory);
     }
     renew_by(actor, alloc, host, place, epoch, recovery, printed)
 }
@@ -72,16 +72,17 @@ fn epoch_after(epoch: u32) -> Option<u32>
 }
 
 /// The realm starts again in this epoch, by its rows and their boxes, unless the store is to refuse that.
-fn renew_by(
+fn renew_by<S: RowLog + Drop>(
     actor: &mut Actor,
     alloc: Global,
-    host: &mut Host<MemRows>,
+    host: &mut Host<S>,
     place: usize,
     epoch: u32,
     recovery: Recovery,
     printed: &mut String,
-) -> Result<(), AllocError>
-    ensures { (acting : Acting) → IsActing host.old place actor.old acting → IsWilling recovery acting → epoch ≡ acting.world.state.head.epoch + 1 → OnOk result (IsDone host.old host.new place actor.old actor.new (string_bytes printed.old) (string_bytes printed.new) (renewed acting.due acting)) }
+) -> Result<(), ActFault>
+    ensures truth { S.is_true host.new.store → S.is_true host.old.store }
+    ensures done { S.is_true host.new.store → (acting : Acting) → IsActing (keeping S.stands S.is_true S.is_due) host.old place actor.old acting → IsWilling recovery acting → epoch ≡ acting.world.state.head.epoch + 1 → OnOk result (IsDone (keeping S.stands S.is_true S.is_due) host.old host.new place actor.old actor.new (string_bytes printed.old) (string_bytes printed.new) (renewed acting.due acting)) }
 {
     let mut opening = String::new(alloc);
     let name = actor.name.as_str();
@@ -101,9 +102,10 @@ fn renew_by(
         }
         Err((RenewFault::NotRaised, _)) if actor.is_due => {
             actor.is_due = false;
-            print_refusal(printed, actor.name.as_str(), Refusal::Refused)
+            print_refusal(printed, actor.name.as_str(), Refusal::Refused)?;
+            Ok(())
         }
-        Err(_) => Err(AllocError),
+        Err((fault, _)) => Err(ActFault::from(fault)),
     }
 }
 

@@ -1,7 +1,7 @@
 //! What a script asks of a realm with words of its own: addresses and identifiers.
 ghost use Rattle.std.specs.Prelude.{◌≡◌, ◌&&◌, ℕ, List, Some, None, IfOk, if◌then◌else◌, string_bytes};
 ghost use Rattle.tip_actor.specs.Acting.{Acting, boxes_of};
-ghost use Rattle.tip_actor.specs.Standing.{IsActing, Tells};
+ghost use Rattle.tip_actor.specs.Standing.{IsActing, Tells, keeping};
 ghost use Rattle.tip_branch.specs.declared.branch.Plan.{Plan};
 ghost use Rattle.tip_line.specs.Words.{is_address, is_word};
 ghost use Rattle.tip_machine.specs.declared.event.Event.TheVariants.{Dial as Dials};
@@ -10,27 +10,28 @@ ghost use Rattle.tip_script.specs.Scripts.{Dial, Pull, Push, Resume};
 ghost use Rattle.tip_scene.specs.Scenes.{does, is_purpose};
 
 use std::alloc::{AllocError, Global};
-use tip_actor::Actor;
+use tip_actor::{ActFault, Actor};
 use tip_branch::HeldFresh;
 use tip_host::Host;
 use tip_line::{Address, Id, WordFault};
 use tip_machine::{Event, Purpose};
-use tip_rows::MemRows;
+use tip_rows::RowLog;
 use tip_script::{Aim, Asked};
 
 /// A connection is opened to this address. It says whether address and aim are words.
-pub(crate) fn dial(
+pub(crate) fn dial<S: RowLog + Drop>(
     actor: &mut Actor,
     alloc: Global,
-    host: &mut Host<MemRows>,
+    host: &mut Host<S>,
     place: usize,
     address: &[u8],
     aim: Aim<'_>,
     boxes: HeldFresh,
     printed: &mut String,
-) -> Result<bool, AllocError>
-    ensures { (acting : Acting) (realm : List ℕ) (plans : List Plan) → IsActing host.old place actor.old acting → boxes ≡ boxes_of plans →
-        IfOk result (λ told. Tells host.old host.new place actor.old actor.new (string_bytes printed.old) (string_bytes printed.new) told (does (Dial realm address.now plans (purpose_of aim.entry)) acting)) }
+) -> Result<bool, ActFault>
+    ensures truth { S.is_true host.new.store → S.is_true host.old.store }
+    ensures tells { (acting : Acting) (realm : List ℕ) (plans : List Plan) → IsActing (keeping S.stands S.is_true S.is_due) host.old place actor.old acting → boxes ≡ boxes_of plans →
+        IfOk result (λ told. Tells (keeping S.stands S.is_true S.is_due) host.old host.new place actor.old actor.new (string_bytes printed.old) (string_bytes printed.new) told (does (Dial realm address.now plans (purpose_of aim.entry)) acting)) }
 {
     match dialling(alloc, address, aim, boxes)? {
         Some(event) => {
@@ -63,16 +64,17 @@ fn dialling(
 }
 
 /// A transaction of the realm is to be pushed. It says whether its connection was given, and its identifier is a word.
-pub(crate) fn push(
+pub(crate) fn push<S: RowLog + Drop>(
     actor: &mut Actor,
     alloc: Global,
-    host: &mut Host<MemRows>,
+    host: &mut Host<S>,
     place: usize,
     asked: Asked<'_>,
     printed: &mut String,
-) -> Result<bool, AllocError>
-    ensures { (acting : Acting) (realm : List ℕ) → IsActing host.old place actor.old acting →
-        IfOk result (λ told. Tells host.old host.new place actor.old actor.new (string_bytes printed.old) (string_bytes printed.new) told (does (Push realm asked.entry.connection asked.entry.id.now) acting)) }
+) -> Result<bool, ActFault>
+    ensures truth { S.is_true host.new.store → S.is_true host.old.store }
+    ensures tells { (acting : Acting) (realm : List ℕ) → IsActing (keeping S.stands S.is_true S.is_due) host.old place actor.old acting →
+        IfOk result (λ told. Tells (keeping S.stands S.is_true S.is_due) host.old host.new place actor.old actor.new (string_bytes printed.old) (string_bytes printed.new) told (does (Push realm asked.entry.connection asked.entry.id.now) acting)) }
 {
     match id_in(alloc, asked.id)? {
         Some(id) => actor.push(alloc, host, place, asked.connection, id, printed),
@@ -81,16 +83,17 @@ pub(crate) fn push(
 }
 
 /// A transaction of the other side is to be pulled. It says whether its connection was given, and its identifier is a word.
-pub(crate) fn pull(
+pub(crate) fn pull<S: RowLog + Drop>(
     actor: &mut Actor,
     alloc: Global,
-    host: &mut Host<MemRows>,
+    host: &mut Host<S>,
     place: usize,
     asked: Asked<'_>,
     printed: &mut String,
-) -> Result<bool, AllocError>
-    ensures { (acting : Acting) (realm : List ℕ) → IsActing host.old place actor.old acting →
-        IfOk result (λ told. Tells host.old host.new place actor.old actor.new (string_bytes printed.old) (string_bytes printed.new) told (does (Pull realm asked.entry.connection asked.entry.id.now) acting)) }
+) -> Result<bool, ActFault>
+    ensures truth { S.is_true host.new.store → S.is_true host.old.store }
+    ensures tells { (acting : Acting) (realm : List ℕ) → IsActing (keeping S.stands S.is_true S.is_due) host.old place actor.old acting →
+        IfOk result (λ told. Tells (keeping S.stands S.is_true S.is_due) host.old host.new place actor.old actor.new (string_bytes printed.old) (string_bytes printed.new) told (does (Pull realm asked.entry.connection asked.entry.id.now) acting)) }
 {
     match id_in(alloc, asked.id)? {
         Some(superior) => actor.pull(alloc, host, place, asked.connection, superior, printed),
@@ -99,16 +102,17 @@ pub(crate) fn pull(
 }
 
 /// The realm goes on with the transaction of this identifier. It says whether it is a word.
-pub(crate) fn resume(
+pub(crate) fn resume<S: RowLog + Drop>(
     actor: &mut Actor,
     alloc: Global,
-    host: &mut Host<MemRows>,
+    host: &mut Host<S>,
     place: usize,
     id: &[u8],
     printed: &mut String,
-) -> Result<bool, AllocError>
-    ensures { (acting : Acting) (realm : List ℕ) → IsActing host.old place actor.old acting →
-        IfOk result (λ told. Tells host.old host.new place actor.old actor.new (string_bytes printed.old) (string_bytes printed.new) told (does (Resume realm id.now) acting)) }
+) -> Result<bool, ActFault>
+    ensures truth { S.is_true host.new.store → S.is_true host.old.store }
+    ensures tells { (acting : Acting) (realm : List ℕ) → IsActing (keeping S.stands S.is_true S.is_due) host.old place actor.old acting →
+        IfOk result (λ told. Tells (keeping S.stands S.is_true S.is_due) host.old host.new place actor.old actor.new (string_bytes printed.old) (string_bytes printed.new) told (does (Resume realm id.now) acting)) }
 {
     match id_in(alloc, id)? {
         Some(id) => {

@@ -1,47 +1,82 @@
 //! The process of a script starts again.
-ghost use Rattle.std.specs.Prelude.{◌≡◌, ◌++◌, ◌==◌, OnOk, string_bytes};
+ghost use Rattle.std.specs.Prelude.{◌≡◌, ◌++◌, ◌==◌, ℕ, IfOk, OnOk, option_map, slice_get, string_bytes};
 ghost use Rattle.std.specs.List.{flat_map, list_any};
 ghost use Rattle.tip_actor.specs.Acting.{is_at_end, restarts};
+ghost use Rattle.tip_actor.specs.Standing.{keeping};
+ghost use Rattle.tip_core.specs.Hosted.{realm as realm_at};
+ghost use Rattle.tip_host.specs.Loading.{spec_of as spec_of_head};
+ghost use Rattle.tip_machine.specs.States.{State};
+ghost use Rattle.tip_scene.specs.Rising.{AreAgain, AreWaiting};
 ghost use Rattle.tip_rows.specs.Logs.{last_epoch};
-ghost use Rattle.tip_scene.specs.Scenes.{Scene, restarted};
-ghost use Rattle.tip_scene.specs.Stages.{Moves};
+ghost use Rattle.tip_scene.specs.Scenes.{Scene, openings_text, restarted};
+ghost use Rattle.tip_scene.specs.Stages.{Moves, Trusts};
 ghost use Rattle.tip_scene.specs.Standing.{IsScene};
 
-use crate::boxes::dealt_to_all;
 use crate::fault::LineFault;
 use crate::playing::Playing;
-use crate::rising::{anew, begin};
+use crate::rising::{anew, rise};
 use std::alloc::{AllocError, Global};
-use tip_actor::Actor;
+use tip_actor::{ActFault, Actor};
 use tip_branch::Branch;
-use tip_host::Host;
+use tip_host::{Host, RealmSpec, Recovering};
 use tip_machine::Head;
-use tip_rows::MemRows;
+use tip_rows::RowLog;
 
-/// The process starts again: of what the realms were only their rows stay, and each branch of a row has one of these boxes.
-/// `NotUnderstood` where a realm is in its last epoch.
-pub(crate) fn restart(
-    playing: Playing,
+/// The process starts again: of what the realms were only their rows stay, and each branch of a row has a box out of this pool.
+/// `NotUnderstood` where a realm is in its last epoch. At a fault the store comes back, but where memory ends in the start.
+pub(crate) fn restart<S: RowLog + Drop>(
+    playing: Playing<Host<S>>,
     alloc: Global,
-    mut boxes: Vec<Box<dyn Branch + Send>>,
+    pool: &mut Vec<Box<dyn Branch + Send>>,
     printed: &mut String,
-) -> Result<Playing, LineFault>
-    ensures { (scene : Scene) → IsScene playing.host playing.actors.items scene → Moves (string_bytes printed.old) (string_bytes printed.new) (restarted scene) result }
+) -> Result<Playing<Host<S>>, (LineFault, Option<S>)>
+    ensures truth { Trusts (keeping S.stands S.is_true S.is_due) playing.host.store (λ again. again.host.store) result }
+    ensures moves { (scene : Scene) → IsScene (keeping S.stands S.is_true S.is_due) playing.host playing.actors.items scene → Moves (keeping S.stands S.is_true S.is_due) (string_bytes printed.old) (string_bytes printed.new) (restarted scene) result }
 {
     let Playing { host, actors } = playing;
     if is_any_at_end(host.core.heads()) {
-        return Err(LineFault::NotUnderstood);
+        return Err((LineFault::NotUnderstood, Some(host.shut())));
     }
-    print_leaving(printed, &host, &actors)?;
-    let specs = host.declarations(alloc)?;
-    let Ok(mut recovering) = host.restart(alloc, specs) else {
-        return Err(LineFault::Memory);
+    let specs = match leave(alloc, &host, &actors, printed) {
+        Ok(specs) => specs,
+        Err(AllocError) => return Err((LineFault::Memory, Some(host.shut()))),
     };
-    let lots = dealt_to_all(alloc, &mut boxes, recovering.realms())?;
-    if !recovering.adopt_all(lots) {
-        return Err(LineFault::Memory);
+    match host.restart(alloc, specs) {
+        Ok(recovering) => match rise_again(alloc, recovering, actors, pool, printed) {
+            Ok(playing) => Ok(playing),
+            Err(AllocError) => Err((LineFault::Memory, None)),
+        },
+        Err((fault, store)) => Err((LineFault::from(ActFault::from(fault)), Some(store))),
     }
-    Ok(begin(recovering, anew(alloc, actors)?, printed)?)
+}
+
+/// Prints what each realm lets go, and says how the realms were declared.
+fn leave<S: RowLog + Drop>(
+    alloc: Global,
+    host: &Host<S>,
+    actors: &[Actor],
+    printed: &mut String,
+) -> Result<Vec<RealmSpec>, AllocError>
+    ensures specs { IfOk result (λ specs. (place : ℕ) → slice_get specs.items place ≡ option_map (λ (state : State). spec_of_head state.head) (realm_at host.now.core place)) }
+    ensures text { (scene : Scene) → IsScene (keeping S.stands S.is_true S.is_due) host.now actors.now scene → OnOk result (string_bytes printed.new ≡ string_bytes printed.old ++ flat_map (λ acting. (restarts acting).printed) scene) }
+{
+    print_leaving(printed, host, actors)?;
+    host.declarations(alloc)
+}
+
+/// The same realms, to which nothing has come, are at work again.
+fn rise_again<S: RowLog + Drop>(
+    alloc: Global,
+    recovering: Recovering<S>,
+    actors: Vec<Actor>,
+    pool: &mut Vec<Box<dyn Branch + Send>>,
+    printed: &mut String,
+) -> Result<Playing<Host<S>>, AllocError>
+    ensures store { IfOk result (λ playing. playing.host.store ≡ recovering.store) }
+    ensures text { (scene : Scene) → AreAgain actors.items scene → AreWaiting (keeping S.stands S.is_true S.is_due) recovering scene → IfOk result (λ playing. string_bytes printed.new ≡ string_bytes printed.old ++ openings_text scene) }
+    ensures scene { (scene : Scene) → AreAgain actors.items scene → AreWaiting (keeping S.stands S.is_true S.is_due) recovering scene → IfOk result (λ playing. IsScene (keeping S.stands S.is_true S.is_due) playing.host playing.actors.items scene) }
+{
+    rise(alloc, recovering, anew(alloc, actors)?, pool, printed)
 }
 
 /// Whether a realm is in its last epoch.
@@ -52,12 +87,12 @@ fn is_any_at_end(heads: &[Head]) -> bool
 }
 
 /// Prints what each realm lets go.
-fn print_leaving(
+fn print_leaving<S: RowLog + Drop>(
     printed: &mut String,
-    host: &Host<MemRows>,
+    host: &Host<S>,
     actors: &[Actor],
 ) -> Result<(), AllocError>
-    ensures { (scene : Scene) → IsScene host.now actors.now scene → OnOk result (string_bytes printed.new ≡ string_bytes printed.old ++ flat_map (λ acting. (restarts acting).printed) scene) }
+    ensures { (scene : Scene) → IsScene (keeping S.stands S.is_true S.is_due) host.now actors.now scene → OnOk result (string_bytes printed.new ≡ string_bytes printed.old ++ flat_map (λ acting. (restarts acting).printed) scene) }
 {
     for (place, actor) in actors.iter().enumerate() {
         actor.print_leaving(host, place, printed)?;

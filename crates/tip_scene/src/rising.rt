@@ -5,26 +5,49 @@ ghost use Rattle.tip_machine.specs.Answers.{identifier};
 ghost use Rattle.tip_rows.specs.Rows.{branches_of};
 ghost use Rattle.tip_transcript.specs.Printing.{adopted_text};
 ghost use Rattle.tip_actor.specs.Acting.{Acting, opening_text};
-ghost use Rattle.tip_scene.specs.Rising.{AreAnew, AreNew, AreRising, IsRising};
+ghost use Rattle.tip_actor.specs.Standing.{keeping};
+ghost use Rattle.tip_scene.specs.Rising.{AreAnew, AreNew, AreRising, AreWaiting, IsRising};
 ghost use Rattle.tip_scene.specs.Scenes.{Scene, openings_text};
 ghost use Rattle.tip_scene.specs.Standing.{IsScene};
 
+use crate::boxes::dealt_to_all;
 use crate::playing::Playing;
 use std::alloc::{AllocError, Global};
 use tip_actor::Actor;
-use tip_host::Recovering;
+use tip_branch::Branch;
+use tip_host::{Host, Recovering};
 use tip_recovery::Unfinished;
-use tip_rows::MemRows;
+use tip_rows::RowLog;
 use tip_transcript::{print_adopted, print_start};
 
+/// Realms that have started adopt a box out of the pool for each branch of their rows, say so, and are at work.
+pub(crate) fn rise<S: RowLog + Drop>(
+    alloc: Global,
+    mut recovering: Recovering<S>,
+    actors: Vec<Actor>,
+    pool: &mut Vec<Box<dyn Branch + Send>>,
+    printed: &mut String,
+) -> Result<Playing<Host<S>>, AllocError>
+    ensures store { IfOk result (λ playing. playing.host.store ≡ recovering.store) }
+    ensures text { (scene : Scene) → AreNew actors.items scene → AreWaiting (keeping S.stands S.is_true S.is_due) recovering scene → IfOk result (λ playing. string_bytes printed.new ≡ string_bytes printed.old ++ openings_text scene) }
+    ensures scene { (scene : Scene) → AreNew actors.items scene → AreWaiting (keeping S.stands S.is_true S.is_due) recovering scene → IfOk result (λ playing. IsScene (keeping S.stands S.is_true S.is_due) playing.host playing.actors.items scene) }
+{
+    let lots = dealt_to_all(alloc, pool, recovering.realms())?;
+    if !recovering.adopt_all(lots) {
+        return Err(AllocError);
+    }
+    begin(recovering, actors, printed)
+}
+
 /// Realms that have started say so, and are at work.
-pub(crate) fn begin(
-    recovering: Recovering<MemRows>,
+fn begin<S: RowLog + Drop>(
+    recovering: Recovering<S>,
     actors: Vec<Actor>,
     printed: &mut String,
-) -> Result<Playing, AllocError>
-    ensures text { (scene : Scene) → AreNew actors.items scene → AreRising recovering scene → IfOk result (λ playing. string_bytes printed.new ≡ string_bytes printed.old ++ openings_text scene) }
-    ensures scene { (scene : Scene) → AreNew actors.items scene → AreRising recovering scene → IfOk result (λ playing. IsScene playing.host playing.actors.items scene) }
+) -> Result<Playing<Host<S>>, AllocError>
+    ensures store { IfOk result (λ playing. playing.host.store ≡ recovering.store) }
+    ensures text { (scene : Scene) → AreNew actors.items scene → AreRising (keeping S.stands S.is_true S.is_due) recovering scene → IfOk result (λ playing. string_bytes printed.new ≡ string_bytes printed.old ++ openings_text scene) }
+    ensures scene { (scene : Scene) → AreNew actors.items scene → AreRising (keeping S.stands S.is_true S.is_due) recovering scene → IfOk result (λ playing. IsScene (keeping S.stands S.is_true S.is_due) playing.host playing.actors.items scene) }
 {
     print_openings(printed, &recovering, &actors)?;
     match recovering.begin() {
@@ -45,12 +68,12 @@ pub(crate) fn anew(alloc: Global, actors: Vec<Actor>) -> Result<Vec<Actor>, Allo
 }
 
 /// Prints what each realm says that has started.
-fn print_openings(
+fn print_openings<S: RowLog + Drop>(
     printed: &mut String,
-    recovering: &Recovering<MemRows>,
+    recovering: &Recovering<S>,
     actors: &[Actor],
 ) -> Result<(), AllocError>
-    ensures { (scene : Scene) → AreNew actors.now scene → AreRising recovering.now scene → OnOk result (string_bytes printed.new ≡ string_bytes printed.old ++ openings_text scene) }
+    ensures { (scene : Scene) → AreNew actors.now scene → AreRising (keeping S.stands S.is_true S.is_due) recovering.now scene → OnOk result (string_bytes printed.new ≡ string_bytes printed.old ++ openings_text scene) }
 {
     for (place, actor) in actors.iter().enumerate() {
         print_opening(printed, recovering, place, actor)?;
@@ -59,13 +82,13 @@ fn print_openings(
 }
 
 /// Prints the epoch of a realm that has started, and the branches that were adopted for its rows.
-fn print_opening(
+fn print_opening<S: RowLog + Drop>(
     printed: &mut String,
-    recovering: &Recovering<MemRows>,
+    recovering: &Recovering<S>,
     place: usize,
     actor: &Actor,
 ) -> Result<(), AllocError>
-    ensures { (acting : Acting) → actor.now.name ≡ acting.name → IsRising recovering.now place acting → OnOk result (string_bytes printed.new ≡ string_bytes printed.old ++ opening_text acting) }
+    ensures { (acting : Acting) → actor.now.name ≡ acting.name → IsRising (keeping S.stands S.is_true S.is_due) recovering.now place acting → OnOk result (string_bytes printed.new ≡ string_bytes printed.old ++ opening_text acting) }
 {
     let name = actor.name.as_str();
     let Some(epoch) = recovering.epoch(place) else {

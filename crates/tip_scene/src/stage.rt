@@ -1,107 +1,176 @@
 //! A script as far as it was played.
-ghost use Rattle.std.specs.Prelude.{◌≡◌, ◌++◌, List, [], Some, map, IfOk, OnOk, string_bytes};
+ghost use Rattle.std.specs.Prelude.{◌≡◌, ◌++◌, [], List, Some, map, IfOk, true, string_bytes};
 ghost use Rattle.tip_branch.specs.Always.{Always};
+ghost use Rattle.tip_actor.specs.Standing.{keeping};
 ghost use Rattle.tip_script.specs.Moves.{move_by};
 ghost use Rattle.tip_script.specs.Scripts.{move_of};
-ghost use Rattle.tip_scene.specs.Acts.{Stage as AStage, Declaring as Begins, acted, acts, closing_of};
-ghost use Rattle.tip_scene.specs.Stages.{ActsSo, AreWanted, ComeWith, IsDeclared, IsStage};
+ghost use Rattle.tip_scene.specs.Acts.{Basis, Stage as AStage, Declaring as Begins, acted, acts, closing_of, may_say};
+ghost use Rattle.tip_scene.specs.Stages.{ActsSo, AreWanted, ComeWith, IsDeclared, IsBasis, IsStage, Trusts, store_of};
 
 use crate::boxes::Wanted;
 use crate::declared::{Declaration, Declared};
 use crate::fault::LineFault;
 use crate::playing::Playing;
-use std::alloc::{AllocError, Global};
+use std::alloc::Global;
+use tip_actor::{ActFault, Refuser};
 use tip_branch::Branch;
 use tip_core::Core;
+use tip_host::Host;
+use tip_rows::RowLog;
 use tip_script::Instruction;
 
 /// The realms, before and after their start. The first line that declares none starts them.
 #[derive(Drop)]
-pub enum Stage<D = Declared, P = Playing> {
+pub enum Stage<D, P> {
     Declaring(D),
     Playing(P),
 }
 
-impl Stage<Declared, Playing> {
+impl<S: RowLog + Drop> Stage<Declared<S>, Playing<Host<S>>> {
     /// No realms are declared; `Declared::new` says what the core is for.
-    pub fn new(alloc: Global, core: Core) -> Stage<Declared, Playing>
+    pub fn new(alloc: Global, core: Core, store: S) -> Stage<Declared<S>, Playing<Host<S>>>
         requires { Always }
-        ensures { IsStage result (Begins []) }
+        ensures store { store_of result ≡ store }
+        ensures none { (basis : Basis) → IsBasis (keeping S.stands S.is_true S.is_due) basis store → IsStage (keeping S.stands S.is_true S.is_due) basis result (Begins []) }
     {
-        Stage::Declaring(Declared::new(alloc, core))
+        Stage::Declaring(Declared::new(alloc, core, store))
     }
 
-    /// Does what a line says, with the boxes that come with it.
-    pub fn act(
+    /// Does what a line says, with the boxes that come with it, and willing ones for rows out of a pool. At a fault the store comes
+    /// back, but where memory ends in a start.
+    pub fn act<R: Refuser<S>>(
         self,
         alloc: Global,
+        refuser: &R,
         line: &[u8],
         boxes: Vec<Box<dyn Branch + Send>>,
+        pool: &mut Vec<Box<dyn Branch + Send>>,
         printed: &mut String,
-    ) -> Result<Stage, LineFault>
+    ) -> Result<Stage<Declared<S>, Playing<Host<S>>>, (LineFault, Option<S>)>
         requires { Always }
-        ensures { (stage : AStage) → IsStage self stage → ComeWith (move_of line.now) (map standing boxes.items) →
-            ActsSo (string_bytes printed.old) (string_bytes printed.new) (acted stage line.now) result }
+        ensures truth { Trusts (keeping S.stands S.is_true S.is_due) (store_of self) store_of result }
+        ensures acts { (basis : Basis) (stage : AStage) → basis.may_refuse ≡ R.may → IsStage (keeping S.stands S.is_true S.is_due) basis self stage → ComeWith (move_of line.now) (map standing boxes.items) →
+            ActsSo (keeping S.stands S.is_true S.is_due) basis (string_bytes printed.old) (string_bytes printed.new) (acted basis stage line.now) result }
     {
         if line.is_empty() {
             return Ok(self);
         }
         match Instruction::parse(line) {
-            Some(instruction) => self.obey(alloc, instruction, boxes, printed),
-            None => Err(LineFault::NotUnderstood),
+            Some(instruction) if may_say(refuser.may_refuse(), instruction) => {
+                self.obey(alloc, refuser, instruction, boxes, pool, printed)
+            }
+            _ => Err((LineFault::NotUnderstood, Some(self.shut()))),
         }
     }
 
-    /// The script has ended: the realms start, if they have not.
-    pub fn finish(self, alloc: Global, printed: &mut String) -> Result<(), AllocError>
+    /// The script has ended: the realms start, if they have not, and the store comes back. At a fault it does, too, but where memory
+    /// ends in the start.
+    pub fn finish(
+        self,
+        alloc: Global,
+        pool: &mut Vec<Box<dyn Branch + Send>>,
+        printed: &mut String,
+    ) -> Result<S, (ActFault, Option<S>)>
         requires { Always }
-        ensures { (stage : AStage) → IsStage self stage → OnOk result (string_bytes printed.new ≡ string_bytes printed.old ++ closing_of stage) }
+        ensures truth { Trusts (keeping S.stands S.is_true S.is_due) (store_of self) (λ store. store) result }
+        ensures closes { (basis : Basis) (stage : AStage) → IsStage (keeping S.stands S.is_true S.is_due) basis self stage → IfOk result (λ store. S.is_true store → string_bytes printed.new ≡ string_bytes printed.old ++ closing_of basis stage) }
     {
-        if let Stage::Declaring(declared) = self {
-            declared.start(alloc, printed)?;
+        match self {
+            Stage::Declaring(declared) => {
+                let playing = declared.start(alloc, pool, printed)?;
+                Ok(playing.host.shut())
+            }
+            Stage::Playing(playing) => Ok(playing.host.shut()),
         }
-        Ok(())
     }
 
-    /// The boxes that a line wants.
-    pub fn wanted(&mut self, alloc: Global, line: &[u8]) -> Result<Wanted, AllocError>
+    /// The store, where the script ends before its last line.
+    pub fn shut(self) -> S
         requires { Always }
-        ensures stands { (stage : AStage) → IsStage self.old stage → OnOk result (IsStage self.new stage) }
+        ensures { result ≡ store_of self }
+    {
+        match self {
+            Stage::Declaring(declared) => declared.store,
+            Stage::Playing(playing) => playing.host.shut(),
+        }
+    }
+
+    /// The boxes that a line wants. The store is read, and stays as it is.
+    pub fn wanted(&mut self, alloc: Global, line: &[u8]) -> Result<Wanted, ActFault>
+        requires { Always }
+        ensures truth { S.is_true (store_of self.new) → S.is_true (store_of self.old) }
+        ensures stands { (basis : Basis) (stage : AStage) → IsStage (keeping S.stands S.is_true S.is_due) basis self.old stage → IsStage (keeping S.stands S.is_true S.is_due) basis self.new stage }
         ensures wanted { IfOk result (AreWanted (move_of line.now)) }
     {
         match Instruction::parse(line) {
-            Some(Instruction::Restart) => self.willing(alloc, None),
-            Some(Instruction::Renew { realm }) => self.willing(alloc, Some(realm)),
-            Some(instruction) => Wanted::active(alloc, instruction.kinds()),
-            None => Wanted::active(alloc, b""),
+            Some(instruction) => {
+                let willing = self.willing(instruction)?;
+                Ok(Wanted::new(alloc, instruction.kinds(), willing)?)
+            }
+            None => Ok(Wanted::new(alloc, b"", 0)?),
         }
     }
 
-    /// A willing box for each branch of each stored row, of one realm or of all.
-    fn willing(&mut self, alloc: Global, only: Option<&str>) -> Result<Wanted, AllocError>
-        ensures { (stage : AStage) → IsStage self.old stage → OnOk result (IsStage self.new stage) }
+    /// How many willing boxes the start wants, where the realms have not started. The store is read, and stays as it is.
+    pub fn wanted_at_start(&mut self) -> Result<usize, ActFault>
+        requires { Always }
+        ensures truth { S.is_true (store_of self.new) → S.is_true (store_of self.old) }
+        ensures stands { (basis : Basis) (stage : AStage) → IsStage (keeping S.stands S.is_true S.is_due) basis self.old stage → IsStage (keeping S.stands S.is_true S.is_due) basis self.new stage }
     {
         match self {
-            Stage::Declaring(_) => Ok(Wanted::none_ready(alloc)),
-            Stage::Playing(playing) => playing.willing(alloc, only),
+            Stage::Declaring(declared) => declared.willing(None),
+            Stage::Playing(_) => Ok(0),
+        }
+    }
+
+    /// How many willing boxes an instruction wants: for the start, if it is the first that declares none, and for what it starts again.
+    fn willing(&mut self, instruction: Instruction<'_>) -> Result<usize, ActFault>
+        ensures truth { S.is_true (store_of self.new) → S.is_true (store_of self.old) }
+        ensures stands { (basis : Basis) (stage : AStage) → IsStage (keeping S.stands S.is_true S.is_due) basis self.old stage → IsStage (keeping S.stands S.is_true S.is_due) basis self.new stage }
+    {
+        let again = match instruction {
+            Instruction::Realm { .. } | Instruction::Labels { .. } => return Ok(0),
+            Instruction::Restart => self.rows(None)?,
+            Instruction::Renew { realm } => self.rows(Some(realm))?,
+            _ => 0,
+        };
+        match self.wanted_at_start()?.checked_add(again) {
+            Some(count) => Ok(count),
+            None => Err(ActFault::Memory),
+        }
+    }
+
+    /// How many branches the stored rows have, of one realm or of all.
+    fn rows(&mut self, only: Option<&str>) -> Result<usize, ActFault>
+        ensures truth { S.is_true (store_of self.new) → S.is_true (store_of self.old) }
+        ensures stands { (basis : Basis) (stage : AStage) → IsStage (keeping S.stands S.is_true S.is_due) basis self.old stage → IsStage (keeping S.stands S.is_true S.is_due) basis self.new stage }
+    {
+        match self {
+            Stage::Declaring(declared) => declared.willing(only),
+            Stage::Playing(playing) => playing.willing(only),
         }
     }
 
     /// Does what an instruction says.
-    fn obey(
+    fn obey<R: Refuser<S>>(
         self,
         alloc: Global,
+        refuser: &R,
         instruction: Instruction<'_>,
         boxes: Vec<Box<dyn Branch + Send>>,
+        pool: &mut Vec<Box<dyn Branch + Send>>,
         printed: &mut String,
-    ) -> Result<Stage, LineFault>
-        ensures { (stage : AStage) → IsStage self stage → ComeWith (Some (move_by instruction.entry)) (map standing boxes.items) →
-            ActsSo (string_bytes printed.old) (string_bytes printed.new) (acts stage (move_by instruction.entry)) result }
+    ) -> Result<Stage<Declared<S>, Playing<Host<S>>>, (LineFault, Option<S>)>
+        ensures truth { Trusts (keeping S.stands S.is_true S.is_due) (store_of self) store_of result }
+        ensures acts { (basis : Basis) (stage : AStage) → IsStage (keeping S.stands S.is_true S.is_due) basis self stage → may_say R.may (move_by instruction.entry) ≡ true → ComeWith (Some (move_by instruction.entry)) (map standing boxes.items) →
+            ActsSo (keeping S.stands S.is_true S.is_due) basis (string_bytes printed.old) (string_bytes printed.new) (acts basis stage (move_by instruction.entry)) result }
     {
         match self {
-            Stage::Declaring(declared) => declare(declared, alloc, instruction, boxes, printed),
+            Stage::Declaring(declared) => {
+                declare(declared, alloc, refuser, instruction, boxes, pool, printed)
+            }
             Stage::Playing(playing) => {
-                let playing = playing.act(alloc, instruction, boxes, printed)?;
+                let playing = playing.act(alloc, refuser, instruction, boxes, pool, printed)?;
                 Ok(Stage::Playing(playing))
             }
         }
@@ -109,30 +178,48 @@ impl Stage<Declared, Playing> {
 }
 
 /// Does what an instruction says before the realms have started: each but a declaration, and labels, starts them.
-fn declare(
-    declared: Declared,
+fn declare<S: RowLog + Drop, R: Refuser<S>>(
+    mut declared: Declared<S>,
     alloc: Global,
+    refuser: &R,
     instruction: Instruction<'_>,
     boxes: Vec<Box<dyn Branch + Send>>,
+    pool: &mut Vec<Box<dyn Branch + Send>>,
     printed: &mut String,
-) -> Result<Stage, LineFault>
-    ensures { (declarations : List Declaration) → IsDeclared declared declarations → ComeWith (Some (move_by instruction.entry)) (map standing boxes.items) →
-        ActsSo (string_bytes printed.old) (string_bytes printed.new) (acts (Begins declarations) (move_by instruction.entry)) result }
+) -> Result<Stage<Declared<S>, Playing<Host<S>>>, (LineFault, Option<S>)>
+    ensures truth { Trusts (keeping S.stands S.is_true S.is_due) declared.store store_of result }
+    ensures acts { (basis : Basis) (declarations : List Declaration) → IsDeclared (keeping S.stands S.is_true S.is_due) basis declared declarations → may_say R.may (move_by instruction.entry) ≡ true → ComeWith (Some (move_by instruction.entry)) (map standing boxes.items) →
+        ActsSo (keeping S.stands S.is_true S.is_due) basis (string_bytes printed.old) (string_bytes printed.new) (acts basis (Begins declarations) (move_by instruction.entry)) result }
 {
-    if let Instruction::Realm {
-        name,
-        address,
-        branches,
-        limits,
-    } = instruction
-    {
-        let declared = declared.add(alloc, name, address, branches, limits)?;
-        return Ok(Stage::Declaring(declared));
+    let noted = match instruction {
+        Instruction::Realm {
+            name,
+            address,
+            branches,
+            limits,
+        } => declared.add(alloc, name, address, branches, limits),
+        Instruction::Labels { realm, labels } => declared.label(alloc, realm, labels),
+        _ => {
+            let playing = match declared.start(alloc, pool, printed) {
+                Ok(playing) => playing,
+                Err((fault, store)) => return Err((LineFault::from(fault), store)),
+            };
+            let playing = playing.act(alloc, refuser, instruction, boxes, pool, printed)?;
+            return Ok(Stage::Playing(playing));
+        }
+    };
+    match noted {
+        Ok(()) => Ok(Stage::Declaring(declared)),
+        Err(fault) => Err((fault, Some(declared.store))),
     }
-    if let Instruction::Labels { realm, labels } = instruction {
-        return Ok(Stage::Declaring(declared.label(alloc, realm, labels)?));
+}
+
+/// Whether an instruction may be said, where a store may be asked to refuse or not.
+fn may_say(may_refuse: bool, instruction: Instruction<'_>) -> bool
+    ensures { result ≡ may_say may_refuse (move_by instruction.entry) }
+{
+    match instruction {
+        Instruction::Refuse { .. } => may_refuse,
+        _ => true,
     }
-    let playing = declared.start(alloc, printed)?;
-    let playing = playing.act(alloc, instruction, boxes, printed)?;
-    Ok(Stage::Playing(playing))
 }

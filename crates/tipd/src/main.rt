@@ -4,7 +4,7 @@
 mod store;
 mod words;
 
-use crate::store::list_store;
+use crate::store::{list_store, play_in_store};
 use crate::words::{Order, read_words};
 use clap::Error;
 use clap::error::ErrorKind;
@@ -39,8 +39,11 @@ fn show(rt: &HostRuntime, error: Error) -> ExitCode {
     }
 }
 
-/// Plays standard input to standard output.
-fn play_all(rt: &HostRuntime) -> Result<(), PlayFault> {
+/// Plays standard input to standard output, over the store in this file, or over rows in memory.
+fn play_all(rt: &HostRuntime, store: Option<&str>) -> Result<(), PlayFault> {
+    if let Some(path) = store {
+        return play_in_store(rt, path);
+    }
     let alloc = rt.alloc();
     let mut input = BufReader::new(alloc, rt.stdin()).map_err(|_| PlayFault::Memory)?;
     let mut output = BufWriter::new(alloc, io::writer(rt)).map_err(|_| PlayFault::Memory)?;
@@ -60,7 +63,7 @@ fn obey(rt: &HostRuntime) -> ExitCode {
         Err(fault) => return fail_play(rt, fault),
     };
     match read_words(rt.alloc(), &words) {
-        Ok(Order::Play) => match play_all(rt) {
+        Ok(Order::Play { store }) => match play_all(rt, store) {
             Ok(()) => ExitCode::SUCCESS,
             Err(fault) => fail_play(rt, fault),
         },

@@ -1,5 +1,6 @@
 //! One worked script, with what it is to print and how it is to end.
 use crate::ending::Ending;
+use sqlite::Connection;
 use std::alloc::Global;
 use std::fs;
 use std::io::{self, Write};
@@ -33,18 +34,41 @@ impl Case {
         })
     }
 
-    /// Plays the script, and says whether it holds; where it does not, what was wanted and what came.
+    /// Plays the script over rows in memory, and over rows in a new database where it asks for no refusal, and says whether both are as
+    /// wanted; where one is not, what was wanted and what came.
     pub fn check<W: Write>(&self, alloc: Global, output: &mut W) -> io::Result<bool> {
-        let came = Ending::of(alloc, &self.script)?;
+        let holds = self.compare(&self.name, &Ending::of(alloc, &self.script)?, output)?;
+        if self.asks_for_a_refusal() {
+            return Ok(holds);
+        }
+        let name = format!(in alloc; "{} in SQLite", self.name)?;
+        let Ok(conn) = Connection::open_in_memory(alloc) else {
+            return Ok(false);
+        };
+        match Ending::in_database(alloc, conn, &self.script)? {
+            Some(came) => Ok(self.compare(&name, &came, output)? && holds),
+            None => Ok(false),
+        }
+    }
+
+    /// Says whether what came is as wanted.
+    fn compare<W: Write>(&self, name: &str, came: &Ending, output: &mut W) -> io::Result<bool> {
         let holds = came.is_as(&self.wanted);
         if holds {
-            writeln!(output, "{} holds", self.name)?;
+            writeln!(output, "{name} holds")?;
         } else {
-            writeln!(output, "{} differs", self.name)?;
+            writeln!(output, "{name} differs")?;
             self.wanted.print("wanted", output)?;
             came.print("came", output)?;
         }
         Ok(holds)
+    }
+
+    /// Whether a line asks the store to refuse, which SQLite can't be asked.
+    fn asks_for_a_refusal(&self) -> bool {
+        self.script
+            .split(|octet| *octet == b'\n')
+            .any(|line| line.starts_with(b"refuse "))
     }
 }
 

@@ -1,11 +1,13 @@
 //! What a run of a script writes, and how it ends.
 ghost use Rattle.std.specs.Prelude.{◌≡◌, ◌↔◌, true, string_bytes};
 
+use sqlite::{Alter, Connection};
 use std::alloc::{AllocError, Global};
 use std::io::{self, Write};
-use tip_play::play;
+use tip_play::{PlayFault, play, play_on};
+use tip_sql::SqlRows;
 
-/// What one run of `tipd play` leaves.
+/// What one run of a script leaves.
 #[derive(Drop)]
 pub struct Ending {
     /// On standard output.
@@ -20,7 +22,34 @@ impl Ending {
     pub fn of(alloc: Global, script: &[u8]) -> Result<Ending, AllocError> {
         let mut input = script;
         let mut output = Vec::new(alloc);
-        match play(alloc, &mut input, &mut output) {
+        let end = play(alloc, &mut input, &mut output);
+        Ending::after(alloc, output, end)
+    }
+
+    /// Of its run over the store in a database; None where it is no store.
+    pub fn in_database<S: Alter + Drop>(
+        alloc: Global,
+        conn: Connection<S>,
+        script: &[u8],
+    ) -> Result<Option<Ending>, AllocError> {
+        let Ok(store) = SqlRows::over(alloc, conn) else {
+            return Ok(None);
+        };
+        let mut input = script;
+        let mut output = Vec::new(alloc);
+        let end = match play_on(alloc, store, &mut input, &mut output) {
+            Ok(_) => Ok(()),
+            Err((fault, _)) => Err(fault),
+        };
+        Ok(Some(Ending::after(alloc, output, end)?))
+    }
+
+    fn after(
+        alloc: Global,
+        output: Vec<u8>,
+        end: Result<(), PlayFault>,
+    ) -> Result<Ending, AllocError> {
+        match end {
             Ok(()) => Ok(Ending {
                 output,
                 status: 0,

@@ -1,38 +1,41 @@
 -- A realm in its last epoch, and one that starts again by what is stored of it.
-use Rattle.std.proofs.Common.{◌≡◌, ◌∙◌, ◌++◌, true, refl, ap, map, rules, string_bytes}
+use Rattle.std.proofs.Common.{◌≡◌, ◌∙◌, ◌++◌, List, true, ap, map, rules, string_bytes, subst}
 use Rattle.std.specs.Prelude.{option_map, slice_get}
 use Rattle.std.proofs.lemmas.Result.{on_ok_weaker}
 use Rattle.tip_actor.specs.Acting.{renews, willing_boxes}
-use Rattle.tip_actor.specs.Standing.{IsActing, IsDone}
+use Rattle.tip_actor.specs.Standing.{IsActing, IsDone, keeping}
 use Rattle.tip_line.specs.declared.refusal.Refusal.TheVariants.{EpochEnd}
 use Rattle.tip_machine.specs.States.{State}
 use Rattle.tip_recovery.specs.Adopting.{Unfinished}
-use Rattle.tip_rows.specs.Memory.{log_of}
+use Rattle.tip_rows.specs.Logs.{Log}
 use Rattle.tip_transcript.specs.Printing.{refusal_text}
 use Rattle.tip_scene.proofs.Renewed.{acts_still, at_its_end, for_each, has_willing, leaves_still, not_last, read_rows, renews_all, was_last}
 use Rattle.tip_scene.proofs.renewing.renew.Goals as goal
 
-pub returns-in_default : goal.returns-in_default
-returns-in_default g c = on_ok_weaker c.print_refusal.result (λ text. λ acting acts.
+pub returns-in_default-clause-acts : goal.returns-in_default-clause-acts
+returns-in_default-clause-acts g c = λ truth acting acts.
     let there = c.heads.ensures c.args.place ∙ ap (option_map (λ (state : State). state.head)) acts.served.state_is in
-    at_its_end c.args.host.now c.args.place c.args.actor.now acting acts (string_bytes c.args.printed.now) (string_bytes c.print_refusal.new.printed)
+    at_its_end (keeping g.S.RowLog.stands g.S.RowLog.is_true g.S.RowLog.is_due) c.args.host.now c.args.place c.args.actor.now acting acts (string_bytes c.args.printed.now) (string_bytes c.print_refusal.new.printed)
     (was_last acting.world.state.head (slice_get c.heads.result.now c.args.place) c.next_epoch.result there c.next_epoch.ensures c.in_default.is)
-    (text ∙ ap (λ n. string_bytes c.args.printed.now ++ refusal_text n EpochEnd) c.as_str.ensures.same)) c.print_refusal.ensures
+    (c.in_ok-print_refusal.ensures ∙ ap (λ n. string_bytes c.args.printed.now ++ refusal_text n EpochEnd) c.as_str.ensures.same)
 
-pub returns : goal.returns
-returns g c =
+pub returns-clause-truth : goal.returns-clause-truth
+returns-clause-truth g c = λ truth. c.doubts.ensures.store.truth (c.renew_by.ensures.truth truth)
+
+pub returns-clause-acts : goal.returns-clause-acts
+returns-clause-acts g c = λ truth.
     let host = c.args.host.now in
     let mid = c.doubts.new.self in
-    let goes = c.in-Ok.ensures.store in
-    let way = goes.rows (log_of host.store) refl in
-    let log : log_of mid.store ≡ log_of host.store = way.2 ∙ way.1 in
-    let due = goes.due (log_of host.store) refl in
+    let goes = c.doubts.ensures.store in
+    let stood : (log : Log) → g.S.RowLog.stands host.store log → g.S.RowLog.stands mid.store log = λ log was. (let way = goes.rows log was in subst (g.S.RowLog.stands mid.store) way.1 way.2) in
     let fits : c.adopt_all.result ≡ true = search rules in
-    for_each (IsActing host c.args.place c.args.actor.now) (λ acting. IsDone host c.renew_by.new.host c.args.place c.args.actor.now c.renew_by.new.actor (string_bytes c.args.printed.now) (string_bytes c.renew_by.new.printed) (renews acting)) c.renew_by.result (λ acting acts.
+    let mid_true = c.renew_by.ensures.truth truth in
+    for_each (IsActing (keeping g.S.RowLog.stands g.S.RowLog.is_true g.S.RowLog.is_due) host c.args.place c.args.actor.now) (λ acting. IsDone (keeping g.S.RowLog.stands g.S.RowLog.is_true g.S.RowLog.is_due) host c.renew_by.new.host c.args.place c.args.actor.now c.renew_by.new.actor (string_bytes c.args.printed.now) (string_bytes c.renew_by.new.printed) (renews acting)) c.renew_by.result (λ acting acts.
     let there = c.heads.ensures c.args.place ∙ ap (option_map (λ (state : State). state.head)) acts.served.state_is in
     let next = not_last acting.world.state.head (slice_get c.heads.result.now c.args.place) c.next_epoch.result there c.next_epoch.ensures c.in-Some.epoch c.in-Some.is in
-    let read = read_rows (log_of host.store) acting.world.state.head.name acting.world.state.head.epoch acting.world.rows c.in-Ok.recovery acts.rows (c.in-Ok.ensures.read (log_of host.store) acting.world.state refl acts.served.state_is tt) in
+    let due : (name : List _) → g.S.RowLog.is_due mid.store name ≡ g.S.RowLog.is_due host.store name = goes.due acts.stored.log acts.stored.stood in
+    let read = read_rows acts.stored.log acting.world.state.head.name acting.world.state.head.epoch acting.world.rows c.in_ok-recovery.recovery acts.stored.part (c.in_ok-recovery.ensures.read acts.stored.log acting.world.state acts.stored.stood acts.served.state_is mid_true) in
     let lots = c.in_ok-lots.ensures ∙ ap (map (λ (row : Unfinished). willing_boxes row.row)) c.rows.ensures in
-    let willing = has_willing acting acting.world.state.head.name c.in-Ok.recovery.rows c.adopt_all.new.self.rows c.in_ok-lots.lots.items acts.named read lots (c.adopt_all.ensures.adopted fits) in
-    on_ok_weaker c.renew_by.result (λ done. renews_all host c.args.place c.args.actor.now acting acts mid c.renew_by.new.host c.renew_by.new.actor (string_bytes c.args.printed.now) (string_bytes c.renew_by.new.printed) next.1 (leaves_still host mid c.doubts.ensures.core log due c.args.place c.args.actor.now.name) done)
-    (c.renew_by.ensures acting (acts_still host mid c.doubts.ensures.core log due c.args.place c.args.actor.now acting acts) willing next.0))
+    let willing = has_willing acting acting.world.state.head.name c.in_ok-recovery.recovery.rows c.adopt_all.new.self.rows c.in_ok-lots.lots.items acts.named read lots (c.adopt_all.ensures.adopted fits) in
+    on_ok_weaker c.renew_by.result (λ done. renews_all (keeping g.S.RowLog.stands g.S.RowLog.is_true g.S.RowLog.is_due) host c.args.place c.args.actor.now acting acts mid c.renew_by.new.host c.renew_by.new.actor (string_bytes c.args.printed.now) (string_bytes c.renew_by.new.printed) next.1 (leaves_still (keeping g.S.RowLog.stands g.S.RowLog.is_true g.S.RowLog.is_due) host mid c.doubts.ensures.core stood due c.args.place c.args.actor.now.name) done)
+    (c.renew_by.ensures.done truth acting (acts_still (keeping g.S.RowLog.stands g.S.RowLog.is_true g.S.RowLog.is_due) host mid c.doubts.ensures.core stood due c.args.place c.args.actor.now acting acts) willing next.0))

@@ -1,39 +1,51 @@
 -- A declaration, or the start of the realms.
-use Rattle.std.proofs.Common.{◌∙◌, Err, sym, ap, string_bytes, subst, option_map}
-use Rattle.std.proofs.lemmas.List.{append-nil}
+use Rattle.std.proofs.Common.{◌∙◌, Err, Ok, Some, sym, string_bytes, subst}
 use Rattle.std.proofs.lemmas.Result.{err_from_is_err_and}
+use Rattle.tip_actor.specs.Standing.{keeping}
 use Rattle.tip_line.specs.Fields.{fields_of}
 use Rattle.tip_scene.specs.Acts.{Declaring, acts, declared, labelled, scene_of}
 use Rattle.tip_scene.specs.Stages.{ActsSo}
+use Rattle.tip_scene.specs.declared.stage.Stage.TheVariants as stage
 use Rattle.tip_script.specs.Moves.{move_by}
-use Rattle.tip_scene.proofs.Staging.{fails_to_declare, plays_first}
+use Rattle.tip_scene.proofs.Staging.{declares_not, declares_so, fails_first, plays_first}
+use Rattle.tip_scene.proofs.stage.declare.Goals.{in-Realm, in-Labels}
 use Rattle.tip_scene.proofs.stage.declare.Goals as goal
 
-pub returns-in_err-declared : goal.returns-in_err-declared
-returns-in_err-declared g c = λ declarations is boxes.
+pub returns-in_err-playing-in_default : goal.returns-in_err-playing-in_default
+returns-in_err-playing-in_default g c =
+    let e = err_from_is_err_and c.from_residual.result c.from_residual.ensures.1 in
+    rw (e.1, e.2) (record {
+      truth = λ reliable. c.in-Ok.ensures.truth (c.in_err-playing-in_default.ensures.truth reliable);
+      acts = λ basis declarations is may boxes. fails_first (keeping g.S.RowLog.stands g.S.RowLog.is_true g.S.RowLog.is_due) basis declarations (string_bytes c.args.printed.now) (string_bytes c.start.new.printed) (string_bytes c.act.new.printed) c.args.instruction c.in_default.not-Realm c.in_default.not-Labels c.in_err-playing-in_default.field-0.0
+          (λ reliable. c.in-Ok.ensures.text basis declarations is (c.in_err-playing-in_default.ensures.truth reliable))
+          (λ reliable. c.in_err-playing-in_default.ensures.moves (scene_of basis declarations) (c.in-Ok.ensures.scene basis declarations is (c.in_err-playing-in_default.ensures.truth reliable)) may boxes);
+    })
+
+pub returns-in_default : goal.returns-in_default
+returns-in_default g c = record {
+  truth = λ truth. c.in-Ok.ensures.truth (c.in_ok-playing-in_default.ensures.truth truth);
+  acts = λ basis declarations is may boxes. plays_first (keeping g.S.RowLog.stands g.S.RowLog.is_true g.S.RowLog.is_due) basis declarations (string_bytes c.args.printed.now) (string_bytes c.start.new.printed) (string_bytes c.act.new.printed) c.args.instruction c.in_default.not-Realm c.in_default.not-Labels c.in_ok-playing-in_default.playing
+      (λ truth. (let before = c.in_ok-playing-in_default.ensures.truth truth in (c.in-Ok.ensures.text basis declarations is before, c.in_ok-playing-in_default.ensures.moves (scene_of basis declarations) (c.in-Ok.ensures.scene basis declarations is before) may boxes truth)));
+}
+
+pub returns-in-Ok-noted-clause-acts : goal.returns-in-Ok-noted-clause-acts
+returns-in-Ok-noted-clause-acts g c = λ basis declarations is may boxes.
     let printed = string_bytes c.args.printed.now in
-    let fault = err_from_is_err_and c.from_residual.result c.from_residual.ensures.1 in
-    subst (λ r. ActsSo printed printed (acts (Declaring declarations) (move_by c.args.instruction)) r) (sym (fault.1 ∙ ap Err fault.2))
-    (subst (λ i. ActsSo printed printed (acts (Declaring declarations) (move_by i)) (Err c.in_err-declared.field-0.0)) (sym c.in-Realm.is)
-    (fails_to_declare (declared c.in-Realm.name.now c.in-Realm.address.now c.in-Realm.branches c.in-Realm.limits declarations) printed c.in_err-declared.field-0.0 (c.in_err-declared.ensures declarations is)))
+    elim c.match-instruction.branch [
+      | in-Realm w ↦ subst (λ d. ActsSo (keeping g.S.RowLog.stands g.S.RowLog.is_true g.S.RowLog.is_due) basis printed printed (acts basis (Declaring declarations) (move_by c.args.instruction)) (Ok (stage.Declaring d))) (sym w.declared-is)
+          (subst (λ i. ActsSo (keeping g.S.RowLog.stands g.S.RowLog.is_true g.S.RowLog.is_due) basis printed printed (acts basis (Declaring declarations) (move_by i)) (Ok (stage.Declaring w.add-noted.new.self))) (sym w.in-Realm.is)
+          (declares_so (keeping g.S.RowLog.stands g.S.RowLog.is_true g.S.RowLog.is_due) basis c.args.declared w.add-noted.new.self declarations printed (declared w.in-Realm.name.now w.in-Realm.address.now w.in-Realm.branches w.in-Realm.limits) w.add-noted.result c.in-Ok-noted.field-0 is w.add-noted.ensures.store w.add-noted.ensures.declares (sym w.noted-is ∙ c.in-Ok-noted.is)))
+      | in-Labels w ↦ subst (λ d. ActsSo (keeping g.S.RowLog.stands g.S.RowLog.is_true g.S.RowLog.is_due) basis printed printed (acts basis (Declaring declarations) (move_by c.args.instruction)) (Ok (stage.Declaring d))) (sym w.declared-is)
+          (subst (λ i. ActsSo (keeping g.S.RowLog.stands g.S.RowLog.is_true g.S.RowLog.is_due) basis printed printed (acts basis (Declaring declarations) (move_by i)) (Ok (stage.Declaring w.label-noted.new.self))) (sym w.in-Labels.is)
+          (declares_so (keeping g.S.RowLog.stands g.S.RowLog.is_true g.S.RowLog.is_due) basis c.args.declared w.label-noted.new.self declarations printed (labelled w.in-Labels.realm.now (fields_of 32 w.in-Labels.labels.now)) w.label-noted.result c.in-Ok-noted.field-0 is w.label-noted.ensures.store w.label-noted.ensures.declares (sym w.noted-is ∙ c.in-Ok-noted.is)))
+    ]
 
-pub returns-in-Realm : goal.returns-in-Realm
-returns-in-Realm g c = λ declarations is boxes.
-    let all = c.in_ok-declared.ensures declarations is in
-    rw c.in-Realm.is (Declaring all.0, ap (option_map Declaring) all.1, all.2, sym (append-nil (string_bytes c.args.printed.now)))
-
-pub returns-in_err-label : goal.returns-in_err-label
-returns-in_err-label g c = λ declarations is boxes.
+pub returns-in-Err-noted-clause-acts : goal.returns-in-Err-noted-clause-acts
+returns-in-Err-noted-clause-acts g c = λ basis declarations is may boxes.
     let printed = string_bytes c.args.printed.now in
-    let fault = err_from_is_err_and c.from_residual-in_err-label.result c.from_residual-in_err-label.ensures.1 in
-    subst (λ r. ActsSo printed printed (acts (Declaring declarations) (move_by c.args.instruction)) r) (sym (fault.1 ∙ ap Err fault.2))
-    (subst (λ i. ActsSo printed printed (acts (Declaring declarations) (move_by i)) (Err c.in_err-label.field-0.0)) (sym c.in-Labels.is)
-    (fails_to_declare (labelled c.in-Labels.realm.now (fields_of 32 c.in-Labels.labels.now) declarations) printed c.in_err-label.field-0.0 (c.in_err-label.ensures declarations is)))
-
-pub returns-in-Labels : goal.returns-in-Labels
-returns-in-Labels g c = λ declarations is boxes.
-    let all = c.in_ok-label.ensures declarations is in
-    rw c.in-Labels.is (Declaring all.0, ap (option_map Declaring) all.1, all.2, sym (append-nil (string_bytes c.args.printed.now)))
-
-pub returns : goal.returns
-returns g c = λ declarations is boxes. plays_first c.in_ok-playing-2.playing declarations (string_bytes c.args.printed.now) (string_bytes c.start.new.printed) (string_bytes c.act.new.printed) c.args.instruction c.in_default.not-Realm c.in_default-instruction.not-Labels (c.in_ok-playing.ensures.text declarations is) (c.in_ok-playing-2.ensures (scene_of declarations) (c.in_ok-playing.ensures.scene declarations is) boxes)
+    elim c.match-instruction.branch [
+      | in-Realm w ↦ subst (λ i. ActsSo (keeping g.S.RowLog.stands g.S.RowLog.is_true g.S.RowLog.is_due) basis printed printed (acts basis (Declaring declarations) (move_by i)) (Err (c.in-Err-noted.fault, Some c.match-instruction.declared.store))) (sym w.in-Realm.is)
+          (declares_not (keeping g.S.RowLog.stands g.S.RowLog.is_true g.S.RowLog.is_due) basis c.args.declared w.add-noted.new.self declarations printed (declared w.in-Realm.name.now w.in-Realm.address.now w.in-Realm.branches w.in-Realm.limits) w.add-noted.result c.in-Err-noted.fault (Some c.match-instruction.declared.store) is w.add-noted.ensures.declares (sym w.noted-is ∙ c.in-Err-noted.is))
+      | in-Labels w ↦ subst (λ i. ActsSo (keeping g.S.RowLog.stands g.S.RowLog.is_true g.S.RowLog.is_due) basis printed printed (acts basis (Declaring declarations) (move_by i)) (Err (c.in-Err-noted.fault, Some c.match-instruction.declared.store))) (sym w.in-Labels.is)
+          (declares_not (keeping g.S.RowLog.stands g.S.RowLog.is_true g.S.RowLog.is_due) basis c.args.declared w.label-noted.new.self declarations printed (labelled w.in-Labels.realm.now (fields_of 32 w.in-Labels.labels.now)) w.label-noted.result c.in-Err-noted.fault (Some c.match-instruction.declared.store) is w.label-noted.ensures.declares (sym w.noted-is ∙ c.in-Err-noted.is))
+    ]

@@ -5,7 +5,7 @@ use Rattle.std.specs.Str.{bytes_eq}
 use Rattle.std.proofs.lemmas.Option.{slice_get-get_or}
 use Rattle.tip_scene.specs.Standing.{has_name}
 use Rattle.tip_scene.proofs.Places.{first_passes, none_passes, none_yet, one_more_fails}
-use Rattle.tip_scene.proofs.playing.Playing+Host+MemRows+Actor.place_of.Goals as goal
+use Rattle.tip_scene.proofs.playing.Playing+Host+S+Actor.place_of.Goals as goal
 
 pub loop-place-init : goal.loop-place-init
 loop-place-init g c = none_yet (has_name c.args.name.now) c.deref-actor-items.result.now

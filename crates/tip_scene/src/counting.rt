@@ -1,0 +1,77 @@
+//! How many boxes the rows of realms want that start.
+ghost use Rattle.std.specs.Prelude.{◌≡◌, List, ℕ};
+ghost use Rattle.tip_rows.specs.Logs.{Log};
+
+use crate::boxes::count_branches;
+use crate::declared::Declaration;
+use tip_actor::{ActFault, Actor};
+use tip_line::Realm;
+use tip_rows::{LoadFault, RowLog};
+
+/// How many branches the stored rows of these realms have, or those of the realm of this name alone. The store is read, and stays as
+/// it is.
+pub(crate) fn count_declared<S: RowLog + Drop>(
+    store: &mut S,
+    declarations: &[Declaration],
+    only: Option<&str>,
+) -> Result<usize, ActFault>
+    ensures stands { (log : Log) → S.stands store.old log → S.stands store.new log }
+    ensures due { (r : List ℕ) → S.is_due store.new r ≡ S.is_due store.old r }
+    ensures truth { S.is_true store.new → S.is_true store.old }
+{
+    let mut count: usize = 0;
+    for declaration in declarations {
+        count = count_more(count, store, &declaration.name, only)?;
+    }
+    Ok(count)
+}
+
+/// The same of realms at work.
+pub(crate) fn count_acting<S: RowLog + Drop>(
+    store: &mut S,
+    actors: &[Actor],
+    only: Option<&str>,
+) -> Result<usize, ActFault>
+    ensures stands { (log : Log) → S.stands store.old log → S.stands store.new log }
+    ensures due { (r : List ℕ) → S.is_due store.new r ≡ S.is_due store.old r }
+    ensures truth { S.is_true store.new → S.is_true store.old }
+{
+    let mut count: usize = 0;
+    for actor in actors {
+        count = count_more(count, store, &actor.name, only)?;
+    }
+    Ok(count)
+}
+
+/// So many, and one for each branch of each stored row of this realm, if it is meant: all are where no name is given. The store is
+/// read, and stays as it is.
+fn count_more<S: RowLog + Drop>(
+    count: usize,
+    store: &mut S,
+    realm: &Realm,
+    only: Option<&str>,
+) -> Result<usize, ActFault>
+    ensures stands { (log : Log) → S.stands store.old log → S.stands store.new log }
+    ensures due { (r : List ℕ) → S.is_due store.new r ≡ S.is_due store.old r }
+    ensures truth { S.is_true store.new → S.is_true store.old }
+{
+    if !is_meant(realm, only) {
+        return Ok(count);
+    }
+    match store.load(realm) {
+        Ok(loaded) => match count.checked_add(count_branches(&loaded.rows)?) {
+            Some(more) => Ok(more),
+            None => Err(ActFault::Memory),
+        },
+        Err(LoadFault::Memory) => Err(ActFault::Memory),
+        Err(LoadFault::Refused | LoadFault::BadRow) => Err(ActFault::Store),
+    }
+}
+
+/// Whether this realm is meant.
+fn is_meant(realm: &Realm, only: Option<&str>) -> bool {
+    match only {
+        Some(name) => realm.as_str() == name,
+        None => true,
+    }
+}
