@@ -2,7 +2,6 @@
 ghost use Rattle.std.specs.Prelude.{◌≡◌, ◌++◌, ◌&&◌, if◌then◌else◌, Some, None, IfOk, OnOk, string_bytes};
 ghost use Rattle.std.specs.List.{list_all};
 ghost use Rattle.tip_branch.specs.declared.member.Errand.TheVariants as Errand;
-ghost use Rattle.tip_host.specs.Errands.{are_untold};
 ghost use Rattle.tip_machine.specs.Returns.{event_of};
 ghost use Rattle.tip_branch.specs.Always.{Always};
 ghost use Rattle.tip_actor.specs.Acting.{Acting, drops_from, goes_for};
@@ -13,7 +12,7 @@ use crate::actor::Actor;
 use crate::fault::ActFault;
 use std::alloc::{AllocError, Global};
 use tip_branch::{Errand, HeldParty, Member, Plan};
-use tip_host::{Host, done};
+use tip_host::{Host, are_untold, done};
 use tip_machine::Event;
 use tip_rows::RowLog;
 use tip_transcript::{print_drops, print_idle};
@@ -79,13 +78,6 @@ fn is_foretold(party: &HeldParty) -> bool
     let party = party.party();
     let members = party.members();
     are_untold(members) && are_promised(party.errand(), members)
-}
-
-/// Whether nobody was called since the errand was given.
-fn are_untold(members: &[Member]) -> bool
-    ensures { result ≡ are_untold members.now }
-{
-    members.iter().all(|member| member.call.is_none())
 }
 
 /// Whether all that will be answered to this errand is promised.

@@ -3,8 +3,15 @@ ghost use Rattle.std.specs.Prelude.{◌≡◌, true};
 ghost use Rattle.tip_host.specs.Errands.{are_untold, was_done};
 ghost use Rattle.tip_machine.specs.Returns.{Back, can_answer, event_of};
 
-use tip_branch::{Errand, HeldParty};
+use tip_branch::{Errand, HeldParty, Member};
 use tip_machine::Event;
+
+/// Whether none of these branches of a party was called since its errand was given, so that it may be done.
+pub fn are_untold(members: &[Member]) -> bool
+    ensures { result ≡ are_untold members.now }
+{
+    members.iter().all(|member| member.call.is_none())
+}
 
 /// Does the errand of a party that is out: its branches are asked, or told, and the party comes back as an event. This calls the
 /// branches, and is called where nothing waits for the host.

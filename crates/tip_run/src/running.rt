@@ -1,7 +1,6 @@
 //! A host at work, by a caller that brings parties back as their errands leave them.
 ghost use Rattle.std.specs.Prelude.{◌≡◌, ◌≢◌, ◌++◌, ℕ, [], ◌∷◌, true, IfOk, IfSome, IfNone, OnOk, map};
 ghost use Rattle.tip_branch.specs.Always.{Always};
-ghost use Rattle.tip_host.specs.Errands.{are_untold};
 ghost use Rattle.tip_machine.specs.Honest.{brings_no_party};
 ghost use Rattle.tip_table.specs.Kept.{of};
 ghost use Rattle.tip_run.specs.Runs.{Comes, Goes, Happens, Loses, around};
@@ -11,9 +10,9 @@ use crate::noted::Noted;
 use crate::shown::Shown;
 use std::alloc::Global;
 use std::marker::Model;
-use tip_branch::{HeldParty, Member};
+use tip_branch::HeldParty;
 use tip_core::Core;
-use tip_host::{Host, done};
+use tip_host::{Host, are_untold, done};
 use tip_machine::Event;
 use tip_rows::RowLog;
 use tip_table::{Table, Test};
@@ -143,13 +142,6 @@ impl<S: RowLog + Drop> Running<S> {
         let place = self.out.find(realm, &Any)?;
         Some(self.out.remove(place))
     }
-}
-
-/// Whether nobody was called since the errand was given.
-fn are_untold(members: &[Member]) -> bool
-    ensures { result ≡ are_untold members.now }
-{
-    members.iter().all(|member| member.call.is_none())
 }
 
 /// Whether an event brings no party back.

@@ -6,10 +6,9 @@ use super::desks::NORTH;
 use std::alloc::{AllocError, Global};
 use std::slice::from_ref;
 use std::test::Fail;
-use stop_trial::is_untold;
 use tip_branch::HeldParty;
 use tip_desk::{Desk, Entry, PartyNote, Reply};
-use tip_host::{HostFault, RenewFault, done};
+use tip_host::{HostFault, RenewFault, are_untold, done};
 use tip_journal::{AuditFault, Pass, Reported};
 use tip_machine::{Event, Heard, Seat, Sent};
 use tip_recovery::Recovery;
@@ -101,7 +100,7 @@ impl Serving {
         requires { Always }
     {
         match work {
-            Some(work) if is_untold(&work) => self.step(alloc, done(work)),
+            Some(work) if are_untold(work.party().members()) => self.step(alloc, done(work)),
             _ => Err(Fail::from("a party is out, and none of its branches was called")),
         }
     }

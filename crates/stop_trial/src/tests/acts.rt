@@ -2,12 +2,11 @@
 ghost use Rattle.tip_branch.specs.Always.{Always};
 
 use super::realms::NORTH;
-use crate::is_untold;
 use std::alloc::Global;
 use std::test::Fail;
 use tip_branch::{HeldFresh, HeldParty};
 use tip_core::Happened;
-use tip_host::{Host, done};
+use tip_host::{Host, are_untold, done};
 use tip_line::{Address, Id};
 use tip_machine::{Answer, Event, Heard, Outcome, Purpose, Seat};
 use tip_rows::RowLog;
@@ -144,7 +143,7 @@ fn returned(work: Option<HeldParty>) -> Result<Event, Fail>
     requires { Always }
 {
     match work {
-        Some(work) if is_untold(&work) => Ok(done(work)),
+        Some(work) if are_untold(work.party().members()) => Ok(done(work)),
         _ => Err(Fail::from("a party is out, and none of its branches was called")),
     }
 }
