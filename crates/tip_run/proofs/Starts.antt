@@ -1,8 +1,9 @@
 -- Realms that start again.
-use Rattle.std.proofs.Common.{◌≡◌, ◌≢◌, ◌++◌, ◌∷◌, ◌∙◌, ℕ, Bool, true, List, [], Option, Some, None, ap, length, refl, subst, sym}
-use Rattle.std.specs.Prelude.{◌==◌, is_none, option_map, slice_get, MatchOption, Ok}
+use Rattle.std.proofs.Common.{◌≡◌, ◌≢◌, ◌++◌, ◌∷◌, ◌∙◌, ℕ, Bool, true, false, List, [], Option, Some, None, ap, arith, length, refl, subst, sym}
+use Rattle.std.specs.Prelude.{◌==◌, ◌&&◌, is_none, not, option_map, slice_get, MatchOption, Ok}
+use Rattle.std.specs.Cmp.{unsigned_Decides}
 use Rattle.std.specs.List.{flat_map}
-use Rattle.std.proofs.lemmas.Bool.{and_parts, true≢false}
+use Rattle.std.proofs.lemmas.Bool.{and_from, and_parts, true≢false}
 use Rattle.tip_branch.specs.declared.branch.Badge.{Badge}
 use Rattle.tip_calls.proofs.Given.{given_all}
 use Rattle.tip_calls.specs.Calls.{Around, drops_in}
@@ -15,7 +16,7 @@ use Rattle.tip_host.specs.declared.realm_spec.RealmSpec.{RealmSpec}
 use Rattle.tip_machine.specs.Moves.{drops_here}
 use Rattle.tip_machine.specs.Outputs.{drops_of}
 use Rattle.tip_machine.specs.States.{State}
-use Rattle.tip_recovery.specs.Adopting.{Recovery, Unfinished, adopted_all, are_for, are_for_all}
+use Rattle.tip_recovery.specs.Adopting.{Recovery, Unfinished, adopted_all, are_adopted, are_for, are_for_all, waits, with_boxes}
 use Rattle.tip_rows.specs.Logs.{Log, with_raised}
 use Rattle.tip_rows.specs.Rows.{branches_of}
 use Rattle.tip_run.specs.Runs.{Renews, Restarts}
@@ -50,6 +51,35 @@ given_to_each (lots ∷ boxes) [] fits = absurd (true≢false (sym fits))
 given_to_each (lots ∷ boxes) (recovery ∷ realms) fits =
     let parts = and_parts (are_for_all lots recovery.rows) (are_for_each boxes realms) fits in
     (given_to lots recovery.rows parts.0, given_to_each boxes realms parts.1)
+
+-- and they wait for none any more
+
+not_both : (x : Bool) → not (x && false) ≡ true
+not_both true = refl
+not_both false = refl
+
+waits_no_more : (lot : List Badge) (row : Unfinished) → are_for lot row ≡ true → not (waits (with_boxes lot row)) ≡ true
+waits_no_more [] row fits = by (branches_of row.row) (and_parts (0 == length (branches_of row.row)) (is_none row.boxes) fits).0 where
+  by : {T : Type 0} (branches : List T) → (0 == length branches) ≡ true → not (not (length branches == 0) && is_none row.boxes) ≡ true
+  by [] none = refl
+  by (branch ∷ branches) none = absurd (omega (arith, (unsigned_Decides 0 (length (branch ∷ branches))).0 none))
+waits_no_more (box ∷ lot) row fits = not_both (not (length (branches_of row.row) == 0))
+
+all_wait_no_more : (lots : List (List Badge)) (rows : List Unfinished) → are_for_all lots rows ≡ true → are_adopted (adopted_all lots rows) ≡ true
+all_wait_no_more [] [] fits = refl
+all_wait_no_more [] (row ∷ rows) fits = absurd (true≢false (sym fits))
+all_wait_no_more (lot ∷ lots) [] fits = refl
+all_wait_no_more (lot ∷ lots) (row ∷ rows) fits =
+    let parts = and_parts (are_for lot row) (are_for_all lots rows) fits in
+    and_from (not (waits (with_boxes lot row))) (are_adopted (adopted_all lots rows)) (waits_no_more lot row parts.0) (all_wait_no_more lots rows parts.1)
+
+pub none_waits : (boxes : List (List (List Badge))) (realms : List Recovery) → are_for_each boxes realms ≡ true → all_adopted (adopted_each boxes realms) ≡ true
+none_waits [] [] fits = refl
+none_waits [] (recovery ∷ realms) fits = absurd (true≢false (sym fits))
+none_waits (lots ∷ boxes) [] fits = refl
+none_waits (lots ∷ boxes) (recovery ∷ realms) fits =
+    let parts = and_parts (are_for_all lots recovery.rows) (are_for_each boxes realms) fits in
+    and_from (are_adopted (adopted_all lots recovery.rows)) (all_adopted (adopted_each boxes realms)) (all_wait_no_more lots recovery.rows parts.0) (none_waits boxes realms parts.1)
 
 -- One realm, while the others run
 

@@ -1,2 +1,3 @@
+pub mod Halts
 pub mod Runs
 pub mod Showing

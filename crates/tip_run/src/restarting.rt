@@ -1,5 +1,5 @@
 //! Realms of a host at work that start again.
-ghost use Rattle.std.specs.Prelude.{◌≡◌, ◌++◌, ℕ, IfOk, OnOk, Some, map};
+ghost use Rattle.std.specs.Prelude.{◌≡◌, ◌++◌, ℕ, IfErr, IfOk, OnOk, Some, false, map};
 ghost use Rattle.std.specs.List.{flat_map};
 ghost use Rattle.tip_branch.specs.Always.{Always};
 ghost use Rattle.tip_calls.specs.Calls.{drops_in};
@@ -8,6 +8,7 @@ ghost use Rattle.tip_machine.specs.Moves.{drops_here};
 ghost use Rattle.tip_machine.specs.Outputs.{drops_of};
 ghost use Rattle.tip_machine.specs.States.{State};
 ghost use Rattle.tip_table.specs.Kept.{of};
+ghost use Rattle.tip_run.specs.Halts.{IsWhyNotRenewed, IsWhyNotRestarted};
 ghost use Rattle.tip_run.specs.Runs.{Renews, Restarts, around};
 ghost use Rattle.tip_run.specs.Showing.{notes_of, shown_at};
 
@@ -29,7 +30,9 @@ impl<S: RowLog + Drop> Running<S> {
         boxes: Vec<Vec<HeldPrepared>>,
     ) -> Result<(Running<S>, Vec<Shown>), RunFault>
         requires { Always }
-        ensures { IfOk result (λ again. Restarts S.stands S.may_leave S.is_true S.faults S.is_due (around self) (around again.0) (map (λ lots. lots.items) boxes.items) again.1.items) }
+        ensures restarts { IfOk result (λ again. Restarts S.stands S.may_leave S.is_true S.faults S.is_due (around self) (around again.0) (map (λ lots. lots.items) boxes.items) again.1.items) }
+        ensures why { IfErr result (IsWhyNotRestarted S.stands S.may_leave S.is_true S.faults S.is_due (around self) (map (λ lots. lots.items) boxes.items)) }
+        ensures runs { IfOk result (λ again. again.0.host.is_stopped ≡ false) }
     {
         let shown = self.all_leave(alloc)?;
         let Running { host, out } = self;
@@ -56,7 +59,9 @@ impl<S: RowLog + Drop> Running<S> {
         boxes: Vec<HeldPrepared>,
     ) -> Result<Shown, RunFault>
         requires { Always }
-        ensures { IfOk result (λ shown. Renews S.stands S.is_true (around self.old) (around self.new) realm boxes.items shown) }
+        ensures renews { IfOk result (λ shown. Renews S.stands S.is_true (around self.old) (around self.new) realm boxes.items shown) }
+        ensures why { IfErr result (IsWhyNotRenewed S.stands S.is_true self.old.host.is_stopped (around self.old) realm boxes.items) }
+        ensures stopped { self.new.host.is_stopped ≡ self.old.host.is_stopped }
     {
         let mut left = Vec::new(alloc);
         note_here(alloc, &self.host.core, realm, &mut left)?;

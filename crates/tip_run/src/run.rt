@@ -1,8 +1,8 @@
 //! A host is run by a list of moves.
-ghost use Rattle.std.specs.Prelude.{◌≡◌, ◌<◌, ◌++◌, List, IfErr, IfOk, OnErr, length, take};
+ghost use Rattle.std.specs.Prelude.{◌≡◌, ◌++◌, List, IfErr, IfOk, OnErr, true};
 ghost use Rattle.std.specs.Option.{option_to_list};
 ghost use Rattle.tip_branch.specs.Always.{Always};
-ghost use Rattle.tip_calls.specs.Calls.{Around};
+ghost use Rattle.tip_run.specs.Halts.{HasHalted, IsWhyNotMade};
 ghost use Rattle.tip_run.specs.Runs.{HasRun, IsMade, around};
 ghost use Rattle.tip_run.specs.declared.shown.Shown.{Shown};
 
@@ -16,13 +16,12 @@ use tip_rows::RowLog;
 impl<S: RowLog + Drop> Running<S> {
     /// ISOLATION AND AGREEMENT of a host that is run: all moves are made, in order. However the moves of all realms are interleaved,
     /// what each realm shows is what an honest run of its own machine shows, its state and its stored rows are where that run leads,
-    /// and none of its transactions is half committed. At the first move that can't be made the run halts, and the same holds of the
-    /// moves before it.
+    /// and none of its transactions is half committed. At the first move that can't be made the run halts and says why, and the same
+    /// holds of the moves before it.
     pub fn run(self, alloc: Global, moves: Vec<Move>) -> Result<(Running<S>, Vec<Shown>), Halt>
         requires { Always }
         ensures ran { IfOk result (λ ran. HasRun S.stands S.may_leave S.is_true S.faults S.is_due (around self) moves.items ran.1.items (around ran.0)) }
-        ensures halted { IfErr result (λ halt. (between : Around S) × HasRun S.stands S.may_leave S.is_true S.faults S.is_due (around self) (take halt.place moves.items) halt.shown.items between) }
-        ensures within { IfErr result (λ halt. halt.place < length moves.items) }
+        ensures halted { IfErr result (HasHalted S.stands S.may_leave S.is_true S.faults S.is_due self.host.is_stopped (around self) moves.items) }
     {
         let mut running = self;
         let mut shown = Vec::new(alloc);
@@ -46,6 +45,8 @@ impl<S: RowLog + Drop> Running<S> {
         requires { Always }
         ensures made { IfOk result (λ after. (more : List Shown) × (shown.new.items ≡ shown.old.items ++ more) × IsMade S.stands S.may_leave S.is_true S.faults S.is_due (around self) next more (around after)) }
         ensures same { OnErr result (shown.new.items ≡ shown.old.items) }
+        ensures why { IfErr result (IsWhyNotMade S.stands S.may_leave S.is_true S.faults S.is_due self.host.is_stopped (around self) next) }
+        ensures stopped { IfOk result (λ after. after.host.is_stopped ≡ true → self.host.is_stopped ≡ true) }
     {
         let (after, mut more) = self.made(alloc, next)?;
         shown.append(&mut more)?;
@@ -55,7 +56,9 @@ impl<S: RowLog + Drop> Running<S> {
     /// One move, and what it shows.
     fn made(mut self, alloc: Global, next: Move) -> Result<(Running<S>, Vec<Shown>), RunFault>
         requires { Always }
-        ensures { IfOk result (λ after. IsMade S.stands S.may_leave S.is_true S.faults S.is_due (around self) next after.1.items (around after.0)) }
+        ensures made { IfOk result (λ after. IsMade S.stands S.may_leave S.is_true S.faults S.is_due (around self) next after.1.items (around after.0)) }
+        ensures why { IfErr result (IsWhyNotMade S.stands S.may_leave S.is_true S.faults S.is_due self.host.is_stopped (around self) next) }
+        ensures stopped { IfOk result (λ after. after.0.host.is_stopped ≡ true → self.host.is_stopped ≡ true) }
     {
         let shown = match next {
             Move::Step { realm, event } => Some(self.step(alloc, realm, event)?),

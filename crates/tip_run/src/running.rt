@@ -1,8 +1,9 @@
 //! A host at work, by a caller that brings parties back as their errands leave them.
-ghost use Rattle.std.specs.Prelude.{◌≡◌, ◌≢◌, ◌++◌, ℕ, [], ◌∷◌, true, IfOk, IfSome, IfNone, OnOk, map};
+ghost use Rattle.std.specs.Prelude.{◌≡◌, ◌≢◌, ◌++◌, ℕ, [], ◌∷◌, true, IfErr, IfOk, IfSome, IfNone, OnOk, map};
 ghost use Rattle.tip_branch.specs.Always.{Always};
 ghost use Rattle.tip_machine.specs.Honest.{brings_no_party};
 ghost use Rattle.tip_table.specs.Kept.{of};
+ghost use Rattle.tip_run.specs.Halts.{IsWhyNotBack, IsWhyNotHappened, IsWhyNotLost, IsWhyNotStepped};
 ghost use Rattle.tip_run.specs.Runs.{Comes, Goes, Happens, Loses, around};
 
 use crate::halt::RunFault;
@@ -81,6 +82,8 @@ impl<S: RowLog + Drop> Running<S> {
         requires { Always }
         ensures nobody { OnOk result (brings_no_party event ≡ true) }
         ensures comes { IfOk result (λ shown. Comes S.stands S.may_leave S.is_true S.faults S.is_due (around self.old) (around self.new) realm event shown) }
+        ensures why { IfErr result (IsWhyNotStepped self.old.host.is_stopped event) }
+        ensures stopped { self.new.host.is_stopped ≡ self.old.host.is_stopped }
     {
         if !brings_no_party(&event) {
             return Err(RunFault::Party);
@@ -91,7 +94,9 @@ impl<S: RowLog + Drop> Running<S> {
     /// The oldest party that is out of a realm does its errand and comes back. Where none is out, nothing happens.
     pub(crate) fn go(&mut self, alloc: Global, realm: usize) -> Result<Option<Shown>, RunFault>
         requires { Always }
-        ensures { IfOk result (λ shown. Goes S.stands S.may_leave S.is_true S.faults S.is_due (around self.old) (around self.new) realm (of self.old.out realm) shown) }
+        ensures goes { IfOk result (λ shown. Goes S.stands S.may_leave S.is_true S.faults S.is_due (around self.old) (around self.new) realm (of self.old.out realm) shown) }
+        ensures why { IfErr result (IsWhyNotBack self.old.host.is_stopped (of self.old.out realm)) }
+        ensures stopped { self.new.host.is_stopped ≡ self.old.host.is_stopped }
     {
         let Some(party) = self.take_oldest(realm) else {
             return Ok(None);
@@ -105,7 +110,9 @@ impl<S: RowLog + Drop> Running<S> {
     /// The oldest party that is out of a realm is let go. Where none is out, nothing happens.
     pub(crate) fn lose(&mut self, alloc: Global, realm: usize) -> Result<Option<Shown>, RunFault>
         requires { Always }
-        ensures { IfOk result (λ shown. Loses (around self.old) (around self.new) realm (of self.old.out realm) shown) }
+        ensures loses { IfOk result (λ shown. Loses (around self.old) (around self.new) realm (of self.old.out realm) shown) }
+        ensures why { IfErr result IsWhyNotLost }
+        ensures stopped { self.new.host.is_stopped ≡ self.old.host.is_stopped }
     {
         let party = self.take_oldest(realm);
         if party.is_none() {
@@ -117,7 +124,9 @@ impl<S: RowLog + Drop> Running<S> {
 
     /// An event of a realm; the party that it sends out is out.
     fn happen(&mut self, alloc: Global, realm: usize, event: Event) -> Result<Shown, RunFault>
-        ensures { IfOk result (λ shown. Happens S.stands S.may_leave S.is_true S.faults S.is_due (around self.old) (around self.new) realm event shown) }
+        ensures happens { IfOk result (λ shown. Happens S.stands S.may_leave S.is_true S.faults S.is_due (around self.old) (around self.new) realm event shown) }
+        ensures why { IfErr result (IsWhyNotHappened self.old.host.is_stopped) }
+        ensures stopped { self.new.host.is_stopped ≡ self.old.host.is_stopped }
     {
         let back = Noted::brought(alloc, &event)?;
         self.out.reserve()?;

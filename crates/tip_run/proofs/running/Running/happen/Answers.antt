@@ -21,8 +21,8 @@ pub invariant_of-self-in_default : goal.invariant_of-self-in_default
 invariant_of-self-in_default g c = λ place none.
     c.reserve.ensures.items place ∙ c.self.invariant place (nowhere_before c.self.inside.host.core c.step.new.self.core c.args.realm c.args.event c.in-Ok.happened.outcome c.in-Ok.happened.answer c.in-Ok.ensures.steps place none)
 
-pub returns : goal.returns
-returns g c = elim c.match-work.branch [
+pub returns-clause-happens : goal.returns-clause-happens
+returns-clause-happens g c = elim c.match-work.branch [
   | in-Some w ↦ rw (← c.self.view_is, w.self-is) (happens w.add.new.self
       (w.add.ensures.added ∙ ap (λ l. l ++ w.in-Some.party ∷ []) (c.reserve.ensures.items c.args.realm) ∙ ap (λ o. of c.self.inside.out c.args.realm ++ option_to_list o) (sym w.in-Some.is ∙ c.in_ok-shown.ensures.work))
       (λ other differ. w.add.ensures.others other differ ∙ c.reserve.ensures.items other))
