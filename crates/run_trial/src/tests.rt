@@ -12,7 +12,7 @@ use tip_core::Core;
 use tip_host::{Host, RealmSpec};
 use tip_line::{Address, Realm};
 use tip_machine::{Change, Event, Heard, Item, Limits, Outcome, Said, Seat};
-use tip_rows::{Branches, Label, MemRows};
+use tip_rows::{Branches, Label, MemRows, RowLog};
 use tip_run::{Halt, Move, RunFault, Running, Shown};
 
 /// The seat of the first connection in the first epoch.
@@ -47,9 +47,16 @@ fn north(alloc: Global) -> Result<RealmSpec, Fail> {
 fn begun(alloc: Global) -> Result<Running<MemRows>, Fail>
     requires { Always }
 {
+    at_work(alloc, MemRows::new(alloc))
+}
+
+/// The realm at work. What is done with rows is said of rows of any kind, so that no proof carries what those in memory are.
+fn at_work<S: RowLog + Drop>(alloc: Global, rows: S) -> Result<Running<S>, Fail>
+    requires { Always }
+{
     let mut specs = Vec::new(alloc);
     specs.push(north(alloc)?)?;
-    match Host::load(alloc, MemRows::new(alloc), Core::new(alloc), specs) {
+    match Host::load(alloc, rows, Core::new(alloc), specs) {
         Ok(recovering) => match recovering.begin() {
             Ok(host) => Ok(Running::new(alloc, host)),
             Err(_) => Err(Fail::from("no row waits")),
@@ -118,12 +125,21 @@ fn lines(alloc: Global, seat: Seat, texts: &[&str]) -> Result<Vec<Move>, Fail>
 }
 
 /// What is shown by these moves, which are made.
-fn shown_by(
+fn shown_by<S: RowLog + Drop>(
     alloc: Global,
-    running: Running<MemRows>,
+    running: Running<S>,
     moves: Vec<Move>,
-) -> Result<(Running<MemRows>, Vec<Shown>), Fail> {
+) -> Result<(Running<S>, Vec<Shown>), Fail> {
     Ok(running.run(alloc, moves).map_err(|_| "memory is there")?)
+}
+
+/// How a run ends at a move that can't be made.
+fn halt_of<S: RowLog + Drop>(
+    alloc: Global,
+    running: Running<S>,
+    moves: Vec<Move>,
+) -> Result<Halt, Fail> {
+    Ok(running.run(alloc, moves).err().ok_or("it halts")?)
 }
 
 /// Whether a party goes out on this errand.
@@ -210,19 +226,9 @@ fn a_run_halts_where_boxes_do_not_fit(rt: HostRuntime) -> Result<(), Fail> {
     let mut moves = lines(alloc, FIRST, &["IDENTIFY 3 3 - -"])?;
     moves.push(restart(alloc)?)?;
     moves.push(Move::Go { realm: 0 })?;
-    match begun(alloc)?.run(alloc, moves) {
-        Ok(_) => Err(Fail::from("no row has boxes")),
-        Err(
-            Halt {
-                shown,
-                place,
-                fault,
-            },
-        ) => {
-            assert_eq!(rt; shown.len(), 2);
-            assert_eq!(rt; place, 2);
-            assert!(rt; fault == RunFault::Boxes);
-            Ok(())
-        }
-    }
+    let halt = halt_of(alloc, begun(alloc)?, moves)?;
+    assert_eq!(rt; halt.shown.len(), 2);
+    assert_eq!(rt; halt.place, 2);
+    assert_eq!(rt; halt.fault, RunFault::Boxes);
+    Ok(())
 }
