@@ -58,7 +58,8 @@ impl Probe {
         phase: Phase,
         counters: &Arc<Counters>,
     ) -> Result<Probe, AllocError>
-        ensures { IfOk result (λ probe. probe.standing ≡ untold phase (record { plan = plan; mark = mark })) }
+        ensures { IfOk result
+            (λ probe. probe.standing ≡ untold phase (record { plan = plan; mark = mark })) }
     {
         let told = Told {
             asked: false,

@@ -58,7 +58,8 @@ impl ScriptLine {
 
     /// Reads the next line in place of this one, octet by octet: what is read should have a buffer.
     pub fn read<R: BufRead>(&mut self, input: &mut R) -> Result<LineEnd, LineFault>
-        ensures { Reads (R.remaining input.old) (R.remaining input.new) self.new.octets.items result }
+        ensures { Reads (R.remaining input.old) (R.remaining input.new) self.new.octets.items
+            result }
     {
         self.octets.clear();
         for _ in 0..LONGEST_LINE {
@@ -85,9 +86,12 @@ impl ScriptLine {
 
 /// Reads one octet; none at the end of the input.
 fn next_octet<R: BufRead>(input: &mut R) -> Result<Option<u8>, LineFault>
-    ensures end { IfOk result (λ octet. octet ≡ None → Consumes (R.remaining input.old) (R.remaining input.new) [] × IsAtEnd (R.remaining input.new)) }
-    ensures octet { IfOk result (λ octet. (o : ℕ) → octet ≡ Some o → Consumes (R.remaining input.old) (R.remaining input.new) (o ∷ [])) }
-    ensures kept { IfErr result (λ fault. Consumes (R.remaining input.old) (R.remaining input.new) []) }
+    ensures end { IfOk result (λ octet. octet ≡ None → Consumes (R.remaining input.old)
+        (R.remaining input.new) [] × IsAtEnd (R.remaining input.new)) }
+    ensures octet { IfOk result (λ octet. (o : ℕ) → octet ≡ Some o →
+        Consumes (R.remaining input.old) (R.remaining input.new) (o ∷ [])) }
+    ensures kept { IfErr result
+        (λ fault. Consumes (R.remaining input.old) (R.remaining input.new) []) }
     ensures fault { IfErr result (λ fault. fault ≡ faults.Read) }
 {
     let mut octet = [0];

@@ -21,7 +21,8 @@ pub fn change_word(done: Result<(), Refused>) -> &'static str
 
 /// What a rise came to, in a word.
 pub fn raise_word(done: Result<(), RaiseFault>) -> &'static str
-    ensures { MatchResult done (λ _. result.now ≡ codes "ok") (λ fault. result.now ≡ raise_word fault) }
+    ensures { MatchResult done (λ _. result.now ≡ codes "ok")
+        (λ fault. result.now ≡ raise_word fault) }
 {
     match done {
         Ok(()) => "ok",

@@ -22,7 +22,8 @@ pub fn look(table: &Table<Connection>, realm: usize, number: u32) -> Option<usiz
 #[tactic(auto, using(tip_table::proofs::Standing::standing))]
 pub fn greet(table: &mut Table<Connection>, realm: usize, place: usize, number: u32, peer: u32)
     requires { StandsAt table.old realm (has_number number) place }
-    ensures own { of table.new realm ≡ changed (has_number number) (greeted peer) (of table.old realm) }
+    ensures own { of table.new realm
+        ≡ changed (has_number number) (greeted peer) (of table.old realm) }
     ensures others { (other : ℕ) → other ≢ realm → of table.new other ≡ of table.old other }
 {
     let connection = table.item_mut(place);
@@ -43,7 +44,8 @@ pub fn close(table: &mut Table<Connection>, realm: usize, place: usize, number: 
 
 /// Adds a connection, where memory is there.
 pub fn begin(table: &mut Table<Connection>, realm: usize, number: u32) -> Result<(), AllocError>
-    ensures own { OnOk result (of table.new realm ≡ of table.old realm ++ record { number = number; state = State.Initial; peer = None } ∷ []) }
+    ensures own { OnOk result (of table.new realm ≡ of table.old realm
+        ++ record { number = number; state = State.Initial; peer = None } ∷ []) }
     ensures others { (other : ℕ) → other ≢ realm → of table.new other ≡ of table.old other }
 {
     table.reserve()?;
@@ -62,7 +64,8 @@ pub fn begin(table: &mut Table<Connection>, realm: usize, number: u32) -> Result
 #[tactic(auto, using(tip_table::proofs::Standing::standing))]
 pub fn peer_of(table: &Table<Connection>, realm: usize, place: usize, number: u32) -> Option<u32>
     requires { StandsAt table.now realm (has_number number) place }
-    ensures { result ≡ option_and_then (λ c. c.peer) (find (has_number number) (of table.now realm)) }
+    ensures { result
+        ≡ option_and_then (λ c. c.peer) (find (has_number number) (of table.now realm)) }
 {
     table.item(place).peer
 }
@@ -82,7 +85,8 @@ pub fn end(table: &mut Table<Connection>, realm: usize, number: u32) -> Option<C
 #[tactic(auto, using(tip_table::proofs::Standing::standing))]
 pub fn greet_number(table: &mut Table<Connection>, realm: usize, number: u32, peer: u32) -> bool
     ensures known { (result ≡ false) ↔ (find (has_number number) (of table.old realm) ≡ None) }
-    ensures own { of table.new realm ≡ changed (has_number number) (greeted peer) (of table.old realm) }
+    ensures own { of table.new realm
+        ≡ changed (has_number number) (greeted peer) (of table.old realm) }
     ensures others { (other : ℕ) → other ≢ realm → of table.new other ≡ of table.old other }
 {
     match look(table, realm, number) {

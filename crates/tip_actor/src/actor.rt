@@ -61,8 +61,12 @@ impl Actor<HeldParty> {
     ) -> Result<bool, ActFault>
         requires { Always }
         ensures truth { S.is_true host.new.store → S.is_true host.old.store }
-        ensures acts { OnOk result (Acts (keeping S.stands S.is_true S.is_due) host.old host.new place self.old self.new (string_bytes printed.old) (string_bytes printed.new) (happens event)) }
-        ensures refused { (acting : Acting) → IsActing (keeping S.stands S.is_true S.is_due) host.old place self.old acting → IfOk result (λ refused. refused ≡ is_some (answer_in acting event).refusal) }
+        ensures acts { OnOk result (Acts (keeping S.stands S.is_true S.is_due) host.old host.new
+            place self.old self.new (string_bytes printed.old) (string_bytes printed.new)
+            (happens event)) }
+        ensures refused { (acting : Acting) →
+            IsActing (keeping S.stands S.is_true S.is_due) host.old place self.old acting →
+            IfOk result (λ refused. refused ≡ is_some (answer_in acting event).refusal) }
     {
         let mut calls = String::new(alloc);
         print_brought(&mut calls, self.name.as_str(), &event)?;
@@ -77,7 +81,10 @@ impl Actor<HeldParty> {
     pub fn refuse<S: RowLog, R: Refuser<S>>(&mut self, refuser: &R, host: &mut Host<S>)
         requires { Always }
         ensures truth { S.is_true host.new.store → S.is_true host.old.store }
-        ensures refuses { R.may ≡ true → (place : ℕ) (printed : List ℕ) (acting : Acting) → IsActing (keeping S.stands S.is_true S.is_due) host.old place self.old acting → IsDone (keeping S.stands S.is_true S.is_due) host.old host.new place self.old self.new printed printed (refuses acting) }
+        ensures refuses { R.may ≡ true → (place : ℕ) (printed : List ℕ) (acting : Acting) →
+            IsActing (keeping S.stands S.is_true S.is_due) host.old place self.old acting →
+            IsDone (keeping S.stands S.is_true S.is_due) host.old host.new place self.old self.new
+            printed printed (refuses acting) }
     {
         refuser.refuse_next(&mut host.store, &self.name);
         self.is_due = true;
@@ -88,8 +95,11 @@ impl Actor<HeldParty> {
     fn learn(&mut self, happened: Happened) -> Result<(), AllocError>
         ensures name { self.new.name ≡ self.old.name }
         ensures due { OnOk result (self.new.is_due ≡ still_due self.old.is_due happened.change) }
-        ensures readings { (readings : List Reading) → AreReadings self.old.readers.items readings → OnOk result (AreReadings self.new.readers.items (with_opened happened.answer.opened (after_sent happened.answer.sent readings))) }
-        ensures errands { OnOk result (self.new.errands.items ≡ self.old.errands.items ++ option_to_list happened.answer.work) }
+        ensures readings { (readings : List Reading) → AreReadings self.old.readers.items readings →
+            OnOk result (AreReadings self.new.readers.items (with_opened happened.answer.opened
+            (after_sent happened.answer.sent readings))) }
+        ensures errands { OnOk result (self.new.errands.items
+            ≡ self.old.errands.items ++ option_to_list happened.answer.work) }
     {
         self.is_due = self.is_due && happened.change.is_none();
         self.forget_closed(happened.answer.sent.as_slice());
@@ -99,8 +109,10 @@ impl Actor<HeldParty> {
 
     /// A party goes out, if one does.
     fn send(&mut self, work: Option<HeldParty>) -> Result<(), AllocError>
-        ensures same { (self.new.name ≡ self.old.name) × (self.new.readers ≡ self.old.readers) × (self.new.is_due ≡ self.old.is_due) }
-        ensures errands { OnOk result (self.new.errands.items ≡ self.old.errands.items ++ option_to_list work) }
+        ensures same { (self.new.name ≡ self.old.name) × (self.new.readers ≡ self.old.readers)
+            × (self.new.is_due ≡ self.old.is_due) }
+        ensures errands { OnOk result
+            (self.new.errands.items ≡ self.old.errands.items ++ option_to_list work) }
     {
         if let Some(party) = work {
             self.errands.push_back(party)?;
@@ -110,8 +122,10 @@ impl Actor<HeldParty> {
 
     /// A reader for the connection of this seat, if one was given.
     fn give(&mut self, opened: Option<Seat>) -> Result<(), AllocError>
-        ensures same { (self.new.name ≡ self.old.name) × (self.new.errands ≡ self.old.errands) × (self.new.is_due ≡ self.old.is_due) }
-        ensures readings { (readings : List Reading) → AreReadings self.old.readers.items readings → OnOk result (AreReadings self.new.readers.items (with_opened opened readings)) }
+        ensures same { (self.new.name ≡ self.old.name) × (self.new.errands ≡ self.old.errands)
+            × (self.new.is_due ≡ self.old.is_due) }
+        ensures readings { (readings : List Reading) → AreReadings self.old.readers.items readings →
+            OnOk result (AreReadings self.new.readers.items (with_opened opened readings)) }
     {
         if let Some(seat) = opened {
             self.readers.push(Reader::new(seat))?;
@@ -121,8 +135,10 @@ impl Actor<HeldParty> {
 
     /// What was read on connections that are closed is gone.
     fn forget_closed(&mut self, all: &[Sent])
-        ensures same { (self.new.name ≡ self.old.name) × (self.new.errands ≡ self.old.errands) × (self.new.is_due ≡ self.old.is_due) }
-        ensures readings { (readings : List Reading) → AreReadings self.old.readers.items readings → AreReadings self.new.readers.items (after_sent all.now readings) }
+        ensures same { (self.new.name ≡ self.old.name) × (self.new.errands ≡ self.old.errands)
+            × (self.new.is_due ≡ self.old.is_due) }
+        ensures readings { (readings : List Reading) → AreReadings self.old.readers.items readings →
+            AreReadings self.new.readers.items (after_sent all.now readings) }
     {
         for sent in all {
             if let Item::Close = sent.item {
@@ -133,8 +149,10 @@ impl Actor<HeldParty> {
 
     /// What was read on a connection is gone.
     pub(crate) fn forget(&mut self, connection: u32)
-        ensures same { (self.new.name ≡ self.old.name) × (self.new.errands ≡ self.old.errands) × (self.new.is_due ≡ self.old.is_due) }
-        ensures readings { (readings : List Reading) → AreReadings self.old.readers.items readings → AreReadings self.new.readers.items (lost_on connection readings) }
+        ensures same { (self.new.name ≡ self.old.name) × (self.new.errands ≡ self.old.errands)
+            × (self.new.is_due ≡ self.old.is_due) }
+        ensures readings { (readings : List Reading) → AreReadings self.old.readers.items readings →
+            AreReadings self.new.readers.items (lost_on connection readings) }
     {
         if let Some(index) = (connection as usize).checked_sub(1) {
             if let Some(reader) = self.readers.get_mut(index) {
@@ -153,7 +171,10 @@ fn step<S: RowLog>(
     is_due: bool,
 ) -> Result<Happened, ActFault>
     ensures truth { S.is_true host.new.store → S.is_true host.old.store }
-    ensures serves { (state : State) → IsServed (keeping S.stands S.is_true S.is_due) host.old place state is_due → IfOk result (λ happened. Serves (keeping S.stands S.is_true S.is_due) host.old host.new place state is_due event happened) }
+    ensures serves { (state : State) →
+        IsServed (keeping S.stands S.is_true S.is_due) host.old place state is_due →
+        IfOk result (λ happened. Serves (keeping S.stands S.is_true S.is_due) host.old host.new
+        place state is_due event happened) }
 {
     let happened = match host.step(alloc, place, event) {
         Ok(happened) => happened,

@@ -24,8 +24,11 @@ impl Actor<HeldParty> {
         octets: Octets<'_>,
     ) -> Result<bool, AllocError>
         requires { Always }
-        ensures same { (self.new.name ≡ self.old.name) × (self.new.errands ≡ self.old.errands) × (self.new.is_due ≡ self.old.is_due) }
-        ensures fed { (readings : List Reading) → AreReadings self.old.readers.items readings → IfOk result (λ told. IsFed told connection (octets_of octets.entry) readings self.new.readers.items) }
+        ensures same { (self.new.name ≡ self.old.name) × (self.new.errands ≡ self.old.errands)
+            × (self.new.is_due ≡ self.old.is_due) }
+        ensures fed { (readings : List Reading) → AreReadings self.old.readers.items readings →
+            IfOk result (λ told. IsFed told connection (octets_of octets.entry) readings
+            self.new.readers.items) }
     {
         let Some(index) = (connection as usize).checked_sub(1) else {
             return Ok(false);
@@ -48,7 +51,11 @@ impl Actor<HeldParty> {
     ) -> Result<bool, ActFault>
         requires { Always }
         ensures truth { S.is_true host.new.store → S.is_true host.old.store }
-        ensures tells { (acting : Acting) → IsActing (keeping S.stands S.is_true S.is_due) host.old place self.old acting → IfOk result (λ told. Tells (keeping S.stands S.is_true S.is_due) host.old host.new place self.old self.new (string_bytes printed.old) (string_bytes printed.new) told (on_connection loses connection acting)) }
+        ensures tells { (acting : Acting) →
+            IsActing (keeping S.stands S.is_true S.is_due) host.old place self.old acting →
+            IfOk result (λ told. Tells (keeping S.stands S.is_true S.is_due) host.old host.new place
+            self.old self.new (string_bytes printed.old) (string_bytes printed.new) told
+            (on_connection loses connection acting)) }
     {
         let Some(seat) = self.seat(connection) else {
             return Ok(false);
@@ -72,7 +79,11 @@ impl Actor<HeldParty> {
     ) -> Result<bool, ActFault>
         requires { Always }
         ensures truth { S.is_true host.new.store → S.is_true host.old.store }
-        ensures tells { (acting : Acting) → IsActing (keeping S.stands S.is_true S.is_due) host.old place self.old acting → IfOk result (λ told. Tells (keeping S.stands S.is_true S.is_due) host.old host.new place self.old self.new (string_bytes printed.old) (string_bytes printed.new) told (on_connection (pushes id) connection acting)) }
+        ensures tells { (acting : Acting) →
+            IsActing (keeping S.stands S.is_true S.is_due) host.old place self.old acting →
+            IfOk result (λ told. Tells (keeping S.stands S.is_true S.is_due) host.old host.new place
+            self.old self.new (string_bytes printed.old) (string_bytes printed.new) told
+            (on_connection (pushes id) connection acting)) }
     {
         let Some(seat) = self.seat(connection) else {
             return Ok(false);
@@ -94,7 +105,11 @@ impl Actor<HeldParty> {
     ) -> Result<bool, ActFault>
         requires { Always }
         ensures truth { S.is_true host.new.store → S.is_true host.old.store }
-        ensures tells { (acting : Acting) → IsActing (keeping S.stands S.is_true S.is_due) host.old place self.old acting → IfOk result (λ told. Tells (keeping S.stands S.is_true S.is_due) host.old host.new place self.old self.new (string_bytes printed.old) (string_bytes printed.new) told (on_connection (pulls superior) connection acting)) }
+        ensures tells { (acting : Acting) →
+            IsActing (keeping S.stands S.is_true S.is_due) host.old place self.old acting →
+            IfOk result (λ told. Tells (keeping S.stands S.is_true S.is_due) host.old host.new place
+            self.old self.new (string_bytes printed.old) (string_bytes printed.new) told
+            (on_connection (pulls superior) connection acting)) }
     {
         let Some(seat) = self.seat(connection) else {
             return Ok(false);
@@ -111,7 +126,8 @@ impl Actor<HeldParty> {
 
     /// The seat of a connection, if the realm has given it.
     fn seat(&self, connection: u32) -> Option<Seat>
-        ensures { (readings : List Reading) → AreReadings self.now.readers.items readings → result ≡ option_map (λ reading. reading.seat) (reading_on connection readings) }
+        ensures { (readings : List Reading) → AreReadings self.now.readers.items readings →
+            result ≡ option_map (λ reading. reading.seat) (reading_on connection readings) }
     {
         let index = (connection as usize).checked_sub(1)?;
         Some(self.readers.get(index)?.seat)

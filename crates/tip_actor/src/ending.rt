@@ -30,7 +30,10 @@ impl Actor<HeldParty> {
         printed: &mut String,
     ) -> Result<(), AllocError>
         requires { Always }
-        ensures { (acting : Acting) → IsActing (keeping S.stands S.is_true S.is_due) host.now place self.now acting → OnOk result (string_bytes printed.new ≡ string_bytes printed.old ++ (restarts acting).printed) }
+        ensures { (acting : Acting) →
+            IsActing (keeping S.stands S.is_true S.is_due) host.now place self.now acting →
+            OnOk result
+            (string_bytes printed.new ≡ string_bytes printed.old ++ (restarts acting).printed) }
     {
         let name = self.name.as_str();
         print_out(printed, name, &self.errands)?;
@@ -61,7 +64,8 @@ fn print_out(
     name: &str,
     errands: &VecDeque<HeldParty>,
 ) -> Result<(), AllocError>
-    ensures { OnOk result (string_bytes printed.new ≡ string_bytes printed.old ++ flat_map (λ party. shown_text name.now (drops_of party)) errands.now.items) }
+    ensures { OnOk result (string_bytes printed.new ≡ string_bytes printed.old
+        ++ flat_map (λ party. shown_text name.now (drops_of party)) errands.now.items) }
 {
     for party in errands.iter() {
         print_drops(printed, name, party)?;
@@ -77,7 +81,10 @@ pub fn print_here(
     place: usize,
 ) -> Result<(), AllocError>
     requires { Always }
-    ensures { (state : State) → realm_at core.now place ≡ Some state → OnOk result (string_bytes printed.new ≡ string_bytes printed.old ++ flat_map (λ transaction. shown_text name.now (drops_at transaction.place)) state.transactions) }
+    ensures { (state : State) → realm_at core.now place ≡ Some state →
+        OnOk result (string_bytes printed.new ≡ string_bytes printed.old ++ flat_map
+        (λ transaction. shown_text name.now (drops_at transaction.place))
+        state.transactions) }
 {
     for transaction in core.transactions(place) {
         if let PartyPlace::Here(party) = &transaction.place {

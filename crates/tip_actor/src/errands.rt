@@ -29,7 +29,11 @@ impl Actor<HeldParty> {
     ) -> Result<bool, ActFault>
         requires { Always }
         ensures truth { S.is_true host.new.store → S.is_true host.old.store }
-        ensures tells { (acting : Acting) → IsActing (keeping S.stands S.is_true S.is_due) host.old place self.old acting → IfOk result (λ told. Tells (keeping S.stands S.is_true S.is_due) host.old host.new place self.old self.new (string_bytes printed.old) (string_bytes printed.new) told (goes_for acting.world.errands acting)) }
+        ensures tells { (acting : Acting) →
+            IsActing (keeping S.stands S.is_true S.is_due) host.old place self.old acting →
+            IfOk result (λ told. Tells (keeping S.stands S.is_true S.is_due) host.old host.new place
+            self.old self.new (string_bytes printed.old) (string_bytes printed.new) told
+            (goes_for acting.world.errands acting)) }
     {
         let Some(party) = self.errands.pop_front() else {
             print_idle(printed, self.name.as_str())?;
@@ -50,7 +54,11 @@ impl Actor<HeldParty> {
         printed: &mut String,
     ) -> Result<(), AllocError>
         requires { Always }
-        ensures { (acting : Acting) → IsActing (keeping S.stands S.is_true S.is_due) host.now place self.old acting → OnOk result (IsDone (keeping S.stands S.is_true S.is_due) host.now host.now place self.old self.new (string_bytes printed.old) (string_bytes printed.new) (drops_from acting.world.errands acting)) }
+        ensures { (acting : Acting) →
+            IsActing (keeping S.stands S.is_true S.is_due) host.now place self.old acting →
+            OnOk result (IsDone (keeping S.stands S.is_true S.is_due) host.now host.now place
+            self.old self.new (string_bytes printed.old) (string_bytes printed.new)
+            (drops_from acting.world.errands acting)) }
     {
         match self.errands.pop_front() {
             Some(party) => print_drops(printed, self.name.as_str(), &party),
@@ -62,7 +70,8 @@ impl Actor<HeldParty> {
 /// A party as it comes back from its errand, where all that is answered is promised.
 #[tactic(auto, using(crate::proofs::Promised::foretelling))]
 fn foretold(party: HeldParty) -> Option<Event>
-    ensures { result ≡ (if are_foretold party then Some (event_of party (answers_of party)) else None) }
+    ensures { result
+        ≡ (if are_foretold party then Some (event_of party (answers_of party)) else None) }
 {
     if is_foretold(&party) {
         Some(done(party))

@@ -27,7 +27,9 @@ impl Actor<HeldParty> {
     ) -> Result<(), ActFault>
         requires { Always }
         ensures truth { S.is_true host.new.store → S.is_true host.old.store }
-        ensures acts { OnOk result (Acts (keeping S.stands S.is_true S.is_due) host.old host.new place self.old self.new (string_bytes printed.old) (string_bytes printed.new) (λ acting. takes (count_of acting.readings) acting)) }
+        ensures acts { OnOk result (Acts (keeping S.stands S.is_true S.is_due) host.old host.new
+            place self.old self.new (string_bytes printed.old) (string_bytes printed.new)
+            (λ acting. takes (count_of acting.readings) acting)) }
     {
         for _ in 0..u64::MAX {
             match self.next_line(alloc, &host.core, place)? {
@@ -47,7 +49,8 @@ impl Actor<HeldParty> {
         place: usize,
     ) -> Result<Option<Event>, AllocError>
         requires { Always }
-        ensures { (acting : Acting) → realm_at core.now place ≡ Some acting.world.state → IsActor self.old acting → IfOk result (Finds self.new acting) }
+        ensures { (acting : Acting) → realm_at core.now place ≡ Some acting.world.state →
+            IsActor self.old acting → IfOk result (Finds self.new acting) }
     {
         for index in 0..self.readers.len() {
             if let Some(event) = next_on(&mut self.readers[index], alloc, core, place)? {
@@ -65,7 +68,8 @@ fn next_on(
     core: &Core,
     place: usize,
 ) -> Result<Option<Event>, AllocError>
-    ensures { (state : State) (reading : Reading) → realm_at core.now place ≡ Some state → IsReading reader.old reading → IfOk result (GivesNext state reader.new reading) }
+    ensures { (state : State) (reading : Reading) → realm_at core.now place ≡ Some state →
+        IsReading reader.old reading → IfOk result (GivesNext state reader.new reading) }
 {
     let seat = reader.seat;
     if core.must_wait(place, seat) {

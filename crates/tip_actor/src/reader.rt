@@ -44,7 +44,8 @@ impl Reader {
     /// Octets come.
     pub fn feed(&mut self, alloc: Global, octets: Octets<'_>) -> Result<(), AllocError>
         ensures seat { self.new.seat ≡ self.old.seat }
-        ensures gives { OnOk result ((more : List ℕ) → gives self.new more ≡ gives self.old (octets_of octets.entry ++ more)) }
+        ensures gives { OnOk result ((more : List ℕ) →
+            gives self.new more ≡ gives self.old (octets_of octets.entry ++ more)) }
     {
         match &mut self.stream {
             Stream::Empty => {
@@ -87,7 +88,8 @@ impl Reader {
     /// The same, where the connection failed.
     pub fn restart_if(&mut self, failed: bool)
         ensures seat { self.new.seat ≡ self.old.seat }
-        ensures gives { (more : List ℕ) → gives self.new more ≡ (if failed then items_of more else gives self.old more) }
+        ensures gives { (more : List ℕ) →
+            gives self.new more ≡ (if failed then items_of more else gives self.old more) }
     {
         if failed {
             self.restart();

@@ -26,18 +26,23 @@ pub fn a_start_has_the_invariants()
 /// Each move of an honest run keeps the invariants: an event and whatever becomes of its change, a party that
 /// comes back as its branches can answer or is lost, a restart of the process and a renewal of the realm.
 pub fn each_move_keeps_the_invariants()
-    ensures { (move : Move) (world : World) → IsSound world → is_honest move world ≡ true → IsSound (moved move world).world }
+    ensures { (move : Move) (world : World) → IsSound world → is_honest move world ≡ true →
+        IsSound (moved move world).world }
 {}
 
 /// So the invariants hold wherever an honest run leads, from a world that has them and from a start.
 pub fn a_run_keeps_the_invariants()
-    ensures kept { (world : World) (moves : List Move) → IsSound world → is_run world moves ≡ true → IsSound (led_to world moves) }
-    ensures reached { (world : World) (moves : List Move) → IsStart world → is_run world moves ≡ true → IsSound (led_to world moves) }
+    ensures kept { (world : World) (moves : List Move) → IsSound world → is_run world moves ≡ true →
+        IsSound (led_to world moves) }
+    ensures reached { (world : World) (moves : List Move) → IsStart world →
+        is_run world moves ≡ true → IsSound (led_to world moves) }
 {}
 
 /// Whatever happens, the numbers of connections rise, and keys of transactions stay apart, each of them given.
 pub fn numbers_and_keys_are_kept()
-    ensures { (state : State) (event : Event) (outcome : Outcome) → are_numbered state ≡ true → are_keyed state ≡ true → (are_numbered (step state event outcome).state ≡ true) × (are_keyed (step state event outcome).state ≡ true) }
+    ensures { (state : State) (event : Event) (outcome : Outcome) → are_numbered state ≡ true →
+        are_keyed state ≡ true → (are_numbered (step state event outcome).state ≡ true)
+        × (are_keyed (step state event outcome).state ≡ true) }
 {}
 
 /// A realm that starts is true to its word: it has given none.
@@ -48,7 +53,8 @@ pub fn a_start_is_true_to_its_word()
 /// Each move of an honest run leaves a realm true to its word: what the branches of each transaction were told
 /// so far, and what a party that is out will tell them, fits what has become of the transaction.
 pub fn each_move_leaves_a_realm_true_to_its_word()
-    ensures { (move : Move) (world : World) (shown : List Output) → IsSound world → IsTrueTo shown world → is_honest move world ≡ true →
+    ensures { (move : Move) (world : World) (shown : List Output) → IsSound world →
+        IsTrueTo shown world → is_honest move world ≡ true →
         IsTrueTo (shown ++ (moved move world).shown) (moved move world).world }
 {}
 
@@ -56,20 +62,28 @@ pub fn each_move_leaves_a_realm_true_to_its_word()
 /// branch is told to abort, whatever the store answers and other managers say, over restarts and renewals,
 /// lost parties and lost connections.
 pub fn no_branch_commits_where_one_aborts()
-    ensures { (world : World) (moves : List Move) (id : List ℕ) → IsStart world → is_run world moves ≡ true → is_one world.state.head.name id (traced world moves) ≡ true }
+    ensures { (world : World) (moves : List Move) (id : List ℕ) → IsStart world →
+        is_run world moves ≡ true → is_one world.state.head.name id (traced world moves) ≡ true }
 {}
 
 /// A committed row stands, and a transaction is committed, only where that row was stored in the run, or stood at its start.
 pub fn a_committed_row_was_stored()
-    ensures row { (world : World) (moves : List Move) (key : Key) → IsStart world → is_run world moves ≡ true → is_spelled key ≡ true → has_committed_row key (led_to world moves) ≡ true →
-        was_committed world.state.head.name (identifier world.state.head.name key) world (shown_in (traced world moves)) ≡ true }
-    ensures phase { (world : World) (moves : List Move) (key : Key) (transaction : Transaction) → IsStart world → is_run world moves ≡ true → is_spelled key ≡ true →
-        transaction_of key (led_to world moves).state ≡ Some transaction → transaction.phase ≡ Committed →
-        was_committed world.state.head.name (identifier world.state.head.name key) world (shown_in (traced world moves)) ≡ true }
+    ensures row { (world : World) (moves : List Move) (key : Key) → IsStart world →
+        is_run world moves ≡ true → is_spelled key ≡ true →
+        has_committed_row key (led_to world moves) ≡ true →
+        was_committed world.state.head.name (identifier world.state.head.name key) world
+        (shown_in (traced world moves)) ≡ true }
+    ensures phase { (world : World) (moves : List Move) (key : Key) (transaction : Transaction) →
+        IsStart world → is_run world moves ≡ true → is_spelled key ≡ true →
+        transaction_of key (led_to world moves).state ≡ Some transaction →
+        transaction.phase ≡ Committed → was_committed world.state.head.name
+        (identifier world.state.head.name key) world (shown_in (traced world moves)) ≡ true }
 {}
 
 /// So agreement, the second of its sentences: in an honest run from a start a branch of a transaction is told to commit only once
 /// the committed row of the transaction was stored, in this event or before, or where that row stood at the start.
 pub fn a_commit_is_told_once_its_row_was_stored()
-    ensures { (world : World) (moves : List Move) (id : List ℕ) → IsStart world → is_run world moves ≡ true → at_each (is_backed world.state.head.name id world) (traced world moves) ≡ true }
+    ensures { (world : World) (moves : List Move) (id : List ℕ) → IsStart world →
+        is_run world moves ≡ true →
+        at_each (is_backed world.state.head.name id world) (traced world moves) ≡ true }
 {}

@@ -21,8 +21,10 @@ impl Fresh {
     /// The boxes as fresh ones, where all are active.
     pub fn of(boxes: Vec<Box<dyn Branch + Send>>) -> Result<Fresh, WrongPhase>
         requires { Always }
-        ensures active { MatchResult result (λ _. AreIn Active (map standing boxes.items)) (λ _. ¬ AreIn Active (map standing boxes.items)) }
-        ensures same { MatchResult result (λ fresh. fresh.boxes ≡ boxes) (λ fault. (fault.boxes ≡ boxes) × (fault.phase ≡ Active)) }
+        ensures active { MatchResult result (λ _. AreIn Active (map standing boxes.items))
+            (λ _. ¬ AreIn Active (map standing boxes.items)) }
+        ensures same { MatchResult result (λ fresh. fresh.boxes ≡ boxes)
+            (λ fault. (fault.boxes ≡ boxes) × (fault.phase ≡ Active)) }
     {
         if boxes::are_all_in(&boxes, Phase::Active) {
             Ok(Fresh { boxes })
@@ -39,7 +41,8 @@ impl Fresh {
         requires { Always }
         ensures phase { IfOk result (λ lot. lot.phase ≡ Active) }
         ensures same { IfOk result (λ lot. boxes_in lot ≡ self.boxes.items) }
-        ensures known { IfOk result (λ lot. badges lot ≡ badges_of (map standing self.boxes.items)) }
+        ensures known { IfOk result
+            (λ lot. badges lot ≡ badges_of (map standing self.boxes.items)) }
         ensures back { IfErr result (λ fault. fault.value ≡ self) }
     {
         match Lot::of(alloc, Phase::Active, self.into_boxes()) {

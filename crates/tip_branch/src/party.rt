@@ -52,7 +52,8 @@ impl Party {
     ) -> Party
         requires counted { vec_len numbers ≡ vec_len boxes }
         requires rising { IsTrue (are_numbers numbers.items) }
-        ensures noted { noted result ≡ new_party realm epoch id numbers.items (map standing boxes.items) }
+        ensures noted { noted result
+            ≡ new_party realm epoch id numbers.items (map standing boxes.items) }
         ensures own { accounts standing result ≡ map standing boxes.items }
         ensures agrees { IsTrueToBoxes standing result }
     {
@@ -70,9 +71,11 @@ impl Party {
     /// The party of a new transaction: the first branches of a lot, as many as there is room for.
     pub fn of_first(lot: &mut Lot, room: PartyRoom, realm: Realm, epoch: u32, id: Id) -> Party
         requires { room ≤ length (badges lot.old) }
-        ensures noted { noted result ≡ idle_party realm epoch id (fresh_members 1 (take room (badges lot.old))) }
+        ensures noted { noted result
+            ≡ idle_party realm epoch id (fresh_members 1 (take room (badges lot.old))) }
         ensures taken { boxes_of result ≡ take room (boxes_in lot.old) }
-        ensures agrees { IsTrueLot standing lot.old → lot.old.phase ≡ Active → IsTrueToBoxes standing result }
+        ensures agrees { IsTrueLot standing lot.old → lot.old.phase ≡ Active →
+            IsTrueToBoxes standing result }
         ensures known { badges lot.new ≡ drop room (badges lot.old) }
         ensures left { boxes_in lot.new ≡ drop room (boxes_in lot.old) }
         ensures phase { lot.new.phase ≡ lot.old.phase }
@@ -87,9 +90,11 @@ impl Party {
     pub fn of_ready(lot: Lot, realm: Realm, epoch: u32, id: Id, numbers: &[u8]) -> Party
         requires counted { length numbers.now ≡ length (badges lot) }
         requires rising { IsTrue (are_numbers numbers.now) }
-        ensures noted { noted result ≡ idle_party realm epoch id (ready_members numbers.now (badges lot)) }
+        ensures noted { noted result
+            ≡ idle_party realm epoch id (ready_members numbers.now (badges lot)) }
         ensures taken { boxes_of result ≡ boxes_in lot }
-        ensures agrees { IsTrueLot standing lot → lot.phase ≡ Ready → IsTrueToBoxes standing result }
+        ensures agrees { IsTrueLot standing lot → lot.phase ≡ Ready →
+            IsTrueToBoxes standing result }
     {
         let (roll, boxes) = lot.take_all(numbers);
         Party::with_roll(realm, epoch, id, roll, boxes)
@@ -168,7 +173,8 @@ impl Party {
         requires { (noted self.old).errand ≡ Errand.Vote }
         ensures told { ComesBack (noted self.old) (noted self.new) }
         ensures answer { Decides (ballots_of (noted self.new).members) (decided result) }
-        ensures own { IsTrueToBoxes standing self.old → AreCalledAsNoted standing self.old self.new }
+        ensures own { IsTrueToBoxes standing self.old →
+            AreCalledAsNoted standing self.old self.new }
         ensures agrees { IsTrueToBoxes standing self.old → IsTrueToBoxes standing self.new }
     {
         self.carry_out();
@@ -177,10 +183,12 @@ impl Party {
 
     /// Tells each ready member the outcome.
     pub fn settle(&mut self) -> Settled
-        requires { ((noted self.old).errand ≡ Errand.Commit) ⊎ ((noted self.old).errand ≡ Errand.Abort) }
+        requires { ((noted self.old).errand ≡ Errand.Commit) ⊎
+            ((noted self.old).errand ≡ Errand.Abort) }
         ensures told { ComesBack (noted self.old) (noted self.new) }
         ensures answer { result ≡ outcome (noted self.new).members }
-        ensures own { IsTrueToBoxes standing self.old → AreCalledAsNoted standing self.old self.new }
+        ensures own { IsTrueToBoxes standing self.old →
+            AreCalledAsNoted standing self.old self.new }
         ensures agrees { IsTrueToBoxes standing self.old → IsTrueToBoxes standing self.new }
     {
         self.carry_out();
@@ -195,7 +203,8 @@ impl Party {
     fn carry_out(&mut self)
         requires { (noted self.old).errand ≢ Errand.Idle }
         ensures told { ComesBack (noted self.old) (noted self.new) }
-        ensures own { IsTrueToBoxes standing self.old → AreCalledAsNoted standing self.old self.new }
+        ensures own { IsTrueToBoxes standing self.old →
+            AreCalledAsNoted standing self.old self.new }
         ensures agrees { IsTrueToBoxes standing self.old → IsTrueToBoxes standing self.new }
     {
         telling::tell_all(self.errand, &mut self.boxes, &mut self.roll);

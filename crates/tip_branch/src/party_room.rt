@@ -21,7 +21,8 @@ impl Model for PartyRoom {
 
     ghost view = { λ r. r.count };
 
-    ghost invariant = { λ r. (r.count ≤ 8) × (vec_len r.boxes ≡ 0) × (r.count ≤ vec_capacity r.boxes) };
+    ghost invariant = { λ r. (r.count ≤ 8) × (vec_len r.boxes ≡ 0)
+        × (r.count ≤ vec_capacity r.boxes) };
 }
 
 impl PartyRoom {

@@ -21,8 +21,10 @@ impl Prepared {
     /// The boxes as prepared ones, where all are ready.
     pub fn of(boxes: Vec<Box<dyn Branch + Send>>) -> Result<Prepared, WrongPhase>
         requires { Always }
-        ensures ready { MatchResult result (λ _. AreIn Ready (map standing boxes.items)) (λ _. ¬ AreIn Ready (map standing boxes.items)) }
-        ensures same { MatchResult result (λ prepared. prepared.boxes ≡ boxes) (λ fault. (fault.boxes ≡ boxes) × (fault.phase ≡ Ready)) }
+        ensures ready { MatchResult result (λ _. AreIn Ready (map standing boxes.items))
+            (λ _. ¬ AreIn Ready (map standing boxes.items)) }
+        ensures same { MatchResult result (λ prepared. prepared.boxes ≡ boxes)
+            (λ fault. (fault.boxes ≡ boxes) × (fault.phase ≡ Ready)) }
     {
         if boxes::are_all_in(&boxes, Phase::Ready) {
             Ok(Prepared { boxes })
@@ -39,7 +41,8 @@ impl Prepared {
         requires { Always }
         ensures phase { IfOk result (λ lot. lot.phase ≡ Ready) }
         ensures same { IfOk result (λ lot. boxes_in lot ≡ self.boxes.items) }
-        ensures known { IfOk result (λ lot. badges lot ≡ badges_of (map standing self.boxes.items)) }
+        ensures known { IfOk result
+            (λ lot. badges lot ≡ badges_of (map standing self.boxes.items)) }
         ensures back { IfErr result (λ fault. fault.value ≡ self) }
     {
         match Lot::of(alloc, Phase::Ready, self.into_boxes()) {

@@ -17,7 +17,8 @@ use crate::roll::Roll;
 fn ask(branch: &mut Box<dyn Branch + Send>, member: Member) -> Member
     requires { member.call ≡ None }
     ensures told { IsAsked member.standing.phase member result }
-    ensures own { StandsAs member (standing branch.old) → IsCalled result.call (standing branch.old) (standing branch.new) }
+    ensures own { StandsAs member (standing branch.old) →
+        IsCalled result.call (standing branch.old) (standing branch.new) }
     ensures stands { StandsAs member (standing branch.old) → StandsAs result (standing branch.new) }
 {
     if !member.is_active() {
@@ -35,7 +36,8 @@ fn ask(branch: &mut Box<dyn Branch + Send>, member: Member) -> Member
 fn commit(branch: &mut Box<dyn Branch + Send>, member: Member) -> Member
     requires { member.call ≡ None }
     ensures told { IsToldCommit member.standing.phase member result }
-    ensures own { StandsAs member (standing branch.old) → IsCalled result.call (standing branch.old) (standing branch.new) }
+    ensures own { StandsAs member (standing branch.old) →
+        IsCalled result.call (standing branch.old) (standing branch.new) }
     ensures stands { StandsAs member (standing branch.old) → StandsAs result (standing branch.new) }
 {
     if !member.is_ready() {
@@ -53,7 +55,8 @@ fn commit(branch: &mut Box<dyn Branch + Send>, member: Member) -> Member
 fn abort(branch: &mut Box<dyn Branch + Send>, member: Member) -> Member
     requires { member.call ≡ None }
     ensures told { IsToldAbort member.standing.phase member result }
-    ensures own { StandsAs member (standing branch.old) → IsCalled result.call (standing branch.old) (standing branch.new) }
+    ensures own { StandsAs member (standing branch.old) →
+        IsCalled result.call (standing branch.old) (standing branch.new) }
     ensures stands { StandsAs member (standing branch.old) → StandsAs result (standing branch.new) }
 {
     if !member.is_ready() {
@@ -69,7 +72,8 @@ fn abort(branch: &mut Box<dyn Branch + Send>, member: Member) -> Member
 fn tell(errand: Errand, branch: &mut Box<dyn Branch + Send>, member: Member) -> Member
     requires { member.call ≡ None }
     ensures told { IsTold errand member result }
-    ensures own { StandsAs member (standing branch.old) → IsCalled result.call (standing branch.old) (standing branch.new) }
+    ensures own { StandsAs member (standing branch.old) →
+        IsCalled result.call (standing branch.old) (standing branch.new) }
     ensures stands { StandsAs member (standing branch.old) → StandsAs result (standing branch.new) }
 {
     match errand {
@@ -85,8 +89,10 @@ pub(crate) fn tell_all(errand: Errand, boxes: &mut [Box<dyn Branch + Send>], rol
     requires counted { length boxes.old ≡ length roll.old }
     requires forgotten { All (λ m. m.call ≡ None) roll.old }
     ensures told { IsCarriedOut errand roll.old roll.new }
-    ensures own { Agrees roll.old (map standing boxes.old) → AreCalled roll.new (map standing boxes.old) (map standing boxes.new) }
-    ensures agrees { Agrees roll.old (map standing boxes.old) → Agrees roll.new (map standing boxes.new) }
+    ensures own { Agrees roll.old (map standing boxes.old) →
+        AreCalled roll.new (map standing boxes.old) (map standing boxes.new) }
+    ensures agrees { Agrees roll.old (map standing boxes.old) →
+        Agrees roll.new (map standing boxes.new) }
 {
     for i in 0..boxes.len() {
         let member = tell(errand, &mut boxes[i], roll.get(i));

@@ -21,18 +21,28 @@ use tip_rows::RowLog;
 /// interleaved, over restarts and renewals, what is called is a run of each realm's own machine, of which agreement holds, where the
 /// caller brings its parties back as their errands leave them.
 pub fn a_list_of_calls_is_each_realms_own_run<S: RowLog>()
-    ensures { (old new : Around S) (calls : List (ℕ → List Output)) (place : ℕ) (start : World) (moves : List Move) → IsStart start → is_run start moves ≡ true → HaveNames old.core → S.is_true new.store → IsHosted S.stands old place (led_to start moves) →
-        AreCalls S.stands S.may_leave S.is_true S.faults S.is_due old calls new → AreRun S.stands start moves (shown_of place calls) new place }
+    ensures { (old new : Around S) (calls : List (ℕ → List Output)) (place : ℕ) (start : World)
+        (moves : List Move) → IsStart start → is_run start moves ≡ true → HaveNames old.core →
+        S.is_true new.store → IsHosted S.stands old place (led_to start moves) →
+        AreCalls S.stands S.may_leave S.is_true S.faults S.is_due old calls new →
+        AreRun S.stands start moves (shown_of place calls) new place }
 {}
 
 /// A host that begins over a store has each of its realms where a run of its machine may begin: in the epoch after the stored one, with
 /// the stored rows, where these are as tipd writes them.
 pub fn a_host_that_begins_has_each_realm_at_its_start<S: RowLog>()
-    ensures { (specs : List RealmSpec) (store : S) (new : Around S) (log : Log) (place : ℕ) (spec : RealmSpec) (epoch : ℕ) (rows : List (Key × Row)) → IsBegun S.stands S.may_leave S.is_true S.faults S.is_due specs store new → S.is_true new.store → S.stands store log → slice_get specs place ≡ Some spec → IsPart log spec.name epoch rows → HasStarted S.stands spec epoch rows new place }
+    ensures { (specs : List RealmSpec) (store : S) (new : Around S) (log : Log) (place : ℕ)
+        (spec : RealmSpec) (epoch : ℕ) (rows : List (Key × Row)) →
+        IsBegun S.stands S.may_leave S.is_true S.faults S.is_due specs store new →
+        S.is_true new.store → S.stands store log → slice_get specs place ≡ Some spec →
+        IsPart log spec.name epoch rows → HasStarted S.stands spec epoch rows new place }
 {}
 
 /// Adoption, of one row or of all, leaves each row as it was read, with no boxes or one for each of its branches.
 pub fn boxes_are_given_one_for_each_branch()
-    ensures one { (id : List ℕ) (boxes : List Badge) (read rows : List Unfinished) → AreGiven read rows → refusal_of id boxes rows ≡ None → AreGiven read (changed (is_named id) (adopting boxes) rows) }
-    ensures all { (lots : List (List Badge)) (read rows : List Unfinished) → AreGiven read rows → are_for_all lots rows ≡ true → AreGiven read (adopted_all lots rows) }
+    ensures one { (id : List ℕ) (boxes : List Badge) (read rows : List Unfinished) →
+        AreGiven read rows → refusal_of id boxes rows ≡ None →
+        AreGiven read (changed (is_named id) (adopting boxes) rows) }
+    ensures all { (lots : List (List Badge)) (read rows : List Unfinished) → AreGiven read rows →
+        are_for_all lots rows ≡ true → AreGiven read (adopted_all lots rows) }
 {}

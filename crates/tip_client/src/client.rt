@@ -21,8 +21,10 @@ pub fn play_lines<R: Read, W: Write>(
     commands: &[Command],
 ) -> Result<Vec<Response>, ClientFault>
     requires { list_all has_response commands.now ≡ true }
-    ensures ok { IfOk result (λ heard. Completes commands.now heard.items (R.remaining reader.old) (W.contents writer.old) (W.contents writer.new)) }
-    ensures err { IfErr result (λ fault. Stops fault commands.now (R.remaining reader.old) (R.remaining reader.new) (W.contents writer.old) (W.contents writer.new)) }
+    ensures ok { IfOk result (λ heard. Completes commands.now heard.items (R.remaining reader.old)
+        (W.contents writer.old) (W.contents writer.new)) }
+    ensures err { IfErr result (λ fault. Stops fault commands.now (R.remaining reader.old)
+        (R.remaining reader.new) (W.contents writer.old) (W.contents writer.new)) }
 {
     let mut hearing = Hearing::new(alloc)?;
     let mut responses = Vec::with_capacity(alloc, commands.len())?;

@@ -38,7 +38,8 @@ impl Hearing {
         reader: &mut R,
         command: CommandName,
     ) -> Result<Response, ClientFault>
-        ensures { Hears command self.old.lines self.new.lines (R.remaining reader.old) (R.remaining reader.new) result }
+        ensures { Hears command self.old.lines self.new.lines (R.remaining reader.old)
+            (R.remaining reader.new) result }
     {
         'hearing: loop {
             match self.next(alloc, command)? {
@@ -63,7 +64,8 @@ impl Hearing {
     /// Reads once, where no line has come whole.
     fn read_more<R: Read>(&mut self, reader: &mut R) -> Result<(), ClientFault>
         requires { Reads self.old.lines [] }
-        ensures adds { Adds self.old.lines self.new.lines (R.remaining reader.old) (R.remaining reader.new) result }
+        ensures adds { Adds self.old.lines self.new.lines (R.remaining reader.old)
+            (R.remaining reader.new) result }
         ensures reads { OnOk result (self.new.reads_left < self.old.reads_left) }
     {
         if self.reads_left == 0 {

@@ -14,8 +14,10 @@ use tip_writing::write_front;
 /// Writes a command's line, and sees that it is out.
 #[tactic(auto, using(crate::proofs::Fronts::no_front, crate::proofs::Fronts::kept_front))]
 pub fn say<W: Write>(alloc: Global, writer: &mut W, command: &Command) -> Result<(), ClientFault>
-    ensures ok { OnOk result (Appends (W.contents writer.old) (W.contents writer.new) (line_of command.now)) }
-    ensures err { OnErr result (IsFrontOf (line_of command.now) (W.contents writer.old) (W.contents writer.new)) }
+    ensures ok { OnOk result
+        (Appends (W.contents writer.old) (W.contents writer.new) (line_of command.now)) }
+    ensures err { OnErr result
+        (IsFrontOf (line_of command.now) (W.contents writer.old) (W.contents writer.new)) }
     ensures fault { IfErr result (λ fault. (fault ≡ faults.Write) ⊎ (fault ≡ faults.Memory)) }
 {
     let line = format!(in alloc; "{command}\r\n")?;

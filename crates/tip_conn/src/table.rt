@@ -26,7 +26,8 @@ pub fn admit_named(state: State, side: Side, command: CommandName) -> Admit
 
 /// What a response makes of a connection; None where the command has no such response there.
 pub fn after(state: State, command: &Command, response: &Response) -> Option<(State, Turn)>
-    ensures { result ≡ next_of (commands.name_of command.now) state (responses.name_of response.now) }
+    ensures { result
+        ≡ next_of (commands.name_of command.now) state (responses.name_of response.now) }
 {
     after_named(state, command.name(), response.name())
 }

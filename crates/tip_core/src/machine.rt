@@ -49,9 +49,20 @@ impl Model for Core {
 
     ghost Value = { Hosted };
 
-    ghost view = { λ c. record { heads = c.realms.heads.items; connections = c.realms.connections; transactions = c.realms.transactions; turns = c.turns.capacity } };
+    ghost view = { λ c. record {
+      heads = c.realms.heads.items;
+      connections = c.realms.connections;
+      transactions = c.realms.transactions;
+      turns = c.turns.capacity;
+    } };
 
-    ghost invariant = { λ c. HaveCounts c.realms × HaveNames (record { heads = c.realms.heads.items; connections = c.realms.connections; transactions = c.realms.transactions; turns = c.turns.capacity }) };
+    ghost invariant = { λ c. HaveCounts c.realms × HaveNames (record {
+      heads = c.realms.heads.items;
+      connections = c.realms.connections;
+      transactions = c.realms.transactions;
+      turns
+          = c.turns.capacity;
+    }) };
 }
 
 impl Core {
@@ -69,7 +80,8 @@ impl Core {
     /// These realms start, in place of those that were.
     pub fn start(self, alloc: Global, starts: Starts) -> Result<Core, AllocError>
         requires { Always }
-        ensures realms { IfOk result (λ core. (place : ℕ) → realm_at core place ≡ option_map (λ start. started (starting start)) (slice_get starts place)) }
+        ensures realms { IfOk result (λ core. (place : ℕ) → realm_at core place
+            ≡ option_map (λ start. started (starting start)) (slice_get starts place)) }
         ensures named { IfOk result HaveNames }
     {
         Ok(Core {
@@ -92,9 +104,13 @@ impl Core {
     pub fn take_up(&mut self, realm: usize, recovery: Recovery)
         requires room { length recovery.rows ≤ self.old.transactions.free }
         requires adopted { are_adopted recovery.rows ≡ true }
-        ensures own { (state : State) → realm_at self.old realm ≡ Some state → IsOf recovery state.head → realm_at self.new realm ≡ Some (taking_up recovery.rows state) }
-        ensures others { (other : ℕ) → other ≢ realm → realm_at self.new other ≡ realm_at self.old other }
-        ensures room { self.new.transactions.free + length recovery.rows ≡ self.old.transactions.free }
+        ensures own { (state : State) → realm_at self.old realm ≡ Some state →
+            IsOf recovery state.head →
+            realm_at self.new realm ≡ Some (taking_up recovery.rows state) }
+        ensures others { (other : ℕ) → other ≢ realm →
+            realm_at self.new other ≡ realm_at self.old other }
+        ensures room { self.new.transactions.free
+            + length recovery.rows ≡ self.old.transactions.free }
         ensures named { HaveNames self.new }
     {
         let epoch = recovery.epoch();
@@ -122,13 +138,20 @@ impl Core {
     /// A realm starts again in its next epoch, by these rows, and what it had leaves. It takes no memory.
     pub fn renew(&mut self, realm: usize, recovery: Recovery, room: Parting) -> Left
         requires always { Always }
-        requires here { (state : State) × (realm_at self.old realm ≡ Some state) × (state.head.epoch < last_epoch) }
-        requires room { HasRoom self.old.connections self.old.transactions realm (length recovery.rows) room }
+        requires here { (state : State) × (realm_at self.old realm ≡ Some state)
+            × (state.head.epoch < last_epoch) }
+        requires room { HasRoom self.old.connections self.old.transactions realm
+            (length recovery.rows) room }
         requires adopted { are_adopted recovery.rows ≡ true }
-        ensures own { (state : State) → realm_at self.old realm ≡ Some state → IsOf recovery (risen state.head) → realm_at self.new realm ≡ Some (restarted (risen state.head) (map loaded recovery.rows)) }
-        ensures others { (other : ℕ) → other ≢ realm → realm_at self.new other ≡ realm_at self.old other }
-        ensures connections { (state : State) → realm_at self.old realm ≡ Some state → result.connections.items ≡ state.connections }
-        ensures transactions { (state : State) → realm_at self.old realm ≡ Some state → map seen result.transactions.items ≡ state.transactions }
+        ensures own { (state : State) → realm_at self.old realm ≡ Some state →
+            IsOf recovery (risen state.head) → realm_at self.new realm
+            ≡ Some (restarted (risen state.head) (map loaded recovery.rows)) }
+        ensures others { (other : ℕ) → other ≢ realm →
+            realm_at self.new other ≡ realm_at self.old other }
+        ensures connections { (state : State) → realm_at self.old realm ≡ Some state →
+            result.connections.items ≡ state.connections }
+        ensures transactions { (state : State) → realm_at self.old realm ≡ Some state →
+            map seen result.transactions.items ≡ state.transactions }
         ensures named { HaveNames self.new }
     {
         renew(&mut self.realms, realm, recovery, room)
@@ -179,7 +202,8 @@ impl Core {
 
     /// The name of a realm.
     pub fn name(&self, realm: usize) -> Option<&Realm>
-        ensures { option_map (λ name. name.now) result ≡ option_map (λ state. state.head.name) (realm_at self.now realm) }
+        ensures { option_map (λ name. name.now) result
+            ≡ option_map (λ state. state.head.name) (realm_at self.now realm) }
     {
         Some(&self.realms.heads.get(realm)?.name)
     }
@@ -187,7 +211,8 @@ impl Core {
     /// What is known of each realm, in the order of declaration.
     pub fn heads(&self) -> &[Head]
         requires { Always }
-        ensures { (place : ℕ) → slice_get result.now place ≡ option_map (λ state. state.head) (realm_at self.now place) }
+        ensures { (place : ℕ) → slice_get result.now place
+            ≡ option_map (λ state. state.head) (realm_at self.now place) }
     {
         &self.realms.heads
     }
@@ -195,7 +220,8 @@ impl Core {
     /// The transactions of a realm, in the order made.
     pub fn transactions(&self, realm: usize) -> Items<'_, Transaction>
         requires { Always }
-        ensures { (state : State) → realm_at self.now realm ≡ Some state → map seen result ≡ state.transactions }
+        ensures { (state : State) → realm_at self.now realm ≡ Some state →
+            map seen result ≡ state.transactions }
     {
         self.realms.transactions.items(realm)
     }
@@ -218,7 +244,8 @@ impl Core {
     /// Events of all realms, one after another; no rows are stored. Each realm answers as if it were alone.
     pub fn run(&mut self, alloc: Global, events: Vec<InRealm<Event>>) -> Run
         requires { Always }
-        ensures isolated { IsIsolated self.old (take (length result.answers.items) events.items) result.answers.items self.new }
+        ensures isolated { IsIsolated self.old (take (length result.answers.items) events.items)
+            result.answers.items self.new }
         ensures all { IsOk result.end → length result.answers.items ≡ length events.items }
     {
         let mut answers = Vec::new(alloc);
@@ -234,7 +261,8 @@ impl Core {
         answers: &mut Vec<InRealm<Answer>>,
     ) -> Result<(), AllocError>
         requires { answers.old.items ≡ [] }
-        ensures isolated { IsIsolated self.old (take (length answers.new.items) events.items) answers.new.items self.new }
+        ensures isolated { IsIsolated self.old (take (length answers.new.items) events.items)
+            answers.new.items self.new }
         ensures all { OnOk result (length answers.new.items ≡ length events.items) }
     {
         for event in events {

@@ -19,8 +19,11 @@ pub fn reopen_all(
 )
     requires room { length rows.items ≤ transactions.old.free }
     requires adopted { are_adopted rows.items ≡ true }
-    ensures own { (head : Head) → AreOf head.name rows.items → head.epoch ≡ epoch → map seen (of transactions.new realm) ≡ map seen (of transactions.old realm) ++ reopened_all head rows.items }
-    ensures others { (other : ℕ) → other ≢ realm → of transactions.new other ≡ of transactions.old other }
+    ensures own { (head : Head) → AreOf head.name rows.items → head.epoch ≡ epoch →
+        map seen (of transactions.new realm)
+        ≡ map seen (of transactions.old realm) ++ reopened_all head rows.items }
+    ensures others { (other : ℕ) → other ≢ realm →
+        of transactions.new other ≡ of transactions.old other }
     ensures room { transactions.new.free + length rows.items ≡ transactions.old.free }
 {
     for row in rows {

@@ -59,15 +59,20 @@ pub fn room_to_renew(
 pub fn renew(realms: &mut Realms, realm: usize, recovery: Recovery, room: Parting) -> Left
     requires here { realm < length realms.old.heads.items }
     requires epoch { (state_in realm realms.old).head.epoch < last_epoch }
-    requires room { HasRoom realms.old.connections realms.old.transactions realm (length recovery.rows) room }
+    requires room { HasRoom realms.old.connections realms.old.transactions realm
+        (length recovery.rows) room }
     requires adopted { are_adopted recovery.rows ≡ true }
-    ensures own { IsOf recovery (risen (state_in realm realms.old).head) → state_in realm realms.new ≡ restarted (risen (state_in realm realms.old).head) (map loaded recovery.rows) }
+    ensures own { IsOf recovery (risen (state_in realm realms.old).head) →
+        state_in realm realms.new
+        ≡ restarted (risen (state_in realm realms.old).head) (map loaded recovery.rows) }
     ensures head { (state_in realm realms.new).head ≡ risen (state_in realm realms.old).head }
     ensures none { of realms.new.connections realm ≡ [] }
-    ensures others { (other : ℕ) → other ≢ realm → state_in other realms.new ≡ state_in other realms.old }
+    ensures others { (other : ℕ) → other ≢ realm →
+        state_in other realms.new ≡ state_in other realms.old }
     ensures count { length realms.new.heads.items ≡ length realms.old.heads.items }
     ensures connections { result.connections.items ≡ of realms.old.connections realm }
-    ensures transactions { map seen result.transactions.items ≡ (state_in realm realms.old).transactions }
+    ensures transactions { map seen result.transactions.items
+        ≡ (state_in realm realms.old).transactions }
 {
     let left = clear(realms, realm, room);
     let epoch = recovery.epoch();
@@ -79,15 +84,19 @@ pub fn renew(realms: &mut Realms, realm: usize, recovery: Recovery, room: Partin
 fn clear(realms: &mut Realms, realm: usize, room: Parting) -> Left
     requires here { realm < length realms.old.heads.items }
     requires epoch { (state_in realm realms.old).head.epoch < last_epoch }
-    requires room { (rows : ℕ) × HasRoom realms.old.connections realms.old.transactions realm rows room }
+    requires room { (rows : ℕ)
+        × HasRoom realms.old.connections realms.old.transactions realm rows room }
     ensures own { state_in realm realms.new ≡ started (risen (state_in realm realms.old).head) }
     ensures none { of realms.new.connections realm ≡ [] }
     ensures no_transactions { of realms.new.transactions realm ≡ [] }
-    ensures others { (other : ℕ) → other ≢ realm → state_in other realms.new ≡ state_in other realms.old }
+    ensures others { (other : ℕ) → other ≢ realm →
+        state_in other realms.new ≡ state_in other realms.old }
     ensures count { length realms.new.heads.items ≡ length realms.old.heads.items }
     ensures connections { result.connections.items ≡ of realms.old.connections realm }
     ensures transactions { result.transactions.items ≡ of realms.old.transactions realm }
-    ensures room { (rows : ℕ) → HasRoom realms.old.connections realms.old.transactions realm rows room → rows ≤ realms.new.transactions.free }
+    ensures room { (rows : ℕ) →
+        HasRoom realms.old.connections realms.old.transactions realm rows room →
+        rows ≤ realms.new.transactions.free }
 {
     let Parting {
         connections,

@@ -53,8 +53,12 @@ impl Batch {
 
 /// Where the first stands that goes out on this connection.
 fn place_of(lines: &[Sent], connection: u32) -> Option<usize>
-    ensures none { IfNone result ((find (is_for connection) lines.now ≡ None) × (without (is_for connection) lines.now ≡ lines.now)) }
-    ensures some { IfSome result (λ place. (find (is_for connection) lines.now ≡ slice_get lines.now place) × (remove lines.now place ≡ without (is_for connection) lines.now) × (place < length lines.now)) }
+    ensures none { IfNone result ((find (is_for connection) lines.now ≡ None)
+        × (without (is_for connection) lines.now ≡ lines.now)) }
+    ensures some { IfSome result (λ place. (find (is_for connection) lines.now
+        ≡ slice_get lines.now place)
+        × (remove lines.now place ≡ without (is_for connection) lines.now)
+        × (place < length lines.now)) }
 {
     position(lines, connection)
 }

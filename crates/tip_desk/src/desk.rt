@@ -71,13 +71,16 @@ impl<S: RowLog + Drop> Desk<S> {
     ) -> Result<Desk<S>, (OpenFault, Recovering<S>)>
         requires { Always }
         ensures store { IfOk result (λ desk. desk.host.store ≡ recovering.store) }
-        ensures realms { IfOk result (λ desk. (place : ℕ) → realm_at desk.host.core place ≡ recovered (slice_get recovering.realms place) (realm_at recovering.core place)) }
+        ensures realms { IfOk result (λ desk. (place : ℕ) → realm_at desk.host.core place ≡
+            recovered (slice_get recovering.realms place)
+            (realm_at recovering.core place)) }
         ensures names { IfOk result (λ desk. HaveNames desk.host.core) }
         ensures running { IfOk result (λ desk. desk.host.is_stopped ≡ false) }
         ensures journals { IfOk result (λ desk. desk.journals ≡ map opened recovering.realms) }
         ensures lines { IfOk result (λ desk. (place : ℕ) → waiting desk.outboxes place ≡ []) }
         ensures adopted { OnOk result (all_adopted recovering.realms ≡ true) }
-        ensures unadopted { IfErr result (λ fault. fault.0 ≡ Unadopted → all_adopted recovering.realms ≡ false) }
+        ensures unadopted { IfErr result
+            (λ fault. fault.0 ≡ Unadopted → all_adopted recovering.realms ≡ false) }
         ensures back { IfErr result (λ fault. fault.1 ≡ recovering) }
     {
         let Ok(journals) = open_all(alloc, recovering.realms()) else {
@@ -110,13 +113,15 @@ impl<S: RowLog + Drop> Desk<S> {
         event: Event,
     ) -> Result<Reply, (HostFault, Event)>
         requires { Always }
-        ensures serves { IfOk result (λ reply. Serves S.stands S.may_leave S.is_true S.faults S.is_due self.old self.new pass.old.noted pass.new.noted realm event reply) }
+        ensures serves { IfOk result (λ reply. Serves S.stands S.may_leave S.is_true S.faults
+            S.is_due self.old self.new pass.old.noted pass.new.noted realm event reply) }
         ensures stays { OnErr result (Stays self.old self.new) }
         ensures pass { OnErr result (pass.new.noted ≡ pass.old.noted) }
         ensures back { IfErr result (λ fault. fault.1 ≡ event) }
         ensures stopped { self.new.host.is_stopped ≡ self.old.host.is_stopped }
         ensures running { OnOk result (self.old.host.is_stopped ≡ false) }
-        ensures stopping { IfErr result (λ fault. (fault.0 ≡ Stopped) ↔ (self.old.host.is_stopped ≡ true)) }
+        ensures stopping { IfErr result
+            (λ fault. (fault.0 ≡ Stopped) ↔ (self.old.host.is_stopped ≡ true)) }
     {
         if self.host.is_stopped {
             return Err((HostFault::Stopped, event));
@@ -150,9 +155,14 @@ impl<S: RowLog + Drop> Desk<S> {
 
     /// The oldest line or closing that waits for a connection is taken out. None waits for a connection of an earlier start.
     pub fn take_out(&mut self, realm: usize, seat: Seat) -> Option<Sent>
-        ensures taken { result ≡ (if is_now seat (realm_at self.old.host.core realm) then find (is_for seat.number) (waiting self.old.outboxes realm) else None) }
-        ensures left { waiting self.new.outboxes realm ≡ (if is_now seat (realm_at self.old.host.core realm) then without (is_for seat.number) (waiting self.old.outboxes realm) else waiting self.old.outboxes realm) }
-        ensures others { (other : ℕ) → other ≢ realm → waiting self.new.outboxes other ≡ waiting self.old.outboxes other }
+        ensures taken { result ≡ (if is_now seat (realm_at self.old.host.core realm)
+            then find (is_for seat.number) (waiting self.old.outboxes realm) else None) }
+        ensures left { waiting self.new.outboxes realm ≡ (if is_now seat
+            (realm_at self.old.host.core realm)
+            then without (is_for seat.number) (waiting self.old.outboxes realm)
+            else waiting self.old.outboxes realm) }
+        ensures others { (other : ℕ) → other ≢ realm →
+            waiting self.new.outboxes other ≡ waiting self.old.outboxes other }
         ensures rest { self.new ≡ record self.old { outboxes = self.new.outboxes } }
     {
         if self.epoch(realm) != Some(seat.epoch) {
@@ -170,7 +180,8 @@ impl<S: RowLog + Drop> Desk<S> {
 
     /// The epoch of a realm; None where it is not hosted.
     pub fn epoch(&self, realm: usize) -> Option<u32>
-        ensures { result ≡ option_map (λ state. state.head.epoch) (realm_at self.now.host.core realm) }
+        ensures { result
+            ≡ option_map (λ state. state.head.epoch) (realm_at self.now.host.core realm) }
     {
         Some(self.host.core.heads().get(realm)?.epoch)
     }
@@ -187,7 +198,8 @@ impl<S: RowLog + Drop> Desk<S> {
     pub fn audit(&self, alloc: Global, passes: &[Pass<Entry>]) -> Result<Vec<Reported>, AuditFault>
         ensures audited { OnOk result (AreAudited self.now.journals passes.now) }
         ensures report { IfOk result (λ report. report.items ≡ report_of self.now.journals) }
-        ensures mismatch { result ≡ Err AuditFault.PassMismatch → ¬ AreAudited self.now.journals passes.now }
+        ensures mismatch { result ≡ Err AuditFault.PassMismatch →
+            ¬ AreAudited self.now.journals passes.now }
     {
         audit(alloc, &self.journals, passes)
     }
@@ -220,8 +232,10 @@ fn ready(
     realm: usize,
     event: &Event,
 ) -> Result<Option<Noting>, AllocError>
-    requires here { (state : State) → realm_at core.now realm ≡ Some state → realm < length journals.old }
-    ensures ready { IfOk result (IsReadyFor event.now (realm_at core.now realm) journals.new pass.new realm) }
+    requires here { (state : State) → realm_at core.now realm ≡ Some state →
+        realm < length journals.old }
+    ensures ready { IfOk result
+        (IsReadyFor event.now (realm_at core.now realm) journals.new pass.new realm) }
     ensures space { OnOk result (0 < outboxes.new.free) }
     ensures lines { (place : ℕ) → of outboxes.new place ≡ of outboxes.old place }
     ensures journals { bare journals.new ≡ bare journals.old }
@@ -247,9 +261,14 @@ fn finish(
     ensures is { IsOf result happened.answer }
     ensures change { result.change ≡ happened.change }
     ensures outcome { result.outcome ≡ happened.outcome }
-    ensures lines { waiting outboxes.new realm ≡ waiting outboxes.old realm ++ happened.answer.sent }
-    ensures others { (other : ℕ) → other ≢ realm → waiting outboxes.new other ≡ waiting outboxes.old other }
-    ensures enters { (event : AnEvent) → AreOf event noting → Enters (is_some noting) (bare journals.old) (bare journals.new) pass.old.noted pass.new.noted realm (record { event = event; outcome = happened.outcome }) result.entry }
+    ensures lines { waiting outboxes.new realm
+        ≡ waiting outboxes.old realm ++ happened.answer.sent }
+    ensures others { (other : ℕ) → other ≢ realm →
+        waiting outboxes.new other ≡ waiting outboxes.old other }
+    ensures enters { (event : AnEvent) → AreOf event noting →
+        Enters (is_some noting) (bare journals.old) (bare journals.new) pass.old.noted
+        pass.new.noted realm (record { event = event; outcome = happened.outcome })
+        result.entry }
 {
     let entry = enter(journals, pass, realm, noting, happened.outcome);
     let (reply, lines) = Reply::of(happened, entry);

@@ -19,8 +19,10 @@ impl<S: RowLog + Drop> Desk<S> {
     /// branches would be rolled back. None of a realm that is not there.
     pub fn drops(&self, alloc: Global, realm: usize) -> Result<Vec<PartyNote>, AllocError>
         requires { Always }
-        ensures here { (state : State) → realm_at self.now.host.core realm ≡ Some state → IfOk result (λ notes. flat_map drops_of notes.items ≡ drops_here state) }
-        ensures nowhere { realm_at self.now.host.core realm ≡ None → IfOk result (λ notes. notes.items ≡ []) }
+        ensures here { (state : State) → realm_at self.now.host.core realm ≡ Some state →
+            IfOk result (λ notes. flat_map drops_of notes.items ≡ drops_here state) }
+        ensures nowhere { realm_at self.now.host.core realm ≡ None →
+            IfOk result (λ notes. notes.items ≡ []) }
     {
         match self.epoch(realm) {
             Some(_) => notes_here(alloc, &self.host.core, realm),
@@ -31,7 +33,8 @@ impl<S: RowLog + Drop> Desk<S> {
 
 /// What is noted of the parties that a realm has and that are not out.
 fn notes_here(alloc: Global, core: &Core, realm: usize) -> Result<Vec<PartyNote>, AllocError>
-    ensures { (state : State) → realm_at core.now realm ≡ Some state → IfOk result (λ notes. flat_map drops_of notes.items ≡ drops_here state) }
+    ensures { (state : State) → realm_at core.now realm ≡ Some state →
+        IfOk result (λ notes. flat_map drops_of notes.items ≡ drops_here state) }
 {
     let mut notes = Vec::new(alloc);
     for transaction in core.transactions(realm) {

@@ -34,11 +34,14 @@ pub(crate) fn prepare(
     realm: usize,
     event: &Event,
 ) -> Result<Option<Noting>, AllocError>
-    requires here { (state : State) → realm_at core.now realm ≡ Some state → realm < length journals.old }
+    requires here { (state : State) → realm_at core.now realm ≡ Some state →
+        realm < length journals.old }
     ensures takes { IfOk result (λ noting. is_some noting ≡ takes_entry (realm_at core.now realm)) }
     ensures of { IfOk result (AreOf event.now) }
-    ensures room { IfOk result (λ noting. is_some noting ≡ true → (0 < room journals.new realm) × (0 < pass.new.free)) }
-    ensures few { IfOk result (λ noting. is_some noting ≡ true → (state : State) → realm_at core.now realm ≡ Some state → state.head.entries + 1 < 2 ^ 32) }
+    ensures room { IfOk result
+        (λ noting. is_some noting ≡ true → (0 < room journals.new realm) × (0 < pass.new.free)) }
+    ensures few { IfOk result (λ noting. is_some noting ≡ true → (state : State) →
+        realm_at core.now realm ≡ Some state → state.head.entries + 1 < 2 ^ 32) }
     ensures journals { bare journals.new ≡ bare journals.old }
     ensures pass { pass.new.noted ≡ pass.old.noted }
 {
@@ -87,15 +90,18 @@ fn reserve(journals: &mut Journals<Opening, Entry>, realm: usize) -> Result<(), 
 /// Whether an event of a realm takes an entry.
 pub(crate) fn takes_entry(core: &Core, realm: usize) -> bool
     ensures takes { result ≡ takes_entry (realm_at core.now realm) }
-    ensures few { result ≡ true → (state : State) → realm_at core.now realm ≡ Some state → state.head.entries + 1 < 2 ^ 32 }
+    ensures few { result ≡ true → (state : State) → realm_at core.now realm ≡ Some state →
+        state.head.entries + 1 < 2 ^ 32 }
 {
     has_room(core.heads(), realm)
 }
 
 /// Whether a realm may have a further entry.
 fn has_room(heads: &[Head], realm: usize) -> bool
-    ensures takes { result ≡ option_map_or (λ head. nat_lt head.entries head.limits.entries) (slice_get heads.now realm) false }
-    ensures few { result ≡ true → IfSome (slice_get heads.now realm) (λ head. head.entries + 1 < 2 ^ 32) }
+    ensures takes { result ≡ option_map_or (λ head. nat_lt head.entries head.limits.entries)
+        (slice_get heads.now realm) false }
+    ensures few { result ≡ true →
+        IfSome (slice_get heads.now realm) (λ head. head.entries + 1 < 2 ^ 32) }
 {
     match heads.get(realm) {
         Some(head) => head.entries < most_entries(head),
@@ -119,7 +125,9 @@ pub(crate) fn enter(
 ) -> Option<u32>
     requires room { is_some noting ≡ true → (0 < room journals.old realm) × (0 < pass.old.free) }
     requires few { is_some noting ≡ true → last_number journals.old realm + 1 < 2 ^ 32 }
-    ensures { (event : AnEvent) → AreOf event noting → Enters (is_some noting) (bare journals.old) (bare journals.new) pass.old.noted pass.new.noted realm (record { event = event; outcome = outcome }) result }
+    ensures { (event : AnEvent) → AreOf event noting →
+        Enters (is_some noting) (bare journals.old) (bare journals.new) pass.old.noted
+        pass.new.noted realm (record { event = event; outcome = outcome }) result }
 {
     let noting = noting?;
     let epoch = epoch_of(journals, realm);

@@ -15,7 +15,8 @@ use tip_table::Table;
 pub(crate) fn send(outboxes: &mut Table<Batch>, realm: usize, lines: SentLines)
     requires { 0 < outboxes.old.free }
     ensures own { waiting outboxes.new realm ≡ waiting outboxes.old realm ++ lines }
-    ensures others { (other : ℕ) → other ≢ realm → waiting outboxes.new other ≡ waiting outboxes.old other }
+    ensures others { (other : ℕ) → other ≢ realm →
+        waiting outboxes.new other ≡ waiting outboxes.old other }
 {
     let batch = Batch::of(lines);
     if batch.len() > 0 {
@@ -26,8 +27,10 @@ pub(crate) fn send(outboxes: &mut Table<Batch>, realm: usize, lines: SentLines)
 /// The first that waits for a connection of a realm is taken out.
 pub(crate) fn take(outboxes: &mut Table<Batch>, realm: usize, connection: u32) -> Option<Sent>
     ensures taken { result ≡ find (is_for connection) (waiting outboxes.old realm) }
-    ensures left { waiting outboxes.new realm ≡ without (is_for connection) (waiting outboxes.old realm) }
-    ensures others { (other : ℕ) → other ≢ realm → waiting outboxes.new other ≡ waiting outboxes.old other }
+    ensures left { waiting outboxes.new realm
+        ≡ without (is_for connection) (waiting outboxes.old realm) }
+    ensures others { (other : ℕ) → other ≢ realm →
+        waiting outboxes.new other ≡ waiting outboxes.old other }
 {
     match outboxes.find(realm, &WaitsFor { connection }) {
         Some(place) => take_at(outboxes, realm, connection, place),
@@ -39,8 +42,10 @@ pub(crate) fn take(outboxes: &mut Table<Batch>, realm: usize, connection: u32) -
 fn take_at(outboxes: &mut Table<Batch>, realm: usize, connection: u32, place: usize) -> Option<Sent>
     requires { StandsAt outboxes.old realm (list_any (is_for connection)) place }
     ensures taken { result ≡ find (is_for connection) (waiting outboxes.old realm) }
-    ensures left { waiting outboxes.new realm ≡ without (is_for connection) (waiting outboxes.old realm) }
-    ensures others { (other : ℕ) → other ≢ realm → waiting outboxes.new other ≡ waiting outboxes.old other }
+    ensures left { waiting outboxes.new realm
+        ≡ without (is_for connection) (waiting outboxes.old realm) }
+    ensures others { (other : ℕ) → other ≢ realm →
+        waiting outboxes.new other ≡ waiting outboxes.old other }
 {
     if len_at(outboxes, realm, connection, place) > 1 {
         return take_one(outboxes, realm, connection, place);
@@ -53,7 +58,9 @@ fn take_at(outboxes: &mut Table<Batch>, realm: usize, connection: u32, place: us
 #[tactic(auto, using(tip_table::proofs::Standing::standing))]
 fn len_at(outboxes: &Table<Batch>, realm: usize, connection: u32, place: usize) -> usize
     requires { StandsAt outboxes.now realm (list_any (is_for connection)) place }
-    ensures { (batch : List ASent) → find (list_any (is_for connection)) (of outboxes.now realm) ≡ Some batch → result ≡ length batch }
+    ensures { (batch : List ASent) →
+        find (list_any (is_for connection)) (of outboxes.now realm) ≡ Some batch →
+        result ≡ length batch }
 {
     outboxes.item(place).len()
 }
@@ -67,8 +74,11 @@ fn take_one(
     place: usize,
 ) -> Option<Sent>
     requires { StandsAt outboxes.old realm (list_any (is_for connection)) place }
-    ensures taken { (batch : List ASent) → find (list_any (is_for connection)) (of outboxes.old realm) ≡ Some batch → result ≡ find (is_for connection) batch }
-    ensures left { of outboxes.new realm ≡ changed (list_any (is_for connection)) (without (is_for connection)) (of outboxes.old realm) }
+    ensures taken { (batch : List ASent) →
+        find (list_any (is_for connection)) (of outboxes.old realm) ≡ Some batch →
+        result ≡ find (is_for connection) batch }
+    ensures left { of outboxes.new realm ≡ changed (list_any (is_for connection))
+        (without (is_for connection)) (of outboxes.old realm) }
     ensures others { (other : ℕ) → other ≢ realm → of outboxes.new other ≡ of outboxes.old other }
 {
     let batch = outboxes.item_mut(place);
@@ -80,7 +90,8 @@ fn take_one(
 fn take_whole(outboxes: &mut Table<Batch>, realm: usize, connection: u32, place: usize) -> Batch
     requires { StandsAt outboxes.old realm (list_any (is_for connection)) place }
     ensures taken { Some result ≡ find (list_any (is_for connection)) (of outboxes.old realm) }
-    ensures left { of outboxes.new realm ≡ without (list_any (is_for connection)) (of outboxes.old realm) }
+    ensures left { of outboxes.new realm
+        ≡ without (list_any (is_for connection)) (of outboxes.old realm) }
     ensures others { (other : ℕ) → other ≢ realm → of outboxes.new other ≡ of outboxes.old other }
 {
     outboxes.remove(place)

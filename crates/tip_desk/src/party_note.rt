@@ -21,7 +21,13 @@ impl Model for PartyNote {
 
     ghost Value = { PartyNotes };
 
-    ghost view = { λ p. record { realm = p.realm; epoch = p.epoch; id = p.id; errand = p.errand; members = p.members.items } };
+    ghost view = { λ p. record {
+      realm = p.realm;
+      epoch = p.epoch;
+      id = p.id;
+      errand = p.errand;
+      members = p.members.items;
+    } };
 }
 
 impl PartyNote {

@@ -43,12 +43,20 @@ impl<S: RowLog + Drop> Desk<S> {
     /// Memory; all stays but the store's count of faults.
     pub fn doubts(&mut self, alloc: Global, realm: usize) -> Result<Recovery, RenewFault>
         requires { Always }
-        ensures store { Goes S.stands S.may_leave S.is_true S.faults S.is_due (was_refused (λ fault. fault) result) ReadsAlone Never self.old.host.store self.new.host.store }
-        ensures rest { self.new ≡ record self.old { host = record self.old.host { store = self.new.host.store } } }
+        ensures store { Goes S.stands S.may_leave S.is_true S.faults S.is_due
+            (was_refused (λ fault. fault) result) ReadsAlone Never self.old.host.store
+            self.new.host.store }
+        ensures rest { self.new
+            ≡ record self.old { host = record self.old.host { store = self.new.host.store } } }
         ensures here { OnOk result (realm_at self.old.host.core realm ≢ None) }
-        ensures absent { realm_at self.old.host.core realm ≡ None → result ≡ Err RenewFault.NoRealm }
-        ensures read { (log : Log) (state : State) → S.stands self.old.host.store log → realm_at self.old.host.core realm ≡ Some state → S.is_true self.new.host.store → IfOk result (IsRead log state.head.name) }
-        ensures reason { (log : Log) (state : State) → S.stands self.old.host.store log → realm_at self.old.host.core realm ≡ Some state → S.is_true self.new.host.store → IfErr result (IsReasonToDoubt log) }
+        ensures absent { realm_at self.old.host.core realm ≡ None →
+            result ≡ Err RenewFault.NoRealm }
+        ensures read { (log : Log) (state : State) → S.stands self.old.host.store log →
+            realm_at self.old.host.core realm ≡ Some state → S.is_true self.new.host.store →
+            IfOk result (IsRead log state.head.name) }
+        ensures reason { (log : Log) (state : State) → S.stands self.old.host.store log →
+            realm_at self.old.host.core realm ≡ Some state → S.is_true self.new.host.store →
+            IfErr result (IsReasonToDoubt log) }
     {
         self.host.doubts(alloc, realm)
     }
@@ -63,23 +71,39 @@ impl<S: RowLog + Drop> Desk<S> {
         recovery: Recovery,
     ) -> Result<Left, (RenewFault, Recovery)>
         requires { Always }
-        ensures store { (state : State) → realm_at self.old.host.core realm ≡ Some state → Rises S.stands S.may_leave S.is_true S.faults S.is_due (λ fault. fault.0) state.head.name result self.old.host.store self.new.host.store }
-        ensures absent { realm_at self.old.host.core realm ≡ None → self.new.host.store ≡ self.old.host.store }
-        ensures renewed { (state : State) → realm_at self.old.host.core realm ≡ Some state → IfOk result (λ left. IsRenewed S.stands S.is_true recovery state self.old.host.store self.new.host.store (realm_at self.new.host.core realm)) }
-        ensures connections { (state : State) → realm_at self.old.host.core realm ≡ Some state → IfOk result (λ left. left.connections.items ≡ state.connections) }
-        ensures transactions { (state : State) → realm_at self.old.host.core realm ≡ Some state → IfOk result (λ left. map seen left.transactions.items ≡ state.transactions) }
-        ensures journal { (state : State) → realm_at self.old.host.core realm ≡ Some state → OnOk result (bare self.new.journals ≡ renewed realm (begun (state.head.epoch + 1) (map loaded recovery.rows)) (bare self.old.journals)) }
+        ensures store { (state : State) → realm_at self.old.host.core realm ≡ Some state →
+            Rises S.stands S.may_leave S.is_true S.faults S.is_due (λ fault. fault.0)
+            state.head.name result self.old.host.store self.new.host.store }
+        ensures absent { realm_at self.old.host.core realm ≡ None →
+            self.new.host.store ≡ self.old.host.store }
+        ensures renewed { (state : State) → realm_at self.old.host.core realm ≡ Some state →
+            IfOk result (λ left. IsRenewed S.stands S.is_true recovery state self.old.host.store
+            self.new.host.store (realm_at self.new.host.core realm)) }
+        ensures connections { (state : State) → realm_at self.old.host.core realm ≡ Some state →
+            IfOk result (λ left. left.connections.items ≡ state.connections) }
+        ensures transactions { (state : State) → realm_at self.old.host.core realm ≡ Some state →
+            IfOk result (λ left. map seen left.transactions.items ≡ state.transactions) }
+        ensures journal { (state : State) → realm_at self.old.host.core realm ≡ Some state →
+            OnOk result (bare self.new.journals ≡ renewed realm
+            (begun (state.head.epoch + 1) (map loaded recovery.rows))
+            (bare self.old.journals)) }
         ensures lines { OnOk result (waiting self.new.outboxes realm ≡ []) }
         ensures others { AreKeptBut realm self.old self.new }
-        ensures same { IfErr result (λ fault. (place : ℕ) → realm_at self.new.host.core place ≡ realm_at self.old.host.core place) }
-        ensures still { OnErr result ((bare self.new.journals ≡ bare self.old.journals) × (self.new.outboxes ≡ self.old.outboxes)) }
+        ensures same { IfErr result (λ fault. (place : ℕ) →
+            realm_at self.new.host.core place ≡ realm_at self.old.host.core place) }
+        ensures still { OnErr result ((bare self.new.journals ≡ bare self.old.journals)
+            × (self.new.outboxes ≡ self.old.outboxes)) }
         ensures back { IfErr result (λ fault. fault.1 ≡ recovery) }
-        ensures reason { (log : Log) (state : State) → S.stands self.old.host.store log → realm_at self.old.host.core realm ≡ Some state → S.is_true self.new.host.store → IfErr result (λ fault. IsReasonToRenew log state recovery fault.0) }
+        ensures reason { (log : Log) (state : State) → S.stands self.old.host.store log →
+            realm_at self.old.host.core realm ≡ Some state → S.is_true self.new.host.store →
+            IfErr result (λ fault. IsReasonToRenew log state recovery fault.0) }
         ensures here { OnOk result (realm_at self.old.host.core realm ≢ None) }
-        ensures nowhere { realm_at self.old.host.core realm ≡ None → self.old.host.is_stopped ≡ false → IfErr result (λ fault. fault.0 ≡ NoRealm) }
+        ensures nowhere { realm_at self.old.host.core realm ≡ None →
+            self.old.host.is_stopped ≡ false → IfErr result (λ fault. fault.0 ≡ NoRealm) }
         ensures names { OnOk result (HaveNames self.new.host.core) }
         ensures stopped { self.new.host.is_stopped ≡ self.old.host.is_stopped }
-        ensures stopping { IfErr result (λ fault. (fault.0 ≡ Stopped) ↔ (self.old.host.is_stopped ≡ true)) }
+        ensures stopping { IfErr result
+            (λ fault. (fault.0 ≡ Stopped) ↔ (self.old.host.is_stopped ≡ true)) }
     {
         let Some(epoch) = self.next_epoch(realm) else {
             return self.host.renew(alloc, realm, recovery);
@@ -120,7 +144,9 @@ impl<S: RowLog + Drop> Desk<S> {
 
 /// The epoch after a realm's own; None behind the last.
 fn next_in(heads: &[Head], realm: usize) -> Option<u32>
-    ensures { result ≡ option_and_then (λ head. if head.epoch == last_epoch then None else Some (head.epoch + 1)) (slice_get heads.now realm) }
+    ensures { result ≡ option_and_then
+        (λ head. if head.epoch == last_epoch then None else Some (head.epoch + 1))
+        (slice_get heads.now realm) }
 {
     match heads.get(realm) {
         Some(head) => epoch_after(head.epoch),
@@ -150,7 +176,8 @@ fn begin(
 ) -> Result<Clearing, AllocError>
     requires always { Always }
     requires later { IsSomeAnd (current journals.old realm) (λ journal. journal.epoch < epoch) }
-    ensures begun { OnOk result (journals.new ≡ renewed realm (begun epoch (map loaded recovery.now.rows)) journals.old) }
+    ensures begun { OnOk result
+        (journals.new ≡ renewed realm (begun epoch (map loaded recovery.now.rows)) journals.old) }
     ensures same { OnErr result (journals.new ≡ journals.old) }
     ensures ready { IfOk result (IsReady outboxes.now realm) }
 {

@@ -18,6 +18,11 @@ pub fn each_transcript_tells_honest_histories()
 /// ISOLATION: whatever realms a script declares, and whatever lines follow, each realm prints what it prints where no other realm is
 /// there, by the lines that concern it, and is then as it is alone.
 pub fn each_realm_is_alone()
-    ensures { (lines : List (List ℕ)) (declarations : List Declaration) (moves : List Move) (next : Scene) → (played in_memory (Declaring []) 1 lines).ending ≡ Reached (Declaring declarations) → list_all is_spelled moves ≡ true → (all_moved moves (scene_of in_memory declarations)).scene ≡ Some next →
-        IsAlone moves (scene_of in_memory declarations) next (all_moved moves (scene_of in_memory declarations)).printed }
+    ensures { (lines : List (List ℕ)) (declarations : List Declaration) (moves : List Move)
+        (next : Scene) →
+        (played in_memory (Declaring []) 1 lines).ending ≡ Reached (Declaring declarations) →
+        list_all is_spelled moves ≡ true →
+        (all_moved moves (scene_of in_memory declarations)).scene ≡ Some next →
+        IsAlone moves (scene_of in_memory declarations) next
+        (all_moved moves (scene_of in_memory declarations)).printed }
 {}

@@ -14,8 +14,10 @@ pub fn play<R: BufRead, W: Write>(
     input: &mut R,
     output: &mut W,
 ) -> Result<(), PlayFault>
-    ensures transcribes { IfSome (R.remaining input.old) (λ script. Transcribes in_memory script (R.remaining input.new) (W.contents output.old) (W.contents output.new) result) }
-    ensures tells { IfSome (R.remaining input.old) (λ script. Tells (W.contents output.old) (W.contents output.new)) }
+    ensures transcribes { IfSome (R.remaining input.old) (λ script. Transcribes in_memory script
+        (R.remaining input.new) (W.contents output.old) (W.contents output.new) result) }
+    ensures tells { IfSome (R.remaining input.old)
+        (λ script. Tells (W.contents output.old) (W.contents output.new)) }
 {
     tip_play::play(alloc, input, output)
 }

@@ -55,19 +55,26 @@ impl<S: RowLog> Host<S, Core> {
         event: Event,
     ) -> Result<Happened, (HostFault, Event)>
         requires { Always }
-        ensures steps { IfOk result (λ happened. Steps self.old.core self.new.core realm event happened.outcome happened.answer) }
-        ensures wanted { IfOk result (λ happened. (state : State) → realm_at self.old.core realm ≡ Some state → happened.change ≡ wants state event) }
-        ensures absent { IfOk result (λ happened. realm_at self.old.core realm ≡ None → (happened.change ≡ None) × (self.new.store ≡ self.old.store)) }
+        ensures steps { IfOk result (λ happened. Steps self.old.core self.new.core realm event
+            happened.outcome happened.answer) }
+        ensures wanted { IfOk result (λ happened. (state : State) →
+            realm_at self.old.core realm ≡ Some state → happened.change ≡ wants state event) }
+        ensures absent { IfOk result (λ happened. realm_at self.old.core realm ≡ None →
+            (happened.change ≡ None) × (self.new.store ≡ self.old.store)) }
         ensures fits { IfOk result (λ happened. fits happened.change happened.outcome ≡ true) }
-        ensures keeps { IfOk result (λ happened. (state : State) → realm_at self.old.core realm ≡ Some state →
-            Keeps S.stands S.may_leave S.is_true S.faults S.is_due state.head.name happened.change happened.outcome self.old.store self.new.store) }
+        ensures keeps { IfOk result (λ happened. (state : State) →
+            realm_at self.old.core realm ≡ Some state →
+            Keeps S.stands S.may_leave S.is_true S.faults S.is_due state.head.name
+            happened.change happened.outcome self.old.store self.new.store) }
         ensures back { IfErr result (λ fault. fault.1 ≡ event) }
         ensures store { IfErr result (λ fault. self.new.store ≡ self.old.store) }
-        ensures realms { IfErr result (λ fault. (place : ℕ) → realm_at self.new.core place ≡ realm_at self.old.core place) }
+        ensures realms { IfErr result
+            (λ fault. (place : ℕ) → realm_at self.new.core place ≡ realm_at self.old.core place) }
         ensures names { IfOk result (λ happened. HaveNames self.new.core) }
         ensures stopped { self.new.is_stopped ≡ self.old.is_stopped }
         ensures running { IfOk result (λ happened. self.old.is_stopped ≡ false) }
-        ensures stopping { IfErr result (λ fault. (fault.0 ≡ Stopped) ↔ (self.old.is_stopped ≡ true)) }
+        ensures stopping { IfErr result
+            (λ fault. (fault.0 ≡ Stopped) ↔ (self.old.is_stopped ≡ true)) }
     {
         if self.is_stopped {
             return Err((HostFault::Stopped, event));

@@ -9,7 +9,8 @@ use tip_rows::{Refused, RowLog};
 
 /// Asks the store for the change of a realm's rows, if one is wanted. What became of it is what the store says.
 pub fn keep<S: RowLog>(store: &mut S, realm: &Realm, change: Option<&Change>) -> Outcome
-    ensures keeps { Keeps S.stands S.may_leave S.is_true S.faults S.is_due realm.now (option_map (λ c. c.now) change.entry) result store.old store.new }
+    ensures keeps { Keeps S.stands S.may_leave S.is_true S.faults S.is_due realm.now
+        (option_map (λ c. c.now) change.entry) result store.old store.new }
     ensures fits { fits (option_map (λ c. c.now) change.entry) result ≡ true }
 {
     match change {
@@ -20,7 +21,8 @@ pub fn keep<S: RowLog>(store: &mut S, realm: &Realm, change: Option<&Change>) ->
 
 /// Asks the store for one change.
 fn make<S: RowLog>(store: &mut S, realm: &Realm, change: &Change) -> Outcome
-    ensures keeps { Keeps S.stands S.may_leave S.is_true S.faults S.is_due realm.now (Some change.now) result store.old store.new }
+    ensures keeps { Keeps S.stands S.may_leave S.is_true S.faults S.is_due realm.now
+        (Some change.now) result store.old store.new }
     ensures fits { fits (Some change.now) result ≡ true }
 {
     let done = match change {

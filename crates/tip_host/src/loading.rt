@@ -66,7 +66,8 @@ impl<S: RowLog> Host<S, Core> {
     /// Each realm as it was declared, to be loaded again.
     pub fn declarations(&self, alloc: Global) -> Result<Vec<RealmSpec>, AllocError>
         requires { Always }
-        ensures { IfOk result (λ specs. (place : ℕ) → slice_get specs.items place ≡ option_map (λ state. spec_of state.head) (realm_at self.now.core place)) }
+        ensures { IfOk result (λ specs. (place : ℕ) → slice_get specs.items place
+            ≡ option_map (λ state. spec_of state.head) (realm_at self.now.core place)) }
     {
         declared(alloc, self.core.heads())
     }
@@ -78,7 +79,8 @@ impl<S: RowLog> Host<S, Core> {
         specs: Vec<RealmSpec>,
     ) -> Result<Recovering<S>, (LoadFault, S)>
         requires { Always }
-        ensures { Loads S.stands S.may_leave S.is_true S.faults S.is_due specs.items self.store result }
+        ensures { Loads S.stands S.may_leave S.is_true S.faults S.is_due specs.items self.store
+            result }
     {
         let Host { store, core, .. } = self;
         load(alloc, store, core, specs)
@@ -93,15 +95,26 @@ fn load<S: RowLog>(
     specs: Vec<RealmSpec>,
 ) -> Result<Recovering<S>, (LoadFault, S)>
     requires { Always }
-    ensures ok { IfOk result (λ loaded. Goes S.stands S.may_leave S.is_true S.faults S.is_due false (AreOpened (names_of specs.items)) (IsOnTheWay (names_of specs.items)) store loaded.store) }
-    ensures err { IfErr result (λ fault. Goes S.stands S.may_leave S.is_true S.faults S.is_due (is_refusal_to_load fault.0) (IsOnTheWay (names_of specs.items)) (IsOnTheWay (names_of specs.items)) store fault.1) }
-    ensures realms { IfOk result (λ loaded. (place : ℕ) → realm_at loaded.core place ≡ option_map (λ start. started (starting start)) (slice_get (starts_of specs.items loaded.realms) place)) }
-    ensures read { (log : Log) → S.stands store log → IfOk result (λ loaded. S.is_true loaded.store → AreRead (opened (names_of specs.items) log) specs.items loaded.realms) }
-    ensures reason { (log : Log) → S.stands store log → IfErr result (λ fault. S.is_true fault.1 → IsReason specs.items log fault.0) }
-    ensures risen { (log : Log) → S.stands store log → IfOk result (λ loaded. S.is_true loaded.store → (known : List ℕ) → ¬ IsAtEnd (known_all (names_of specs.items) log) known) }
+    ensures ok { IfOk result (λ loaded. Goes S.stands S.may_leave S.is_true S.faults S.is_due false
+        (AreOpened (names_of specs.items)) (IsOnTheWay (names_of specs.items)) store
+        loaded.store) }
+    ensures err { IfErr result (λ fault. Goes S.stands S.may_leave S.is_true S.faults S.is_due
+        (is_refusal_to_load fault.0) (IsOnTheWay (names_of specs.items))
+        (IsOnTheWay (names_of specs.items)) store fault.1) }
+    ensures realms { IfOk result (λ loaded. (place : ℕ) → realm_at loaded.core place ≡ option_map
+        (λ start. started (starting start))
+        (slice_get (starts_of specs.items loaded.realms) place)) }
+    ensures read { (log : Log) → S.stands store log → IfOk result (λ loaded. S.is_true loaded.store
+        → AreRead (opened (names_of specs.items) log) specs.items loaded.realms) }
+    ensures reason { (log : Log) → S.stands store log →
+        IfErr result (λ fault. S.is_true fault.1 → IsReason specs.items log fault.0) }
+    ensures risen { (log : Log) → S.stands store log → IfOk result (λ loaded. S.is_true loaded.store
+        → (known : List ℕ) → ¬ IsAtEnd (known_all (names_of specs.items) log) known) }
     ensures hostable { OnOk result (are_hostable specs.items ≡ true) }
-    ensures bad_realm { IfErr result (λ fault. is_bad_realm fault.0 ≡ not (are_hostable specs.items)) }
-    ensures settled { IfOk result (λ loaded. S.is_true loaded.store → IsSettled S.stands S.may_leave loaded.store) }
+    ensures bad_realm { IfErr result
+        (λ fault. is_bad_realm fault.0 ≡ not (are_hostable specs.items)) }
+    ensures settled { IfOk result
+        (λ loaded. S.is_true loaded.store → IsSettled S.stands S.may_leave loaded.store) }
 {
     let mut store = store;
     let realms = match open_and_read(alloc, &mut store, &specs) {
@@ -116,8 +129,10 @@ fn load<S: RowLog>(
 
 /// Each realm is made known.
 fn know_all<S: RowLog>(store: &mut S, specs: &[RealmSpec]) -> Result<(), Refused>
-    ensures ok { OnOk result (Goes S.stands S.may_leave S.is_true S.faults S.is_due false (AreKnown (names_of specs.now)) (IsKnown (names_of specs.now)) store.old store.new) }
-    ensures err { OnErr result (Goes S.stands S.may_leave S.is_true S.faults S.is_due true (IsKnown (names_of specs.now)) (IsKnown (names_of specs.now)) store.old store.new) }
+    ensures ok { OnOk result (Goes S.stands S.may_leave S.is_true S.faults S.is_due false
+        (AreKnown (names_of specs.now)) (IsKnown (names_of specs.now)) store.old store.new) }
+    ensures err { OnErr result (Goes S.stands S.may_leave S.is_true S.faults S.is_due true
+        (IsKnown (names_of specs.now)) (IsKnown (names_of specs.now)) store.old store.new) }
 {
     for spec in specs {
         store.know(&spec.name)?;
@@ -131,10 +146,13 @@ pub(crate) fn read<S: RowLog>(
     store: &mut S,
     name: &Realm,
 ) -> Result<Recovery, LoadFault>
-    ensures goes { Goes S.stands S.may_leave S.is_true S.faults S.is_due (refused_by result) Stays Never store.old store.new }
+    ensures goes { Goes S.stands S.may_leave S.is_true S.faults S.is_due (refused_by result) Stays
+        Never store.old store.new }
     ensures own { IfOk result (IsIts name.now) }
-    ensures read { (log : Log) → S.stands store.old log → S.is_true store.new → IfOk result (IsRead log name.now) }
-    ensures reason { (log : Log) → S.stands store.old log → S.is_true store.new → IfErr result (IsReasonToRead log) }
+    ensures read { (log : Log) → S.stands store.old log → S.is_true store.new →
+        IfOk result (IsRead log name.now) }
+    ensures reason { (log : Log) → S.stands store.old log → S.is_true store.new →
+        IfErr result (IsReasonToRead log) }
     ensures fault { IfErr result (λ fault. is_bad_realm fault ≡ false) }
     ensures settled { S.is_true store.new → OnOk result (IsSettled S.stands S.may_leave store.new) }
 {
@@ -156,12 +174,16 @@ fn read_all<S: RowLog>(
     store: &mut S,
     specs: &[RealmSpec],
 ) -> Result<Vec<Recovery>, LoadFault>
-    ensures goes { Goes S.stands S.may_leave S.is_true S.faults S.is_due (refused_by result) Stays Never store.old store.new }
+    ensures goes { Goes S.stands S.may_leave S.is_true S.faults S.is_due (refused_by result) Stays
+        Never store.old store.new }
     ensures own { IfOk result (λ realms. AreTheirs specs.now realms.items) }
-    ensures read { (log : Log) → S.stands store.old log → S.is_true store.new → IfOk result (λ realms. AreRead log specs.now realms.items) }
-    ensures reason { (log : Log) → S.stands store.old log → S.is_true store.new → IfErr result (IsReasonToRead log) }
+    ensures read { (log : Log) → S.stands store.old log → S.is_true store.new →
+        IfOk result (λ realms. AreRead log specs.now realms.items) }
+    ensures reason { (log : Log) → S.stands store.old log → S.is_true store.new →
+        IfErr result (IsReasonToRead log) }
     ensures fault { IfErr result (λ fault. is_bad_realm fault ≡ false) }
-    ensures settled { IsSettled S.stands S.may_leave store.old → S.is_true store.new → OnOk result (IsSettled S.stands S.may_leave store.new) }
+    ensures settled { IsSettled S.stands S.may_leave store.old → S.is_true store.new →
+        OnOk result (IsSettled S.stands S.may_leave store.new) }
 {
     let mut realms = Vec::with_capacity(alloc, specs.len())?;
     for spec in specs {
@@ -172,10 +194,16 @@ fn read_all<S: RowLog>(
 
 /// Each realm is made known, and then all epochs rise.
 fn open<S: RowLog>(store: &mut S, specs: &[RealmSpec]) -> Result<(), LoadFault>
-    ensures ok { OnOk result (Goes S.stands S.may_leave S.is_true S.faults S.is_due false (AreOpened (names_of specs.now)) (IsOnTheWay (names_of specs.now)) store.old store.new) }
-    ensures err { IfErr result (λ fault. Goes S.stands S.may_leave S.is_true S.faults S.is_due (is_refusal_to_load fault) (IsOnTheWay (names_of specs.now)) (IsOnTheWay (names_of specs.now)) store.old store.new) }
-    ensures reason { (log : Log) → S.stands store.old log → S.is_true store.new → IfErr result (IsReason specs.now log) }
-    ensures risen { (log : Log) → S.stands store.old log → S.is_true store.new → OnOk result ((known : List ℕ) → ¬ IsAtEnd (known_all (names_of specs.now) log) known) }
+    ensures ok { OnOk result (Goes S.stands S.may_leave S.is_true S.faults S.is_due false
+        (AreOpened (names_of specs.now)) (IsOnTheWay (names_of specs.now)) store.old
+        store.new) }
+    ensures err { IfErr result (λ fault. Goes S.stands S.may_leave S.is_true S.faults S.is_due
+        (is_refusal_to_load fault) (IsOnTheWay (names_of specs.now))
+        (IsOnTheWay (names_of specs.now)) store.old store.new) }
+    ensures reason { (log : Log) → S.stands store.old log → S.is_true store.new →
+        IfErr result (IsReason specs.now log) }
+    ensures risen { (log : Log) → S.stands store.old log → S.is_true store.new →
+        OnOk result ((known : List ℕ) → ¬ IsAtEnd (known_all (names_of specs.now) log) known) }
     ensures fault { IfErr result (λ fault. is_bad_realm fault ≡ false) }
     ensures settled { S.is_true store.new → OnOk result (IsSettled S.stands S.may_leave store.new) }
 {
@@ -231,7 +259,9 @@ fn start_all(
     requires own { AreTheirs specs.items realms.now }
     requires differ { names_differ specs.items ≡ true }
     ensures begun { IfOk result (λ core. HaveBegun core realms.now) }
-    ensures realms { IfOk result (λ core. (place : ℕ) → realm_at core place ≡ option_map (λ start. started (starting start)) (slice_get (starts_of specs.items realms.now) place)) }
+    ensures realms { IfOk result (λ core. (place : ℕ) → realm_at core place ≡ option_map
+        (λ start. started (starting start))
+        (slice_get (starts_of specs.items realms.now) place)) }
 {
     let starts = starts_of(alloc, specs, realms)?;
     let mut core = core.start(alloc, starts)?;
@@ -266,12 +296,19 @@ fn open_and_read<S: RowLog>(
     store: &mut S,
     specs: &[RealmSpec],
 ) -> Result<Vec<Recovery>, LoadFault>
-    ensures ok { OnOk result (Goes S.stands S.may_leave S.is_true S.faults S.is_due false (AreOpened (names_of specs.now)) (IsOnTheWay (names_of specs.now)) store.old store.new) }
-    ensures err { IfErr result (λ fault. Goes S.stands S.may_leave S.is_true S.faults S.is_due (is_refusal_to_load fault) (IsOnTheWay (names_of specs.now)) (IsOnTheWay (names_of specs.now)) store.old store.new) }
+    ensures ok { OnOk result (Goes S.stands S.may_leave S.is_true S.faults S.is_due false
+        (AreOpened (names_of specs.now)) (IsOnTheWay (names_of specs.now)) store.old
+        store.new) }
+    ensures err { IfErr result (λ fault. Goes S.stands S.may_leave S.is_true S.faults S.is_due
+        (is_refusal_to_load fault) (IsOnTheWay (names_of specs.now))
+        (IsOnTheWay (names_of specs.now)) store.old store.new) }
     ensures own { IfOk result (λ realms. AreTheirs specs.now realms.items) }
-    ensures read { (log : Log) → S.stands store.old log → S.is_true store.new → IfOk result (λ realms. AreRead (opened (names_of specs.now) log) specs.now realms.items) }
-    ensures reason { (log : Log) → S.stands store.old log → S.is_true store.new → IfErr result (IsReason specs.now log) }
-    ensures risen { (log : Log) → S.stands store.old log → S.is_true store.new → OnOk result ((known : List ℕ) → ¬ IsAtEnd (known_all (names_of specs.now) log) known) }
+    ensures read { (log : Log) → S.stands store.old log → S.is_true store.new →
+        IfOk result (λ realms. AreRead (opened (names_of specs.now) log) specs.now realms.items) }
+    ensures reason { (log : Log) → S.stands store.old log → S.is_true store.new →
+        IfErr result (IsReason specs.now log) }
+    ensures risen { (log : Log) → S.stands store.old log → S.is_true store.new →
+        OnOk result ((known : List ℕ) → ¬ IsAtEnd (known_all (names_of specs.now) log) known) }
     ensures hostable { OnOk result (are_hostable specs.now ≡ true) }
     ensures bad_realm { IfErr result (λ fault. is_bad_realm fault ≡ not (are_hostable specs.now)) }
     ensures settled { S.is_true store.new → OnOk result (IsSettled S.stands S.may_leave store.new) }

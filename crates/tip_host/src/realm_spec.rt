@@ -34,7 +34,8 @@ impl RealmSpec {
         limits: Limits,
         branches: Branches,
     ) -> Result<RealmSpec, BadRealm>
-        ensures ok { IfOk result (λ spec. spec ≡ record { name = name; address = address; limits = limits; branches = branches }) }
+        ensures ok { IfOk result (λ spec. spec
+            ≡ record { name = name; address = address; limits = limits; branches = branches }) }
         ensures allowed { OnOk result (is_allowed limits branches ≡ true) }
         ensures bad { OnErr result (is_allowed limits branches ≡ false) }
     {

@@ -61,7 +61,8 @@ impl<S: RowLog> Recovering<S> {
     /// The rows of a realm by rising key, also those for which nothing is to be adopted; none of a realm that is not there.
     pub fn in_doubt(&self, realm: usize) -> &[Unfinished]
         requires { Always }
-        ensures { result.now ≡ option_map_or (λ recovery. recovery.rows) (slice_get self.now.realms realm) [] }
+        ensures { result.now
+            ≡ option_map_or (λ recovery. recovery.rows) (slice_get self.now.realms realm) [] }
     {
         match self.realms.get(realm) {
             Some(recovery) => recovery.rows(),
@@ -71,7 +72,8 @@ impl<S: RowLog> Recovering<S> {
 
     /// The epoch in which a realm starts.
     pub fn epoch(&self, realm: usize) -> Option<u32>
-        ensures { result ≡ option_map (λ recovery. recovery.epoch) (slice_get self.now.realms realm) }
+        ensures { result
+            ≡ option_map (λ recovery. recovery.epoch) (slice_get self.now.realms realm) }
     {
         Some(self.realms.get(realm)?.epoch())
     }
@@ -85,8 +87,11 @@ impl<S: RowLog> Recovering<S> {
         boxes: HeldPrepared,
     ) -> Result<(), (AdoptFault, HeldPrepared)>
         requires { Always }
-        ensures ok { OnOk result ((refusal_at realm id.now boxes self.old.realms ≡ None) × (self.new ≡ record self.old { realms = adopted_at realm id.now boxes self.old.realms })) }
-        ensures err { IfErr result (λ fault. (refusal_at realm id.now boxes self.old.realms ≡ Some fault.0) × (fault.1 ≡ boxes)) }
+        ensures ok { OnOk result ((refusal_at realm id.now boxes self.old.realms ≡ None)
+            × (self.new ≡ record self.old
+            { realms = adopted_at realm id.now boxes self.old.realms })) }
+        ensures err { IfErr result (λ fault. (refusal_at realm id.now boxes self.old.realms
+            ≡ Some fault.0) × (fault.1 ≡ boxes)) }
         ensures same { OnErr result (self.new ≡ self.old) }
     {
         adopt_at(&mut self.realms, realm, id, boxes)
@@ -96,8 +101,12 @@ impl<S: RowLog> Recovering<S> {
     /// where they do not, some may have been adopted.
     pub fn adopt_all(&mut self, boxes: Vec<Vec<HeldPrepared>>) -> bool
         requires { Always }
-        ensures fits { result ≡ are_for_each (map (λ lots. lots.items) boxes.items) self.old.realms }
-        ensures adopted { result ≡ true → self.new ≡ record self.old { realms = adopted_each (map (λ lots. lots.items) boxes.items) self.old.realms } }
+        ensures fits { result
+            ≡ are_for_each (map (λ lots. lots.items) boxes.items) self.old.realms }
+        ensures adopted { result ≡ true → self.new ≡ record self.old {
+          realms = adopted_each
+              (map (λ lots. lots.items) boxes.items) self.old.realms;
+        } }
         ensures store { self.new.store ≡ self.old.store }
     {
         boxes.len() == self.realms.len() && adopt_each(&mut self.realms, boxes)
@@ -108,7 +117,8 @@ impl<S: RowLog> Recovering<S> {
     pub fn begin(self) -> Result<Host<S, Core>, (Unadopted, Recovering<S>)>
         requires { Always }
         ensures store { IfOk result (λ host. host.store ≡ self.store) }
-        ensures realms { IfOk result (λ host. (place : ℕ) → realm_at host.core place ≡ recovered (slice_get self.realms place) (realm_at self.core place)) }
+        ensures realms { IfOk result (λ host. (place : ℕ) → realm_at host.core place
+            ≡ recovered (slice_get self.realms place) (realm_at self.core place)) }
         ensures names { IfOk result (λ host. HaveNames host.core) }
         ensures anew { IfOk result (λ host. AreAnew self.realms host.core) }
         ensures running { IfOk result (λ host. host.is_stopped ≡ false) }
@@ -149,8 +159,10 @@ fn adopt_at(
     boxes: HeldPrepared,
 ) -> Result<(), (AdoptFault, HeldPrepared)>
     requires { Always }
-    ensures ok { OnOk result ((refusal_at realm id.now boxes realms.old.items ≡ None) × (realms.new.items ≡ adopted_at realm id.now boxes realms.old.items)) }
-    ensures err { IfErr result (λ fault. (refusal_at realm id.now boxes realms.old.items ≡ Some fault.0) × (fault.1 ≡ boxes)) }
+    ensures ok { OnOk result ((refusal_at realm id.now boxes realms.old.items ≡ None)
+        × (realms.new.items ≡ adopted_at realm id.now boxes realms.old.items)) }
+    ensures err { IfErr result (λ fault. (refusal_at realm id.now boxes realms.old.items
+        ≡ Some fault.0) × (fault.1 ≡ boxes)) }
     ensures same { OnErr result (realms.new.items ≡ realms.old.items) }
 {
     if realm >= realms.len() {
@@ -163,8 +175,10 @@ fn adopt_at(
 fn adopt_each(realms: &mut Vec<Recovery>, boxes: Vec<Vec<HeldPrepared>>) -> bool
     requires { length boxes.items ≡ length realms.old.items }
     ensures fits { result ≡ are_for_each (map (λ lots. lots.items) boxes.items) realms.old.items }
-    ensures adopted { result ≡ true → realms.new.items ≡ adopted_each (map (λ lots. lots.items) boxes.items) realms.old.items }
-    ensures begun { (core : Hosted) → HaveBegun core realms.old.items → HaveBegun core realms.new.items }
+    ensures adopted { result ≡ true →
+        realms.new.items ≡ adopted_each (map (λ lots. lots.items) boxes.items) realms.old.items }
+    ensures begun { (core : Hosted) → HaveBegun core realms.old.items →
+        HaveBegun core realms.new.items }
 {
     let mut place = 0;
     for lots in boxes {
@@ -180,7 +194,8 @@ fn adopt_each(realms: &mut Vec<Recovery>, boxes: Vec<Vec<HeldPrepared>>) -> bool
 fn take_up_all(core: &mut Core, realms: Vec<Recovery>)
     requires begun { HaveBegun core.old realms.items }
     requires adopted { all_adopted realms.items ≡ true }
-    ensures realms { (place : ℕ) → realm_at core.new place ≡ recovered (slice_get realms.items place) (realm_at core.old place) }
+    ensures realms { (place : ℕ) → realm_at core.new place
+        ≡ recovered (slice_get realms.items place) (realm_at core.old place) }
     ensures anew { AreAnew realms.items core.new }
     ensures names { HaveNames core.new }
 {

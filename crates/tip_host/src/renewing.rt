@@ -89,13 +89,18 @@ impl<S: RowLog> Host<S, Core> {
     /// Memory.
     pub fn doubts(&mut self, alloc: Global, realm: usize) -> Result<Recovery, RenewFault>
         requires { Always }
-        ensures store { Goes S.stands S.may_leave S.is_true S.faults S.is_due (was_refused (λ fault. fault) result) Stays Never self.old.store self.new.store }
+        ensures store { Goes S.stands S.may_leave S.is_true S.faults S.is_due
+            (was_refused (λ fault. fault) result) Stays Never self.old.store self.new.store }
         ensures core { self.new.core ≡ self.old.core }
         ensures stopped { self.new.is_stopped ≡ self.old.is_stopped }
         ensures here { OnOk result (realm_at self.old.core realm ≢ None) }
         ensures absent { realm_at self.old.core realm ≡ None → result ≡ Err RenewFault.NoRealm }
-        ensures read { (log : Log) (state : State) → S.stands self.old.store log → realm_at self.old.core realm ≡ Some state → S.is_true self.new.store → IfOk result (IsRead log state.head.name) }
-        ensures reason { (log : Log) (state : State) → S.stands self.old.store log → realm_at self.old.core realm ≡ Some state → S.is_true self.new.store → IfErr result (IsReasonToDoubt log) }
+        ensures read { (log : Log) (state : State) → S.stands self.old.store log →
+            realm_at self.old.core realm ≡ Some state → S.is_true self.new.store →
+            IfOk result (IsRead log state.head.name) }
+        ensures reason { (log : Log) (state : State) → S.stands self.old.store log →
+            realm_at self.old.core realm ≡ Some state → S.is_true self.new.store →
+            IfErr result (IsReasonToDoubt log) }
     {
         match self.core.name(realm) {
             Some(name) => Ok(read(alloc, &mut self.store, name)?),
@@ -113,20 +118,32 @@ impl<S: RowLog> Host<S, Core> {
         recovery: Recovery,
     ) -> Result<Left, (RenewFault, Recovery)>
         requires { Always }
-        ensures store { (state : State) → realm_at self.old.core realm ≡ Some state → Rises S.stands S.may_leave S.is_true S.faults S.is_due (λ fault. fault.0) state.head.name result self.old.store self.new.store }
+        ensures store { (state : State) → realm_at self.old.core realm ≡ Some state →
+            Rises S.stands S.may_leave S.is_true S.faults S.is_due (λ fault. fault.0)
+            state.head.name result self.old.store self.new.store }
         ensures absent { realm_at self.old.core realm ≡ None → self.new.store ≡ self.old.store }
-        ensures renewed { (state : State) → realm_at self.old.core realm ≡ Some state → IfOk result (λ left. IsRenewed S.stands S.is_true recovery state self.old.store self.new.store (realm_at self.new.core realm)) }
-        ensures connections { (state : State) → realm_at self.old.core realm ≡ Some state → IfOk result (λ left. left.connections.items ≡ state.connections) }
-        ensures transactions { (state : State) → realm_at self.old.core realm ≡ Some state → IfOk result (λ left. map seen left.transactions.items ≡ state.transactions) }
-        ensures others { (other : ℕ) → other ≢ realm → realm_at self.new.core other ≡ realm_at self.old.core other }
-        ensures same { IfErr result (λ fault. (place : ℕ) → realm_at self.new.core place ≡ realm_at self.old.core place) }
+        ensures renewed { (state : State) → realm_at self.old.core realm ≡ Some state →
+            IfOk result (λ left. IsRenewed S.stands S.is_true recovery state self.old.store
+            self.new.store (realm_at self.new.core realm)) }
+        ensures connections { (state : State) → realm_at self.old.core realm ≡ Some state →
+            IfOk result (λ left. left.connections.items ≡ state.connections) }
+        ensures transactions { (state : State) → realm_at self.old.core realm ≡ Some state →
+            IfOk result (λ left. map seen left.transactions.items ≡ state.transactions) }
+        ensures others { (other : ℕ) → other ≢ realm →
+            realm_at self.new.core other ≡ realm_at self.old.core other }
+        ensures same { IfErr result
+            (λ fault. (place : ℕ) → realm_at self.new.core place ≡ realm_at self.old.core place) }
         ensures back { IfErr result (λ fault. fault.1 ≡ recovery) }
-        ensures reason { (log : Log) (state : State) → S.stands self.old.store log → realm_at self.old.core realm ≡ Some state → S.is_true self.new.store → IfErr result (λ fault. IsReasonToRenew log state recovery fault.0) }
+        ensures reason { (log : Log) (state : State) → S.stands self.old.store log →
+            realm_at self.old.core realm ≡ Some state → S.is_true self.new.store →
+            IfErr result (λ fault. IsReasonToRenew log state recovery fault.0) }
         ensures here { OnOk result (realm_at self.old.core realm ≢ None) }
-        ensures nowhere { realm_at self.old.core realm ≡ None → self.old.is_stopped ≡ false → IfErr result (λ fault. fault.0 ≡ NoRealm) }
+        ensures nowhere { realm_at self.old.core realm ≡ None → self.old.is_stopped ≡ false →
+            IfErr result (λ fault. fault.0 ≡ NoRealm) }
         ensures names { OnOk result (HaveNames self.new.core) }
         ensures running { OnOk result (self.old.is_stopped ≡ false) }
-        ensures stopping { IfErr result (λ fault. (fault.0 ≡ Stopped) ↔ (self.old.is_stopped ≡ true)) }
+        ensures stopping { IfErr result
+            (λ fault. (fault.0 ≡ Stopped) ↔ (self.old.is_stopped ≡ true)) }
         ensures stopped { self.new.is_stopped ≡ self.old.is_stopped }
     {
         match self.prepare(alloc, realm, &recovery) {
@@ -143,22 +160,33 @@ impl<S: RowLog> Host<S, Core> {
         recovery: &Recovery,
     ) -> Result<(Recovery, Parting), RenewFault>
         requires { Always }
-        ensures store { Goes S.stands S.may_leave S.is_true S.faults S.is_due (was_refused (λ fault. fault) result) Stays Never self.old.store self.new.store }
+        ensures store { Goes S.stands S.may_leave S.is_true S.faults S.is_due
+            (was_refused (λ fault. fault) result) Stays Never self.old.store self.new.store }
         ensures core { self.new.core ≡ self.old.core }
         ensures stopped { self.new.is_stopped ≡ self.old.is_stopped }
         ensures running { OnOk result (self.old.is_stopped ≡ false) }
         ensures here { OnOk result (realm_at self.old.core realm ≢ None) }
         ensures absent { realm_at self.old.core realm ≡ None → self.new.store ≡ self.old.store }
-        ensures read { (log : Log) (state : State) → S.stands self.old.store log → realm_at self.old.core realm ≡ Some state → S.is_true self.new.store → IfOk result (λ ready. IsRead log state.head.name ready.0) }
-        ensures named { (state : State) → realm_at self.old.core realm ≡ Some state → IfOk result (λ ready. ready.0.realm ≡ state.head.name) }
-        ensures epoch { (state : State) → realm_at self.old.core realm ≡ Some state → IfOk result (λ ready. (ready.0.epoch ≡ state.head.epoch) × (state.head.epoch < last_epoch)) }
+        ensures read { (log : Log) (state : State) → S.stands self.old.store log →
+            realm_at self.old.core realm ≡ Some state → S.is_true self.new.store →
+            IfOk result (λ ready. IsRead log state.head.name ready.0) }
+        ensures named { (state : State) → realm_at self.old.core realm ≡ Some state →
+            IfOk result (λ ready. ready.0.realm ≡ state.head.name) }
+        ensures epoch { (state : State) → realm_at self.old.core realm ≡ Some state →
+            IfOk result
+            (λ ready. (ready.0.epoch ≡ state.head.epoch) × (state.head.epoch < last_epoch)) }
         ensures again { IfOk result (λ ready. is_read_again recovery.now ready.0 ≡ true) }
         ensures adopted { OnOk result (are_adopted recovery.now.rows ≡ true) }
-        ensures room { IfOk result (λ ready. HasRoom self.old.core.connections self.old.core.transactions realm (length ready.0.rows) ready.1) }
-        ensures reason { (log : Log) (state : State) → S.stands self.old.store log → realm_at self.old.core realm ≡ Some state → S.is_true self.new.store → IfErr result (IsReasonToRenew log state recovery.now) }
+        ensures room { IfOk result (λ ready. HasRoom self.old.core.connections
+            self.old.core.transactions realm (length ready.0.rows) ready.1) }
+        ensures reason { (log : Log) (state : State) → S.stands self.old.store log →
+            realm_at self.old.core realm ≡ Some state → S.is_true self.new.store →
+            IfErr result (IsReasonToRenew log state recovery.now) }
         ensures not_raised { IfErr result (λ fault. fault ≢ NotRaised) }
-        ensures nowhere { realm_at self.old.core realm ≡ None → self.old.is_stopped ≡ false → IfErr result (λ fault. fault ≡ NoRealm) }
-        ensures stopping { IfErr result (λ fault. (fault ≡ Stopped) ↔ (self.old.is_stopped ≡ true)) }
+        ensures nowhere { realm_at self.old.core realm ≡ None → self.old.is_stopped ≡ false →
+            IfErr result (λ fault. fault ≡ NoRealm) }
+        ensures stopping { IfErr result
+            (λ fault. (fault ≡ Stopped) ↔ (self.old.is_stopped ≡ true)) }
     {
         if self.is_stopped {
             return Err(RenewFault::Stopped);
@@ -189,18 +217,31 @@ impl<S: RowLog> Host<S, Core> {
         room: Parting,
     ) -> Result<Left, (RenewFault, Recovery)>
         requires always { Always }
-        requires here { (state : State) × (realm_at self.old.core realm ≡ Some state) × (fresh.realm ≡ state.head.name) × (fresh.epoch ≡ state.head.epoch) × (state.head.epoch < last_epoch) }
+        requires here { (state : State) × (realm_at self.old.core realm ≡ Some state)
+            × (fresh.realm ≡ state.head.name) × (fresh.epoch ≡ state.head.epoch)
+            × (state.head.epoch < last_epoch) }
         requires again { is_read_again recovery fresh ≡ true }
         requires adopted { are_adopted recovery.rows ≡ true }
-        requires room { HasRoom self.old.core.connections self.old.core.transactions realm (length fresh.rows) room }
-        ensures store { (state : State) → realm_at self.old.core realm ≡ Some state → Rises S.stands S.may_leave S.is_true S.faults S.is_due (λ fault. fault.0) state.head.name result self.old.store self.new.store }
-        ensures renewed { (state : State) → realm_at self.old.core realm ≡ Some state → IfOk result (λ left. realm_at self.new.core realm ≡ Some (restarted (risen state.head) (map loaded (taking_all recovery.rows fresh.rows)))) }
-        ensures connections { (state : State) → realm_at self.old.core realm ≡ Some state → IfOk result (λ left. left.connections.items ≡ state.connections) }
-        ensures transactions { (state : State) → realm_at self.old.core realm ≡ Some state → IfOk result (λ left. map seen left.transactions.items ≡ state.transactions) }
-        ensures others { (other : ℕ) → other ≢ realm → realm_at self.new.core other ≡ realm_at self.old.core other }
-        ensures same { IfErr result (λ fault. (place : ℕ) → realm_at self.new.core place ≡ realm_at self.old.core place) }
+        requires room { HasRoom self.old.core.connections self.old.core.transactions realm
+            (length fresh.rows) room }
+        ensures store { (state : State) → realm_at self.old.core realm ≡ Some state →
+            Rises S.stands S.may_leave S.is_true S.faults S.is_due (λ fault. fault.0)
+            state.head.name result self.old.store self.new.store }
+        ensures renewed { (state : State) → realm_at self.old.core realm ≡ Some state →
+            IfOk result (λ left. realm_at self.new.core realm ≡ Some (restarted (risen state.head)
+            (map loaded (taking_all recovery.rows fresh.rows)))) }
+        ensures connections { (state : State) → realm_at self.old.core realm ≡ Some state →
+            IfOk result (λ left. left.connections.items ≡ state.connections) }
+        ensures transactions { (state : State) → realm_at self.old.core realm ≡ Some state →
+            IfOk result (λ left. map seen left.transactions.items ≡ state.transactions) }
+        ensures others { (other : ℕ) → other ≢ realm →
+            realm_at self.new.core other ≡ realm_at self.old.core other }
+        ensures same { IfErr result
+            (λ fault. (place : ℕ) → realm_at self.new.core place ≡ realm_at self.old.core place) }
         ensures back { IfErr result (λ fault. fault.1 ≡ recovery) }
-        ensures reason { (log : Log) (state : State) → S.stands self.old.store log → realm_at self.old.core realm ≡ Some state → S.is_true self.new.store → IfErr result (λ fault. IsReasonToRenew log state recovery fault.0) }
+        ensures reason { (log : Log) (state : State) → S.stands self.old.store log →
+            realm_at self.old.core realm ≡ Some state → S.is_true self.new.store →
+            IfErr result (λ fault. IsReasonToRenew log state recovery fault.0) }
         ensures names { OnOk result (HaveNames self.new.core) }
         ensures running { IfErr result (λ fault. fault.0 ≢ Stopped) }
         ensures stopped { self.new.is_stopped ≡ self.old.is_stopped }
@@ -224,14 +265,22 @@ fn start_again(
     room: Parting,
 ) -> Left
     requires always { Always }
-    requires here { (state : State) × (realm_at core.old realm ≡ Some state) × (fresh.realm ≡ state.head.name) × (fresh.epoch ≡ state.head.epoch) × (state.head.epoch < last_epoch) }
+    requires here { (state : State) × (realm_at core.old realm ≡ Some state)
+        × (fresh.realm ≡ state.head.name) × (fresh.epoch ≡ state.head.epoch)
+        × (state.head.epoch < last_epoch) }
     requires again { is_read_again recovery fresh ≡ true }
     requires adopted { are_adopted recovery.rows ≡ true }
-    requires room { HasRoom core.old.connections core.old.transactions realm (length fresh.rows) room }
-    ensures own { (state : State) → realm_at core.old realm ≡ Some state → realm_at core.new realm ≡ Some (restarted (risen state.head) (map loaded (taking_all recovery.rows fresh.rows))) }
-    ensures others { (other : ℕ) → other ≢ realm → realm_at core.new other ≡ realm_at core.old other }
-    ensures connections { (state : State) → realm_at core.old realm ≡ Some state → result.connections.items ≡ state.connections }
-    ensures transactions { (state : State) → realm_at core.old realm ≡ Some state → map seen result.transactions.items ≡ state.transactions }
+    requires room { HasRoom core.old.connections core.old.transactions realm (length fresh.rows)
+        room }
+    ensures own { (state : State) → realm_at core.old realm ≡ Some state →
+        realm_at core.new realm ≡ Some
+        (restarted (risen state.head) (map loaded (taking_all recovery.rows fresh.rows))) }
+    ensures others { (other : ℕ) → other ≢ realm →
+        realm_at core.new other ≡ realm_at core.old other }
+    ensures connections { (state : State) → realm_at core.old realm ≡ Some state →
+        result.connections.items ≡ state.connections }
+    ensures transactions { (state : State) → realm_at core.old realm ≡ Some state →
+        map seen result.transactions.items ≡ state.transactions }
     ensures named { HaveNames core.new }
 {
     fresh.take_boxes(recovery);

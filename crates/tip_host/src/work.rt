@@ -18,7 +18,8 @@ pub fn are_untold(members: &[Member]) -> bool
 #[tactic(auto, using(crate::proofs::Answering::answering))]
 pub fn done(work: HeldParty) -> Event
     requires { are_untold work.members ≡ true }
-    ensures { (back : Back) × (can_answer work.errand back work.members ≡ true) × (was_done work.errand back ≡ true) × (result ≡ event_of work back) }
+    ensures { (back : Back) × (can_answer work.errand back work.members ≡ true)
+        × (was_done work.errand back ≡ true) × (result ≡ event_of work back) }
 {
     let mut party = work.into_party();
     match party.errand() {

@@ -89,7 +89,8 @@ fn mark<S: Drop, E: Drop + Plain>(
 ) -> bool
     requires { HaveSheets journals.now sheets.old.items }
     ensures can { IsTrue result ↔ CanMarkIn journals.now pass noted.now sheets.old.items }
-    ensures new { IsTrue result → (place : ℕ) → Names journals.now noted.now place → sheets.new.items ≡ marked_at place pass noted.now sheets.old.items }
+    ensures new { IsTrue result → (place : ℕ) → Names journals.now noted.now place →
+        sheets.new.items ≡ marked_at place pass noted.now sheets.old.items }
 {
     let Some(place) = journals.place_of(noted) else {
         return false;
@@ -101,7 +102,8 @@ fn mark<S: Drop, E: Drop + Plain>(
 
 /// Whether each entry of each journal is marked.
 fn are_full(sheets: &[Sheets]) -> bool
-    ensures { IsTrue result ↔ All (All (λ sheet. All (λ mark. mark ≡ true) sheet.marks)) sheets.now }
+    ensures { IsTrue result ↔ All (All (λ sheet. All (λ mark. mark ≡ true) sheet.marks))
+        sheets.now }
 {
     sheets.iter().all(|realm| realm.are_full())
 }

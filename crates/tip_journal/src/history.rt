@@ -40,7 +40,8 @@ impl<S: Drop, E: Drop> History<S, E> {
 
     /// The place of the journal of an epoch, if there is one.
     pub(crate) fn place_of(&self, epoch: u32) -> Option<usize>
-        ensures { MatchOption result ((place : ℕ) → ¬ IsOfEpoch self.now epoch place) (IsOfEpoch self.now epoch) }
+        ensures { MatchOption result ((place : ℕ) → ¬ IsOfEpoch self.now epoch place)
+            (IsOfEpoch self.now epoch) }
     {
         self.journals
             .iter()

@@ -20,7 +20,12 @@ impl<S, E> Model for Journal<S, E> {
 
     ghost Value = { Written S E };
 
-    ghost view = { λ j. record { epoch = j.epoch; start = j.start; entries = j.entries.items; free = vec_capacity j.entries - vec_len j.entries } };
+    ghost view = { λ j. record {
+      epoch = j.epoch;
+      start = j.start;
+      entries = j.entries.items;
+      free = vec_capacity j.entries - vec_len j.entries;
+    } };
 }
 
 impl<S: Drop, E: Drop> Journal<S, E> {

@@ -55,7 +55,8 @@ impl<S: Drop, E: Drop> Journals<S, E> {
 
     /// The place, among its realm's journals, of the one that an entry names, if there is one.
     pub(crate) fn place_of(&self, noted: &Noted<E>) -> Option<usize>
-        ensures named { MatchOption result ((place : ℕ) → ¬ Names self.now noted.now place) (Names self.now noted.now) }
+        ensures named { MatchOption result ((place : ℕ) → ¬ Names self.now noted.now place)
+            (Names self.now noted.now) }
         ensures histories { All IsHistory self.now }
     {
         let history = self.realms.get(noted.realm)?;

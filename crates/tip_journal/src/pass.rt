@@ -28,7 +28,10 @@ impl<E> Model for Pass<E> {
 
     ghost Value = { Held E };
 
-    ghost view = { λ p. record { noted = p.noted.items; free = vec_capacity p.noted - vec_len p.noted } };
+    ghost view = { λ p. record {
+      noted = p.noted.items;
+      free = vec_capacity p.noted - vec_len p.noted;
+    } };
 }
 
 impl<E: Drop> Pass<E> {

@@ -107,8 +107,10 @@ impl Sheets {
         pass: usize,
         noted: &Noted<E>,
     ) -> bool
-        requires { IsSomeAnd (slice_get self.old place) (λ sheet. length sheet.marks ≡ length journal.now.entries) }
-        ensures can { IsTrue result ↔ IsSomeAnd (slice_get self.old place) (CanMark journal.now.entries pass noted.now) }
+        requires { IsSomeAnd (slice_get self.old place)
+            (λ sheet. length sheet.marks ≡ length journal.now.entries) }
+        ensures can { IsTrue result ↔ IsSomeAnd (slice_get self.old place)
+            (CanMark journal.now.entries pass noted.now) }
         ensures new { IsTrue result → self.new ≡ changed_at place (marked pass noted.now) self.old }
     {
         let sheet = &mut self.sheets[place];

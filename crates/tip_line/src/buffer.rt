@@ -144,7 +144,8 @@ impl<A: Allocator> Buffer<A> {
         requires { IsReading self.old }
         ensures reading { IsReading self.new }
         ensures same { pending self.new ≡ pending self.old }
-        ensures room { IsWithin (pending self.old) → min wanted 1024 + vec_len self.new.octets ≤ vec_capacity self.new.octets }
+        ensures room { IsWithin (pending self.old) →
+            min wanted 1024 + vec_len self.new.octets ≤ vec_capacity self.new.octets }
         ensures memory { vec_capacity self.new.octets ≡ vec_capacity self.old.octets }
     {
         if self.room() < wanted && matches!(self.stop(), Stop::Open) {

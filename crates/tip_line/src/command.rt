@@ -151,9 +151,11 @@ impl Command {
     /// The command that a text is. Only the words that it keeps take memory.
     pub fn parse(alloc: Global, text: &[u8]) -> Result<Command, ParseFault>
         ensures read { IfOk result (λ command. IsCommand text.now command) }
-        ensures only { (command : Command) → IsCommand text.now command → (result ≡ Ok command) ⊎ (result ≡ Err Memory) }
+        ensures only { (command : Command) → IsCommand text.now command →
+            (result ≡ Ok command) ⊎ (result ≡ Err Memory) }
         ensures refused { IfErr result (Refuses text.now) }
-        ensures exactly { (fault : ParseFault) → fault ≢ Memory → Refuses text.now fault → result ≡ Err fault }
+        ensures exactly { (fault : ParseFault) → fault ≢ Memory → Refuses text.now fault →
+            result ≡ Err fault }
         ensures steps { Gives result (command_of text.now) }
     {
         Command::read(alloc, text)

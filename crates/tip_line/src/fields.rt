@@ -31,7 +31,8 @@ impl<'a, const MARK: u8> Fields<'a, MARK> {
 
     /// Takes the next field.
     pub fn next(&mut self) -> Option<&'a [u8]>
-        ensures { MatchOption result ((self.old ≡ []) × (self.new ≡ [])) (λ field. self.old ≡ field.now ∷ self.new) }
+        ensures { MatchOption result ((self.old ≡ []) × (self.new ≡ []))
+            (λ field. self.old ≡ field.now ∷ self.new) }
     {
         let rest = self.rest?;
         match first_mark(rest, MARK) {
@@ -49,7 +50,8 @@ impl<'a, const MARK: u8> Fields<'a, MARK> {
     /// All fields that are left, as one text with the marks between them; None behind the last.
     #[tactic(auto, using(crate::proofs::FieldLemmas::joined, crate::proofs::FieldLemmas::some_field))]
     pub fn rest(self) -> Option<&'a [u8]>
-        ensures some { IfSome result (λ rest. (rest.now ≡ join_with_byte MARK self.entry) × (self.entry ≡ fields_of MARK rest.now)) }
+        ensures some { IfSome result (λ rest. (rest.now ≡ join_with_byte MARK self.entry)
+            × (self.entry ≡ fields_of MARK rest.now)) }
         ensures none { result ≡ None → self.entry ≡ [] }
         ensures only { self.entry ≡ [] → result ≡ None }
     {

@@ -69,9 +69,12 @@ impl Id {
 
     /// What the identifier was made of, if a realm may have given it.
     pub fn parts(&self) -> Option<IdParts<'_>>
-        ensures given { IfSome result (λ parts. IsGiven self.now parts.realm.now parts.epoch parts.connection parts.number) }
-        ensures only { (realm : List ℕ) (epoch connection number : ℕ) → IsGiven self.now realm epoch connection number →
-            IsSomeAnd result (λ parts. (parts.realm.now ≡ realm) × (parts.epoch ≡ epoch) × (parts.connection ≡ connection) × (parts.number ≡ number)) }
+        ensures given { IfSome result
+            (λ parts. IsGiven self.now parts.realm.now parts.epoch parts.connection parts.number) }
+        ensures only { (realm : List ℕ) (epoch connection number : ℕ) →
+            IsGiven self.now realm epoch connection number →
+            IsSomeAnd result (λ parts. (parts.realm.now ≡ realm) × (parts.epoch ≡ epoch)
+            × (parts.connection ≡ connection) × (parts.number ≡ number)) }
     {
         let (realm, rest) = cut(self.as_str())?;
         let (epoch, rest) = cut(rest)?;
@@ -132,7 +135,8 @@ impl PartialEq for Id {
 /// What stands before the first dash of a text, and behind it.
 fn cut(text: &str) -> Option<(&str, &str)>
     ensures cut { IfSome result (λ parts. text.now ≡ parts.0.now ++ dash ∷ parts.1.now) }
-    ensures only { (front back : List ℕ) → has_no_dash front ≡ true → text.now ≡ front ++ dash ∷ back →
+    ensures only { (front back : List ℕ) → has_no_dash front ≡ true →
+        text.now ≡ front ++ dash ∷ back →
         IsSomeAnd result (λ parts. (parts.0.now ≡ front) × (parts.1.now ≡ back)) }
 {
     text.split_once('-')
@@ -141,7 +145,8 @@ fn cut(text: &str) -> Option<(&str, &str)>
 /// The number that a text says in decimal without leading zeros.
 pub fn number_of(text: &str) -> Option<u32>
     ensures said { IfSome result (λ number. (text.now ≡ decimal number) × (number < 2 ^ 32)) }
-    ensures only { (number : ℕ) → number < 2 ^ 32 → text.now ≡ decimal number → result ≡ Some number }
+    ensures only { (number : ℕ) → number < 2 ^ 32 → text.now ≡ decimal number →
+        result ≡ Some number }
     ensures steps { result ≡ number_in text.now }
 {
     match text.parse() {

@@ -10,7 +10,8 @@ ghost use Rattle.tip_line.specs.declared.response.Response.{Response};
 #[tactic(auto, using(crate::proofs::ReadingLaws::reads_items, crate::proofs::ReadingLaws::reads_one))]
 pub fn each_stream_gives_one_list()
     ensures some { (octets : List ℕ) → Reads octets (items_of octets) }
-    ensures one { (octets : List ℕ) (these those : List Item) → Reads octets these → Reads octets those → these ≡ those }
+    ensures one { (octets : List ℕ) (these those : List Item) → Reads octets these →
+        Reads octets those → these ≡ those }
 {}
 
 /// The printed spelling of a command is that command.
@@ -20,5 +21,6 @@ pub fn printed_commands_are_read()
 
 /// The printed spelling of a response is that response.
 pub fn printed_responses_are_read()
-    ensures { (r : Response) → response.CanBePrinted r → response.IsResponse (response.printed r) r }
+    ensures { (r : Response) → response.CanBePrinted r →
+        response.IsResponse (response.printed r) r }
 {}

@@ -75,7 +75,9 @@ impl<A: Allocator> Lines<A> {
 
     /// The next line that has come whole, or the fault that ends the stream, which stays.
     pub fn next(&mut self) -> Option<Line<'_>>
-        ensures* { sem 𝓛 (follows_so (the_row A.row A.Allocator) (the_row A.row A.Allocator) self.entry.ghost_name none (λ _ _. ⊤) (λ new. Gives self.old (option_map item_of result) new)) }
+        ensures* { sem 𝓛 (follows_so (the_row A.row A.Allocator) (the_row A.row A.Allocator)
+            self.entry.ghost_name none (λ _ _. ⊤)
+            (λ new. Gives self.old (option_map item_of result) new)) }
     {
         match self.buffer.find() {
             Found::Nothing => None,

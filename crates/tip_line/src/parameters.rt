@@ -12,8 +12,8 @@ use std::alloc::Global;
 
 /// Takes the next word, which must be there.
 pub fn required<'a>(words: &mut Words<'a>) -> Result<&'a [u8], ParseFault>
-    ensures { MatchResult result
-        (λ word. (words_of words.old.rest.now ≡ word.now ∷ words_of words.new.rest.now) × (is_word word.now ≡ true))
+    ensures { MatchResult result (λ word. (words_of words.old.rest.now
+        ≡ word.now ∷ words_of words.new.rest.now) × (is_word word.now ≡ true))
         (λ fault. (fault ≡ Missing) × (words_of words.old.rest.now ≡ [])) }
 {
     match words.next() {
@@ -49,7 +49,8 @@ pub fn id_of(alloc: Global, octets: &[u8]) -> Result<Id, ParseFault>
 /// Keeps a word that is an address, or `-` for none.
 pub fn address_of(alloc: Global, octets: &[u8]) -> Result<Option<Address>, ParseFault>
     requires { is_word octets.now ≡ true }
-    ensures { MatchResult result (λ address. address ≡ peer_of octets.now) (λ fault. fault ≡ Memory) }
+    ensures { MatchResult result (λ address. address ≡ peer_of octets.now)
+        (λ fault. fault ≡ Memory) }
 {
     match Address::new(alloc, octets) {
         Ok(address) => Ok(Some(address)),

@@ -189,9 +189,11 @@ impl Response {
     /// The response that a text is. Only the identifier that it keeps takes memory.
     pub fn parse(alloc: Global, text: &[u8]) -> Result<Response, ParseFault>
         ensures read { IfOk result (λ response. IsResponse text.now response) }
-        ensures only { (response : Response) → IsResponse text.now response → (result ≡ Ok response) ⊎ (result ≡ Err Memory) }
+        ensures only { (response : Response) → IsResponse text.now response →
+            (result ≡ Ok response) ⊎ (result ≡ Err Memory) }
         ensures refused { IfErr result (Refuses text.now) }
-        ensures exactly { (fault : ParseFault) → fault ≢ Memory → Refuses text.now fault → result ≡ Err fault }
+        ensures exactly { (fault : ParseFault) → fault ≢ Memory → Refuses text.now fault →
+            result ≡ Err fault }
         ensures steps { Gives result (response_of text.now) }
     {
         Response::read(alloc, text)

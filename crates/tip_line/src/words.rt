@@ -36,8 +36,9 @@ impl<'a> Words<'a> {
     /// Takes the next word.
     #[tactic(auto, using(crate::proofs::TextLemmas::word_taken))]
     pub fn next(&mut self) -> Option<&'a [u8]>
-        ensures { MatchOption result (words_of self.old.rest.now ≡ [])
-            (λ word. (words_of self.old.rest.now ≡ word.now ∷ words_of self.new.rest.now) × (is_word word.now ≡ true)) }
+        ensures { MatchOption result (words_of self.old.rest.now ≡ []) (λ word. (words_of
+            self.old.rest.now ≡ word.now ∷ words_of self.new.rest.now)
+            × (is_word word.now ≡ true)) }
     {
         let (word, rest) = first_word(self.rest)?;
         self.rest = rest;
@@ -48,8 +49,8 @@ impl<'a> Words<'a> {
 /// The first word of a text, and what stands behind it.
 
 fn first_word(text: &[u8]) -> Option<(&[u8], &[u8])>
-    ensures { MatchOption result (words_of text.now ≡ [])
-        (λ found. (words_of text.now ≡ found.0.now ∷ words_of found.1.now) × (length found.1.now < length text.now)) }
+    ensures { MatchOption result (words_of text.now ≡ []) (λ found. (words_of text.now
+        ≡ found.0.now ∷ words_of found.1.now) × (length found.1.now < length text.now)) }
 {
     let front = without_front(text);
     if front.is_empty() {

@@ -12,8 +12,10 @@ use tip_rows::{Key, Loaded, Row, RowLog};
 
 /// What is stored: each realm by name with its epoch, and then its rows by rising key, in version 2. Nothing stored changes.
 pub fn listed<L: RowLog>(alloc: Global, log: &mut L) -> Result<String, RowsFault>
-    ensures lists { (now : Log) → L.stands log.old now → L.is_true log.new → IfOk result (λ text. IsListing now (string_bytes text)) }
-    ensures fault { (now : Log) → L.stands log.old now → L.is_true log.new → IfErr result (Fails (HasBadRow now)) }
+    ensures lists { (now : Log) → L.stands log.old now → L.is_true log.new →
+        IfOk result (λ text. IsListing now (string_bytes text)) }
+    ensures fault { (now : Log) → L.stands log.old now → L.is_true log.new →
+        IfErr result (Fails (HasBadRow now)) }
     ensures stop { LeavesSame L.stands L.is_true L.may_leave log.old log.new }
     ensures same { (now : Log) → L.stands log.old now → L.stands log.new now }
     ensures truth { L.is_true log.new → L.is_true log.old }
@@ -25,8 +27,10 @@ pub fn listed<L: RowLog>(alloc: Global, log: &mut L) -> Result<String, RowsFault
 /// What is stored of each of these realms.
 #[tactic(auto, using(crate::proofs::Listings::lists_all))]
 fn list_all<L: RowLog>(alloc: Global, log: &mut L, names: &[Realm]) -> Result<String, RowsFault>
-    ensures lists { (now : Log) → L.stands log.old now → L.is_true log.new → IfOk result (λ text. ListsAll now names.now (string_bytes text)) }
-    ensures fault { (now : Log) → L.stands log.old now → L.is_true log.new → All (λ name. IsSome (now.epochs name)) names.now → IfErr result (Fails (HasBadRow now)) }
+    ensures lists { (now : Log) → L.stands log.old now → L.is_true log.new →
+        IfOk result (λ text. ListsAll now names.now (string_bytes text)) }
+    ensures fault { (now : Log) → L.stands log.old now → L.is_true log.new →
+        All (λ name. IsSome (now.epochs name)) names.now → IfErr result (Fails (HasBadRow now)) }
     ensures stop { LeavesSame L.stands L.is_true L.may_leave log.old log.new }
     ensures same { (now : Log) → L.stands log.old now → L.stands log.new now }
     ensures truth { L.is_true log.new → L.is_true log.old }
@@ -45,8 +49,10 @@ fn list_part<L: RowLog>(
     name: &Realm,
     text: &mut String,
 ) -> Result<(), RowsFault>
-    ensures lists { (now : Log) → L.stands log.old now → L.is_true log.new → OnOk result (ListsPart now name.now (string_bytes text.old) (string_bytes text.new)) }
-    ensures fault { (now : Log) → L.stands log.old now → L.is_true log.new → IfErr result (Fails (IsSpoiled now name.now)) }
+    ensures lists { (now : Log) → L.stands log.old now → L.is_true log.new →
+        OnOk result (ListsPart now name.now (string_bytes text.old) (string_bytes text.new)) }
+    ensures fault { (now : Log) → L.stands log.old now → L.is_true log.new →
+        IfErr result (Fails (IsSpoiled now name.now)) }
     ensures stop { LeavesSame L.stands L.is_true L.may_leave log.old log.new }
     ensures same { (now : Log) → L.stands log.old now → L.stands log.new now }
     ensures truth { L.is_true log.new → L.is_true log.old }
@@ -62,7 +68,8 @@ fn print_part(
     loaded: &Loaded,
     text: &mut String,
 ) -> Result<(), AllocError>
-    ensures { OnOk result (string_bytes text.new ≡ string_bytes text.old ++ part_text name.now loaded.now.epoch loaded.now.rows.items) }
+    ensures { OnOk result (string_bytes text.new
+        ≡ string_bytes text.old ++ part_text name.now loaded.now.epoch loaded.now.rows.items) }
 {
     writeln!(text, "epoch {} {}", name.as_str(), loaded.epoch)?;
     print_rows(alloc, name, &loaded.rows, text)
@@ -74,7 +81,8 @@ fn print_rows(
     rows: &[(Key, Row)],
     text: &mut String,
 ) -> Result<(), AllocError>
-    ensures { OnOk result (string_bytes text.new ≡ string_bytes text.old ++ flat_map (row_text name.now) rows.now) }
+    ensures { OnOk result
+        (string_bytes text.new ≡ string_bytes text.old ++ flat_map (row_text name.now) rows.now) }
 {
     for entry in rows {
         print_row(alloc, name, entry, text)?;
@@ -88,7 +96,8 @@ fn print_row(
     entry: &(Key, Row),
     text: &mut String,
 ) -> Result<(), AllocError>
-    ensures { OnOk result (string_bytes text.new ≡ string_bytes text.old ++ row_text name.now entry.now) }
+    ensures { OnOk result
+        (string_bytes text.new ≡ string_bytes text.old ++ row_text name.now entry.now) }
 {
     let (key, row) = entry;
     let id = Id::of(alloc, name, key.epoch(), key.connection(), key.number())?;

@@ -16,7 +16,8 @@ pub fn rows<L: RowLog, W: Write>(
     log: &mut L,
     output: &mut W,
 ) -> Result<(), RowsFault>
-    ensures writes { (now : Log) → L.stands log.old now → L.is_true log.new → Writes now (W.contents output.old) (W.contents output.new) result }
+    ensures writes { (now : Log) → L.stands log.old now → L.is_true log.new →
+        Writes now (W.contents output.old) (W.contents output.new) result }
     ensures same { (now : Log) → L.stands log.old now → L.stands log.new now }
     ensures stop { LeavesSame L.stands L.is_true L.may_leave log.old log.new }
     ensures truth { L.is_true log.new → L.is_true log.old }

@@ -32,12 +32,20 @@ pub fn nothing_is_half_committed()
 /// Each sentence of agreement refuses the runs that it is there to refuse.
 pub fn false_twins_are_refused()
     ensures one { is_one (codes "north") id (forged told_both (trace_of late)) ≡ false }
-    ensures backed { at_each (is_backed (codes "north") id (fresh late.head)) (forged never_stored (trace_of late)) ≡ false }
-    ensures kept_to_branches { at_each (is_kept (codes "north") id (fresh late.head)) (forged never_done (trace_of late)) ≡ false }
-    ensures kept_to_subordinates { at_each (is_kept (codes "north") id (fresh two_parts.head)) (unheard_at 13 (trace_of two_parts)) ≡ false }
-    ensures kept_to_who_asks { at_each (is_kept (codes "north") id (fresh two_parts.head)) (forged denied (trace_of two_parts)) ≡ false }
-    ensures asked_of_branches { at_each (is_asked (codes "north") id (fresh late.head)) (forged never_voted (trace_of late)) ≡ false }
-    ensures asked_of_parts { at_each (is_asked (codes "north") id (fresh two_parts.head)) (unheard_at 11 (trace_of two_parts)) ≡ false }
-    ensures asked_without_a_no { at_each (is_asked (codes "north") id (fresh one_part_says_no.head)) (forged told_to_commit (trace_of one_part_says_no)) ≡ false }
-    ensures asked_without_a_loss { at_each (is_asked (codes "north") id (fresh part_lost.head)) (forged told_to_commit (trace_of part_lost)) ≡ false }
+    ensures backed { at_each (is_backed (codes "north") id (fresh late.head))
+        (forged never_stored (trace_of late)) ≡ false }
+    ensures kept_to_branches { at_each (is_kept (codes "north") id (fresh late.head))
+        (forged never_done (trace_of late)) ≡ false }
+    ensures kept_to_subordinates { at_each (is_kept (codes "north") id (fresh two_parts.head))
+        (unheard_at 13 (trace_of two_parts)) ≡ false }
+    ensures kept_to_who_asks { at_each (is_kept (codes "north") id (fresh two_parts.head))
+        (forged denied (trace_of two_parts)) ≡ false }
+    ensures asked_of_branches { at_each (is_asked (codes "north") id (fresh late.head))
+        (forged never_voted (trace_of late)) ≡ false }
+    ensures asked_of_parts { at_each (is_asked (codes "north") id (fresh two_parts.head))
+        (unheard_at 11 (trace_of two_parts)) ≡ false }
+    ensures asked_without_a_no { at_each (is_asked (codes "north") id (fresh one_part_says_no.head))
+        (forged told_to_commit (trace_of one_part_says_no)) ≡ false }
+    ensures asked_without_a_loss { at_each (is_asked (codes "north") id (fresh part_lost.head))
+        (forged told_to_commit (trace_of part_lost)) ≡ false }
 {}

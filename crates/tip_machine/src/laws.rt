@@ -33,30 +33,40 @@ ghost use Rattle.tip_machine.specs.declared.head.Head.{Head};
 /// wanted.
 #[tactic(auto, using(crate::proofs::Stepping::quiet, crate::proofs::Stepping::silent, crate::proofs::Stepping::wants_none))]
 pub fn a_refusal_changes_the_entries_alone()
-    ensures state { (state : State) (event : Event) (outcome : Outcome) → IsSome (step state event outcome).answer.refusal →
+    ensures state { (state : State) (event : Event) (outcome : Outcome) →
+        IsSome (step state event outcome).answer.refusal →
         ChangesTheEntriesAlone state (step state event outcome).state }
-    ensures silent { (state : State) (event : Event) (outcome : Outcome) → IsSome (step state event outcome).answer.refusal →
-        ((step state event outcome).answer.sent ≡ []) × ((step state event outcome).answer.work ≡ None) }
-    ensures unwanted { (state : State) (event : Event) (outcome : Outcome) → IsSome (step state event outcome).answer.refusal → wants state event ≡ None }
+    ensures silent { (state : State) (event : Event) (outcome : Outcome) →
+        IsSome (step state event outcome).answer.refusal →
+        ((step state event outcome).answer.sent ≡ [])
+        × ((step state event outcome).answer.work ≡ None) }
+    ensures unwanted { (state : State) (event : Event) (outcome : Outcome) →
+        IsSome (step state event outcome).answer.refusal → wants state event ≡ None }
 {}
 
 /// A new connection has the next number of its start, the count of numbers never falls, and numbers rise in the order made.
 #[tactic(auto, using(crate::proofs::Stepping::numbered, crate::proofs::Stepping::rising))]
 pub fn numbers_of_connections_rise()
-    ensures numbered { (state : State) (event : Event) (outcome : Outcome) (seat : Seat) → (step state event outcome).answer.opened ≡ Some seat →
+    ensures numbered { (state : State) (event : Event) (outcome : Outcome) (seat : Seat) →
+        (step state event outcome).answer.opened ≡ Some seat →
         IsNext state seat × ((step state event outcome).state.head.given ≡ seat.number) }
-    ensures rising { (state : State) (event : Event) (outcome : Outcome) → state.head.given ≤ (step state event outcome).state.head.given }
+    ensures rising { (state : State) (event : Event) (outcome : Outcome) →
+        state.head.given ≤ (step state event outcome).state.head.given }
     ensures none { (state : State) → state.connections ≡ [] → are_numbered state ≡ true }
-    ensures stays { (state : State) (event : Event) (outcome : Outcome) → are_numbered state ≡ true → are_numbered (step state event outcome).state ≡ true }
+    ensures stays { (state : State) (event : Event) (outcome : Outcome) →
+        are_numbered state ≡ true → are_numbered (step state event outcome).state ≡ true }
 {}
 
 /// A realm's counts stay below its entries: an event takes one, gives at most one connection, and makes at most one transaction.
 /// So once an event has its entry, no more transactions were made on any connection than there were entries before.
 #[tactic(auto, using(crate::proofs::Counting::counts_start, crate::proofs::Counting::counts_stay, crate::proofs::Counting::entered_below))]
 pub fn counts_stay_below_the_entries()
-    ensures start { (head : Head) → 0 < head.epoch → head.given ≤ head.entries → HasCounts (started head) }
-    ensures stays { (state : State) (event : Event) (outcome : Outcome) → HasCounts state → HasCounts (step state event outcome).state }
-    ensures entered { (number : ℕ) (state : State) (connection : Connection) → HasCounts state → connection_of number (entered state).state ≡ Some connection →
+    ensures start { (head : Head) → 0 < head.epoch → head.given ≤ head.entries →
+        HasCounts (started head) }
+    ensures stays { (state : State) (event : Event) (outcome : Outcome) → HasCounts state →
+        HasCounts (step state event outcome).state }
+    ensures entered { (number : ℕ) (state : State) (connection : Connection) → HasCounts state →
+        connection_of number (entered state).state ≡ Some connection →
         (connection.made < (entered state).state.head.entries) × (0 < connection.number) }
 {}
 
@@ -65,50 +75,75 @@ pub fn counts_stay_below_the_entries()
 /// removed are of that transaction.
 #[tactic(auto, using(crate::proofs::Others::touches))]
 pub fn at_most_one_transaction_changes()
-    ensures { (state : State) (event : Event) (outcome : Outcome) → (key : Key) ×
-        TouchesOne key event state (step state event outcome).state × TellsOfOne key event state (step state event outcome).answer.sent × SendsOne key state (step state event outcome).answer × IsOfKey key (wants state event) outcome }
+    ensures { (state : State) (event : Event) (outcome : Outcome) →
+        (key : Key) × TouchesOne key event state (step state event outcome).state
+        × TellsOfOne key event state (step state event outcome).answer.sent
+        × SendsOne key state (step state event outcome).answer
+        × IsOfKey key (wants state event) outcome }
 {}
 
 /// An identifier is never made twice: a new transaction has a key that was not given before, that is given then, and that
 /// stays so wherever moves lead, over restarts and renewals too, and in each state of a later epoch.
 #[tactic(auto, using(crate::proofs::Identifiers::new_was_not_given, crate::proofs::Identifiers::new_is_given, crate::proofs::Identifiers::given_later, crate::proofs::Making::led_given))]
 pub fn an_identifier_is_never_made_twice()
-    ensures new { (state : State) (event : Event) (outcome : Outcome) (key : Key) → transaction_of key state ≡ None → IsSome (transaction_of key (step state event outcome).state) →
-        was_given state key ≡ false }
-    ensures given { (state : State) (event : Event) (outcome : Outcome) (key : Key) → are_numbered state ≡ true → transaction_of key state ≡ None → IsSome (transaction_of key (step state event outcome).state) →
+    ensures new { (state : State) (event : Event) (outcome : Outcome) (key : Key) →
+        transaction_of key state ≡ None →
+        IsSome (transaction_of key (step state event outcome).state) → was_given state key ≡ false }
+    ensures given { (state : State) (event : Event) (outcome : Outcome) (key : Key) →
+        are_numbered state ≡ true → transaction_of key state ≡ None →
+        IsSome (transaction_of key (step state event outcome).state) →
         was_given (step state event outcome).state key ≡ true }
-    ensures stays { (world : World) (moves : List Move) (key : Key) → was_given world.state key ≡ true → was_given (led_to world moves).state key ≡ true }
-    ensures later { (old new : State) (key : Key) → old.head.epoch < new.head.epoch → was_given old key ≡ true → was_given new key ≡ true }
+    ensures stays { (world : World) (moves : List Move) (key : Key) →
+        was_given world.state key ≡ true → was_given (led_to world moves).state key ≡ true }
+    ensures later { (old new : State) (key : Key) → old.head.epoch < new.head.epoch →
+        was_given old key ≡ true → was_given new key ≡ true }
 {}
 
 /// The decision that the machine computes is the decision of two-phase commit over the set of answers.
 #[tactic(auto, using(crate::proofs::Deciding::decides))]
 pub fn the_decision_is_that_of_two_phase_commit()
-    ensures { (parts : List Participant) → Decides (answers_of parts) (decision (map (λ part. part.answer) parts)) }
+    ensures { (parts : List Participant) →
+        Decides (answers_of parts) (decision (map (λ part. part.answer) parts)) }
 {}
 
 /// An identifier that a realm gives is of one realm and of one transaction there: no two spell the same.
 pub fn an_identifier_is_of_one_realm_and_transaction()
-    ensures { (text this that : List ℕ) (epoch connection number epoch' connection' number' : ℕ) → IsGiven text this epoch connection number → IsGiven text that epoch' connection' number' →
+    ensures { (text this that : List ℕ) (epoch connection number epoch' connection' number' : ℕ) →
+        IsGiven text this epoch connection number → IsGiven text that epoch' connection' number' →
         (this ≡ that) × (epoch ≡ epoch') × (connection ≡ connection') × (number ≡ number') }
 {}
 
 /// A party that is computed from what its branches answer comes back as its errand leaves it.
 #[tactic(auto, using(crate::proofs::Returning::comes_back))]
 pub fn a_party_comes_back_as_its_errand_leaves_it()
-    ensures { (party : PartyNotes) (back : Back) → All (λ m. m.call ≡ None) party.members → can_answer party.errand back party.members ≡ true → is_done back ≡ true → ComesBack party (back_of party back) }
+    ensures { (party : PartyNotes) (back : Back) → All (λ m. m.call ≡ None) party.members →
+        can_answer party.errand back party.members ≡ true → is_done back ≡ true →
+        ComesBack party (back_of party back) }
 {}
 
 /// A transaction that is aborted is answered as one that never was: presumed abort.
 #[tactic(auto, using(crate::proofs::Forgotten::queried, crate::proofs::Forgotten::pulled, crate::proofs::Forgotten::reconnected, crate::proofs::Forgotten::pushed, crate::proofs::Forgotten::resumed, crate::proofs::Forgotten::dialled_to_ask, crate::proofs::Forgotten::dialled_to_reconnect))]
 pub fn an_aborted_transaction_is_as_one_that_never_was()
-    ensures query { (id : List ℕ) (connection : Connection) (work : Work) → IsForgotten id work.state → query id connection work ≡ reply connection.number command.Query said.QueriedNotFound work }
-    ensures pull { (id subordinate : List ℕ) (connection : Connection) (work : Work) → IsForgotten id work.state → pull id subordinate connection work ≡ reply connection.number command.Pull said.NotPulled work }
-    ensures reconnect { (id : List ℕ) (connection : Connection) (work : Work) → IsForgotten id work.state → reconnect id connection work ≡ reply connection.number command.Reconnect said.NotReconnected work }
-    ensures push { (id : List ℕ) (peer : Option (List ℕ)) (number : ℕ) (work : Work) → IsForgotten id work.state → push_part (identified_by id work.state) peer number work ≡ refuse NotActive work }
-    ensures resume { (id : List ℕ) (work : Work) → IsForgotten id work.state → resume (identified_by id work.state) work ≡ resume None work }
-    ensures dial_to_query { (id : List ℕ) (connection : Connection) (work : Work) → IsForgotten id work.state → pursue (purpose.Query id) connection work ≡ closed connection work }
-    ensures dial_to_reconnect { (id : List ℕ) (place : ℕ) (connection : Connection) (work : Work) → IsForgotten id work.state → pursue (purpose.Reconnect id place) connection work ≡ closed connection work }
+    ensures query { (id : List ℕ) (connection : Connection) (work : Work) →
+        IsForgotten id work.state →
+        query id connection work ≡ reply connection.number command.Query said.QueriedNotFound work }
+    ensures pull { (id subordinate : List ℕ) (connection : Connection) (work : Work) →
+        IsForgotten id work.state → pull id subordinate connection work
+        ≡ reply connection.number command.Pull said.NotPulled work }
+    ensures reconnect { (id : List ℕ) (connection : Connection) (work : Work) →
+        IsForgotten id work.state → reconnect id connection work
+        ≡ reply connection.number command.Reconnect said.NotReconnected work }
+    ensures push { (id : List ℕ) (peer : Option (List ℕ)) (number : ℕ) (work : Work) →
+        IsForgotten id work.state →
+        push_part (identified_by id work.state) peer number work ≡ refuse NotActive work }
+    ensures resume { (id : List ℕ) (work : Work) → IsForgotten id work.state →
+        resume (identified_by id work.state) work ≡ resume None work }
+    ensures dial_to_query { (id : List ℕ) (connection : Connection) (work : Work) →
+        IsForgotten id work.state →
+        pursue (purpose.Query id) connection work ≡ closed connection work }
+    ensures dial_to_reconnect { (id : List ℕ) (place : ℕ) (connection : Connection) (work : Work) →
+        IsForgotten id work.state →
+        pursue (purpose.Reconnect id place) connection work ≡ closed connection work }
 {}
 
 /// A realm that has stored nothing starts, whatever it declares that it may.

@@ -29,7 +29,8 @@ pub fn play<R: BufRead, W: Write>(
     input: &mut R,
     output: &mut W,
 ) -> Result<(), PlayFault>
-    ensures { IfSome (R.remaining input.old) (λ script. Transcribes in_memory script (R.remaining input.new) (W.contents output.old) (W.contents output.new) result) }
+    ensures { IfSome (R.remaining input.old) (λ script. Transcribes in_memory script
+        (R.remaining input.new) (W.contents output.old) (W.contents output.new) result) }
 {
     ended(play_over(alloc, MemRows::new(alloc), &ByScript, input, output))
 }
@@ -54,8 +55,11 @@ pub fn play_on<S: RowLog + Drop, R: BufRead, W: Write>(
     output: &mut W,
 ) -> Result<S, (PlayFault, Option<S>)>
     ensures truth { Trusts (keeping S.stands S.is_true S.is_due) store (λ left. left) result }
-    ensures transcribes { (basis : Basis) → basis.may_refuse ≡ false → IsBasis (keeping S.stands S.is_true S.is_due) basis store →
-        IfSome (R.remaining input.old) (λ script. TranscribesOn (keeping S.stands S.is_true S.is_due) basis script (R.remaining input.new) (W.contents output.old) (W.contents output.new) result) }
+    ensures transcribes { (basis : Basis) → basis.may_refuse ≡ false →
+        IsBasis (keeping S.stands S.is_true S.is_due) basis store →
+        IfSome (R.remaining input.old) (λ script. TranscribesOn
+        (keeping S.stands S.is_true S.is_due) basis script (R.remaining input.new)
+        (W.contents output.old) (W.contents output.new) result) }
 {
     play_over(alloc, store, &ByItself, input, output)
 }
@@ -69,8 +73,11 @@ fn play_over<S: RowLog + Drop, F: Refuser<S>, R: BufRead, W: Write>(
     output: &mut W,
 ) -> Result<S, (PlayFault, Option<S>)>
     ensures truth { Trusts (keeping S.stands S.is_true S.is_due) store (λ left. left) result }
-    ensures transcribes { (basis : Basis) → basis.may_refuse ≡ F.may → IsBasis (keeping S.stands S.is_true S.is_due) basis store →
-        IfSome (R.remaining input.old) (λ script. TranscribesOn (keeping S.stands S.is_true S.is_due) basis script (R.remaining input.new) (W.contents output.old) (W.contents output.new) result) }
+    ensures transcribes { (basis : Basis) → basis.may_refuse ≡ F.may →
+        IsBasis (keeping S.stands S.is_true S.is_due) basis store →
+        IfSome (R.remaining input.old) (λ script. TranscribesOn
+        (keeping S.stands S.is_true S.is_due) basis script (R.remaining input.new)
+        (W.contents output.old) (W.contents output.new) result) }
 {
     let end = play_lines(alloc, store, refuser, input, output);
     match output.flush() {
@@ -101,8 +108,11 @@ fn play_lines<S: RowLog + Drop, F: Refuser<S>, R: BufRead, W: Write>(
     output: &mut W,
 ) -> Result<S, (PlayFault, Option<S>)>
     ensures truth { Trusts (keeping S.stands S.is_true S.is_due) store (λ left. left) result }
-    ensures transcribes { (basis : Basis) → basis.may_refuse ≡ F.may → IsBasis (keeping S.stands S.is_true S.is_due) basis store →
-        IfSome (R.remaining input.old) (λ script. TranscribesOn (keeping S.stands S.is_true S.is_due) basis script (R.remaining input.new) (W.contents output.old) (W.contents output.new) result) }
+    ensures transcribes { (basis : Basis) → basis.may_refuse ≡ F.may →
+        IsBasis (keeping S.stands S.is_true S.is_due) basis store →
+        IfSome (R.remaining input.old) (λ script. TranscribesOn
+        (keeping S.stands S.is_true S.is_due) basis script (R.remaining input.new)
+        (W.contents output.old) (W.contents output.new) result) }
 {
     let Ok(mut line) = ScriptLine::new(alloc) else {
         return Err((PlayFault::Memory, Some(store)));
@@ -169,8 +179,11 @@ fn next<S: RowLog + Drop, R: BufRead>(
     input: &mut R,
 ) -> Result<Coming, PlayFault>
     ensures truth { S.is_true (store_of stage.new) → S.is_true (store_of stage.old) }
-    ensures stands { (basis : Basis) (now : AStage) → IsStage (keeping S.stands S.is_true S.is_due) basis stage.old now → IsStage (keeping S.stands S.is_true S.is_due) basis stage.new now }
-    ensures coming { HasCome (R.remaining input.old) (R.remaining input.new) number is_over line.new.octets.items result }
+    ensures stands { (basis : Basis) (now : AStage) →
+        IsStage (keeping S.stands S.is_true S.is_due) basis stage.old now →
+        IsStage (keeping S.stands S.is_true S.is_due) basis stage.new now }
+    ensures coming { HasCome (R.remaining input.old) (R.remaining input.new) number is_over
+        line.new.octets.items result }
 {
     if is_over {
         let willing = stage.wanted_at_start()?;
@@ -222,8 +235,11 @@ fn act<S: RowLog + Drop, F: Refuser<S>, W: Write>(
     output: &mut W,
 ) -> Result<Stage<Declared<S>, Playing<Host<S>>>, (PlayFault, Option<S>)>
     ensures truth { Trusts (keeping S.stands S.is_true S.is_due) (store_of stage) store_of result }
-    ensures acts { (basis : Basis) (now : AStage) → basis.may_refuse ≡ F.may → IsStage (keeping S.stands S.is_true S.is_due) basis stage now → ComeWith (move_of line.now) (map standing boxes.items) →
-        ActsOn (keeping S.stands S.is_true S.is_due) basis number (acted basis now line.now) (W.contents output.old) (W.contents output.new) result }
+    ensures acts { (basis : Basis) (now : AStage) → basis.may_refuse ≡ F.may →
+        IsStage (keeping S.stands S.is_true S.is_due) basis stage now →
+        ComeWith (move_of line.now) (map standing boxes.items) →
+        ActsOn (keeping S.stands S.is_true S.is_due) basis number (acted basis now line.now)
+        (W.contents output.old) (W.contents output.new) result }
 {
     printed.clear();
     match stage.act(alloc, refuser, line, boxes, pool, printed) {
@@ -248,8 +264,12 @@ fn finish<S: RowLog + Drop, W: Write>(
     printed: &mut String,
     output: &mut W,
 ) -> Result<S, (PlayFault, Option<S>)>
-    ensures truth { Trusts (keeping S.stands S.is_true S.is_due) (store_of stage) (λ store. store) result }
-    ensures closes { (basis : Basis) (now : AStage) → IsStage (keeping S.stands S.is_true S.is_due) basis stage now → ClosesOn (keeping S.stands S.is_true S.is_due) (closing_of basis now) (W.contents output.old) (W.contents output.new) result }
+    ensures truth { Trusts (keeping S.stands S.is_true S.is_due) (store_of stage) (λ store. store)
+        result }
+    ensures closes { (basis : Basis) (now : AStage) →
+        IsStage (keeping S.stands S.is_true S.is_due) basis stage now →
+        ClosesOn (keeping S.stands S.is_true S.is_due) (closing_of basis now)
+        (W.contents output.old) (W.contents output.new) result }
 {
     printed.clear();
     match stage.finish(alloc, pool, printed) {

@@ -40,7 +40,11 @@ impl Recovery {
         rows: Vec<Unfinished>,
     ) -> Result<Recovery, AllocError>
         requires { rows.items ≡ [] }
-        ensures { IfOk result (λ recovery. recovery ≡ record { realm = realm; epoch = loaded.epoch; rows = map (unadopted realm) loaded.rows.items }) }
+        ensures { IfOk result (λ recovery. recovery ≡ record {
+          realm = realm;
+          epoch = loaded.epoch;
+          rows = map (unadopted realm) loaded.rows.items;
+        }) }
     {
         let Loaded {
             epoch,
@@ -76,8 +80,10 @@ impl Recovery {
     /// stays.
     pub fn adopt(&mut self, id: &Id, boxes: HeldPrepared) -> Result<(), (AdoptFault, HeldPrepared)>
         requires { Always }
-        ensures ok { OnOk result ((refusal_of id.now boxes self.old.rows ≡ None) × (self.new ≡ adopted_for id.now boxes self.old)) }
-        ensures err { IfErr result (λ fault. (refusal_of id.now boxes self.old.rows ≡ Some fault.0) × (fault.1 ≡ boxes)) }
+        ensures ok { OnOk result ((refusal_of id.now boxes self.old.rows ≡ None)
+            × (self.new ≡ adopted_for id.now boxes self.old)) }
+        ensures err { IfErr result
+            (λ fault. (refusal_of id.now boxes self.old.rows ≡ Some fault.0) × (fault.1 ≡ boxes)) }
         ensures same { OnErr result (self.new ≡ self.old) }
     {
         adopt_in(&mut self.rows, id, boxes)
@@ -171,8 +177,10 @@ fn adopt_in(
     boxes: HeldPrepared,
 ) -> Result<(), (AdoptFault, HeldPrepared)>
     requires { Always }
-    ensures ok { OnOk result ((refusal_of id.now boxes rows.old.items ≡ None) × (rows.new.items ≡ changed (is_named id.now) (adopting boxes) rows.old.items)) }
-    ensures err { IfErr result (λ fault. (refusal_of id.now boxes rows.old.items ≡ Some fault.0) × (fault.1 ≡ boxes)) }
+    ensures ok { OnOk result ((refusal_of id.now boxes rows.old.items ≡ None)
+        × (rows.new.items ≡ changed (is_named id.now) (adopting boxes) rows.old.items)) }
+    ensures err { IfErr result
+        (λ fault. (refusal_of id.now boxes rows.old.items ≡ Some fault.0) × (fault.1 ≡ boxes)) }
     ensures same { OnErr result (rows.new.items ≡ rows.old.items) }
 {
     match find(rows, id) {
@@ -232,7 +240,8 @@ fn take_all(rows: &mut Vec<Unfinished>, earlier: Vec<Unfinished>)
 
 /// The place of the row of an identifier.
 fn find(rows: &[Unfinished], id: &Id) -> Option<usize>
-    ensures { MatchOption result (find (is_named id.now) rows.now ≡ None) (IsFirst (is_named id.now) rows.now) }
+    ensures { MatchOption result (find (is_named id.now) rows.now ≡ None)
+        (IsFirst (is_named id.now) rows.now) }
 {
     for place in 0..rows.len() {
         if rows[place].is_named(id) {

@@ -48,7 +48,9 @@ impl Model for Unfinished {
 
     ghost view = { λ u. record { realm = u.realm; key = u.key; row = u.row; boxes = u.boxes } };
 
-    ghost invariant = { λ u. IsReady (record { realm = u.realm; key = u.key; row = u.row; boxes = u.boxes }) u.id u.numbers.items u.txn };
+    ghost invariant = { λ u. IsReady
+        (record { realm = u.realm; key = u.key; row = u.row; boxes = u.boxes }) u.id u.numbers.items
+        u.txn };
 }
 
 impl Unfinished {
@@ -126,8 +128,10 @@ impl Unfinished {
     /// These boxes are adopted for its branches, in their order; else they come back, and it stays.
     pub fn adopt(&mut self, boxes: HeldPrepared) -> Result<(), (AdoptFault, HeldPrepared)>
         requires { Always }
-        ensures ok { OnOk result ((fault_of boxes self.old ≡ None) × (self.new ≡ adopting boxes self.old)) }
-        ensures err { IfErr result (λ fault. (fault_of boxes self.old ≡ Some fault.0) × (fault.1 ≡ boxes)) }
+        ensures ok { OnOk result
+            ((fault_of boxes self.old ≡ None) × (self.new ≡ adopting boxes self.old)) }
+        ensures err { IfErr result
+            (λ fault. (fault_of boxes self.old ≡ Some fault.0) × (fault.1 ≡ boxes)) }
         ensures same { OnErr result (self.new ≡ self.old) }
     {
         if !self.waits() {
@@ -174,7 +178,8 @@ impl Unfinished {
     /// Its transaction, in a realm that starts in this epoch.
     pub fn reopen(self, epoch: u32) -> Transaction
         requires { waits self ≡ false }
-        ensures { (head : Head) → head.name ≡ self.realm → head.epoch ≡ epoch → seen result ≡ reopened head (loaded self).key (loaded self).boxes (loaded self).row }
+        ensures { (head : Head) → head.name ≡ self.realm → head.epoch ≡ epoch →
+            seen result ≡ reopened head (loaded self).key (loaded self).boxes (loaded self).row }
     {
         let Unfinished {
             realm,

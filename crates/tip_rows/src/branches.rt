@@ -29,7 +29,8 @@ impl<A: Allocator> Branches<A> {
     pub fn new(items: Vec<(u8, Label), A>) -> Result<Branches<A>, Vec<(u8, Label), A>>
         ensures ok { IfOk result (λ branches. branches ≡ items.items) }
         ensures good { OnOk result (are_branches items.items ≡ true) }
-        ensures bad { IfErr result (λ back. (back.items ≡ items.items) × (are_branches items.items ≡ false)) }
+        ensures bad { IfErr result
+            (λ back. (back.items ≡ items.items) × (are_branches items.items ≡ false)) }
     {
         if are_branches(&items) {
             Ok(Branches { items })

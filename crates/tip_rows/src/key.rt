@@ -20,15 +20,22 @@ impl Model for Key {
 
     ghost view = { λ k. record { epoch = k.epoch; connection = k.connection; number = k.number } };
 
-    ghost invariant = { λ k. IsKey (record { epoch = k.epoch; connection = k.connection; number = k.number }) };
+    ghost invariant = { λ k. IsKey
+        (record { epoch = k.epoch; connection = k.connection; number = k.number }) };
 
-    ghost inverse = { λ p. record { epoch = p.epoch; connection = p.connection; number = p.number } };
+    ghost inverse = { λ p. record {
+      epoch = p.epoch;
+      connection = p.connection;
+      number = p.number;
+    } };
 }
 
 impl Key {
     /// The key of three numbers; None where one is 0.
     pub fn new(epoch: u32, connection: u32, number: u32) -> Option<Key>
-        ensures { SomeIff result (IsKey (record { epoch = epoch; connection = connection; number = number })) (record { epoch = epoch; connection = connection; number = number }) }
+        ensures { SomeIff result
+            (IsKey (record { epoch = epoch; connection = connection; number = number }))
+            (record { epoch = epoch; connection = connection; number = number }) }
     {
         if epoch == 0 || connection == 0 || number == 0 {
             return None;
@@ -42,7 +49,15 @@ impl Key {
 
     /// The key of the transaction that has an identifier of these parts; None where a number is 0.
     pub fn of(parts: IdParts) -> Option<Key>
-        ensures { SomeIff result (IsKey (record { epoch = parts.entry.epoch; connection = parts.entry.connection; number = parts.entry.number })) (record { epoch = parts.entry.epoch; connection = parts.entry.connection; number = parts.entry.number }) }
+        ensures { SomeIff result (IsKey (record {
+          epoch = parts.entry.epoch;
+          connection = parts.entry.connection;
+          number = parts.entry.number;
+        })) (record {
+          epoch = parts.entry.epoch;
+          connection = parts.entry.connection;
+          number = parts.entry.number;
+        }) }
     {
         Key::new(parts.epoch, parts.connection, parts.number)
     }

@@ -73,13 +73,16 @@ pub trait RowLog {
         ensures truth { is_true self.new → is_true self.old }
         ensures stop { LeavesOne stands is_true may_leave (with_known realm.now) self.old self.new }
         ensures settled { is_true self.new → OnOk result (IsSettled stands may_leave self.new) }
-        ensures due { (log : Log) → stands self.old log → (r : List ℕ) → is_due self.new r ≡ is_due self.old r };
+        ensures due { (log : Log) → stands self.old log → (r : List ℕ) →
+            is_due self.new r ≡ is_due self.old r };
 
     /// Raises the epoch of every known realm by one, in one change.
     fn raise_epochs(&mut self) -> Result<(), RaiseFault>
         ensures stands { Stands stands with_all_raised self.old self.new result }
-        ensures end { (log : Log) → stands self.old log → is_true self.new → result ≡ Err RaiseFault.EpochEnd → (realm : List ℕ) × IsAtEnd log realm }
-        ensures no_end { (log : Log) → stands self.old log → is_true self.new → OnOk result ((realm : List ℕ) → ¬ IsAtEnd log realm) }
+        ensures end { (log : Log) → stands self.old log → is_true self.new →
+            result ≡ Err RaiseFault.EpochEnd → (realm : List ℕ) × IsAtEnd log realm }
+        ensures no_end { (log : Log) → stands self.old log → is_true self.new →
+            OnOk result ((realm : List ℕ) → ¬ IsAtEnd log realm) }
         ensures counts { faults self.new ≡ counted (is_refused_raise result) (faults self.old) }
         ensures truth { is_true self.new → is_true self.old }
         ensures stop { LeavesOne stands is_true may_leave with_all_raised self.old self.new }
@@ -89,11 +92,14 @@ pub trait RowLog {
     /// Raises the epoch of one realm by one; nothing changes where it is not known.
     fn raise_epoch(&mut self, realm: &Realm) -> Result<(), RaiseFault>
         ensures stands { Stands stands (with_raised realm.now) self.old self.new result }
-        ensures end { (log : Log) → stands self.old log → is_true self.new → result ≡ Err RaiseFault.EpochEnd → IsAtEnd log realm.now }
-        ensures no_end { (log : Log) → stands self.old log → is_true self.new → OnOk result (¬ IsAtEnd log realm.now) }
+        ensures end { (log : Log) → stands self.old log → is_true self.new →
+            result ≡ Err RaiseFault.EpochEnd → IsAtEnd log realm.now }
+        ensures no_end { (log : Log) → stands self.old log → is_true self.new →
+            OnOk result (¬ IsAtEnd log realm.now) }
         ensures counts { faults self.new ≡ counted (is_refused_raise result) (faults self.old) }
         ensures truth { is_true self.new → is_true self.old }
-        ensures stop { LeavesOne stands is_true may_leave (with_raised realm.now) self.old self.new }
+        ensures stop { LeavesOne stands is_true may_leave (with_raised realm.now) self.old
+            self.new }
         ensures settled { is_true self.new → OnOk result (IsSettled stands may_leave self.new) }
         ensures due { IsTrue (is_due self.old realm.now) → result ≡ Err RaiseFault.Refused }
         ensures spent { IsSpent (is_due self.old) (is_due self.new) realm.now };
@@ -103,7 +109,8 @@ pub trait RowLog {
         ensures stands { Stands stands (with_row realm.now key row.now) self.old self.new result }
         ensures counts { faults self.new ≡ counted (is_err result) (faults self.old) }
         ensures truth { is_true self.new → is_true self.old }
-        ensures stop { LeavesOne stands is_true may_leave (with_row realm.now key row.now) self.old self.new }
+        ensures stop { LeavesOne stands is_true may_leave (with_row realm.now key row.now) self.old
+            self.new }
         ensures settled { is_true self.new → OnOk result (IsSettled stands may_leave self.new) }
         ensures due { IsTrue (is_due self.old realm.now) → IsErr result }
         ensures spent { IsSpent (is_due self.old) (is_due self.new) realm.now };
@@ -113,15 +120,18 @@ pub trait RowLog {
         ensures stands { Stands stands (without_row realm.now key) self.old self.new result }
         ensures counts { faults self.new ≡ counted (is_err result) (faults self.old) }
         ensures truth { is_true self.new → is_true self.old }
-        ensures stop { LeavesOne stands is_true may_leave (without_row realm.now key) self.old self.new }
+        ensures stop { LeavesOne stands is_true may_leave (without_row realm.now key) self.old
+            self.new }
         ensures settled { is_true self.new → OnOk result (IsSettled stands may_leave self.new) }
         ensures due { IsTrue (is_due self.old realm.now) → IsErr result }
         ensures spent { IsSpent (is_due self.old) (is_due self.new) realm.now };
 
     /// The epoch and the rows of a realm.
     fn load(&mut self, realm: &Realm) -> Result<Loaded, LoadFault>
-        ensures part { (log : Log) → stands self.old log → is_true self.new → IfOk result (λ loaded. IsPart log realm.now loaded.epoch loaded.rows.items) }
-        ensures bad_row { (log : Log) → stands self.old log → is_true self.new → result ≡ Err LoadFault.BadRow → IsSpoiled log realm.now }
+        ensures part { (log : Log) → stands self.old log → is_true self.new →
+            IfOk result (λ loaded. IsPart log realm.now loaded.epoch loaded.rows.items) }
+        ensures bad_row { (log : Log) → stands self.old log → is_true self.new →
+            result ≡ Err LoadFault.BadRow → IsSpoiled log realm.now }
         ensures stands { (log : Log) → stands self.old log → stands self.new log }
         ensures counts { faults self.new ≡ counted (is_refused_load result) (faults self.old) }
         ensures truth { is_true self.new → is_true self.old }
@@ -131,8 +141,10 @@ pub trait RowLog {
 
     /// The names of the known realms, rising.
     fn realms(&mut self) -> Result<Vec<Realm>, LoadFault>
-        ensures names { (log : Log) → stands self.old log → is_true self.new → IfOk result (λ names. AreNames log names.items) }
-        ensures bad_row { (log : Log) → stands self.old log → is_true self.new → result ≡ Err LoadFault.BadRow → HasBadName log }
+        ensures names { (log : Log) → stands self.old log → is_true self.new →
+            IfOk result (λ names. AreNames log names.items) }
+        ensures bad_row { (log : Log) → stands self.old log → is_true self.new →
+            result ≡ Err LoadFault.BadRow → HasBadName log }
         ensures stands { (log : Log) → stands self.old log → stands self.new log }
         ensures counts { faults self.new ≡ counted (is_refused_load result) (faults self.old) }
         ensures truth { is_true self.new → is_true self.old }
@@ -144,7 +156,8 @@ pub trait RowLog {
     fn faults(&self) -> u64
         ensures { result ≡ faults self.now };
 
-    ghost true_while_faithful: { (log : Self) → Self.Medium.is_faithful (medium log) → is_true log };
+    ghost true_while_faithful: { (log : Self) → Self.Medium.is_faithful (medium log) →
+        is_true log };
 
     /// A stop leaves something.
     ghost leaves_some: { (log : Self) → is_true log → ∥ ((left : Log) × may_leave log left) ∥₁ };

@@ -94,7 +94,8 @@ impl<A: Allocator + Copy> MemRows<A> {
 impl<A: Allocator> MemRows<A> {
     /// Makes a realm known with this epoch.
     pub fn start_at(&mut self, realm: &Realm, epoch: u32) -> Result<(), AllocError>
-        ensures started { OnOk result (log_of self.new ≡ with_epoch realm.now epoch (log_of self.old)) }
+        ensures started { OnOk result
+            (log_of self.new ≡ with_epoch realm.now epoch (log_of self.old)) }
         ensures err { OnErr result (self.new ≡ self.old) }
         ensures due { (r : List ℕ) → is_due_in self.new r ≡ is_due_in self.old r }
         ensures faults { self.new.faults ≡ self.old.faults }
@@ -115,7 +116,8 @@ impl<A: Allocator> MemRows<A> {
 
     /// What is stored of a realm, in a list on this heap; the lists of its rows are on `Global`.
     pub fn load_in<B: Allocator>(&self, heap: B, realm: &Realm) -> Result<Loaded<B>, LoadFault>
-        ensures part { IfOk result (λ loaded. IsPart (log_of self.now) realm.now loaded.epoch loaded.rows.items) }
+        ensures part { IfOk result
+            (λ loaded. IsPart (log_of self.now) realm.now loaded.epoch loaded.rows.items) }
         ensures memory { IfErr result (λ fault. fault ≡ LoadFault.Memory) }
     {
         match part_of(self.alloc, heap, &self.rows, realm) {
@@ -358,7 +360,8 @@ fn is_at_end(known: &[Known], realm: &Realm) -> bool
 
 /// Makes a realm known.
 fn know_in<A: Allocator>(known: &mut Vec<Known, A>, realm: &Realm) -> Result<(), AllocError>
-    ensures ok { OnOk result (known.new.items ≡ known_in (record { realm = realm.now; epoch = 0; is_refusing = false }) known.old.items) }
+    ensures ok { OnOk result (known.new.items ≡ known_in
+        (record { realm = realm.now; epoch = 0; is_refusing = false }) known.old.items) }
     ensures realm { OnOk result (is_realm realm.now ≡ true) }
     ensures err { OnErr result (known.new.items ≡ known.old.items) }
 {
@@ -372,7 +375,8 @@ fn know_in<A: Allocator>(known: &mut Vec<Known, A>, realm: &Realm) -> Result<(),
 
 /// A realm that was not known.
 fn newly_known(realm: &Realm) -> Result<Known, AllocError>
-    ensures { IfOk result (λ known. known ≡ record { realm = realm.now; epoch = 0; is_refusing = false }) }
+    ensures { IfOk result
+        (λ known. known ≡ record { realm = realm.now; epoch = 0; is_refusing = false }) }
 {
     Ok(Known {
         realm: realm.copy()?,
@@ -402,7 +406,8 @@ fn put_copy<A: Allocator + Copy>(
     key: Key,
     row: &Row,
 ) -> Result<(), AllocError>
-    ensures ok { OnOk result (rows.new.items ≡ put_in (record { realm = realm.now; key = key; row = row.now }) rows.old.items) }
+    ensures ok { OnOk result (rows.new.items
+        ≡ put_in (record { realm = realm.now; key = key; row = row.now }) rows.old.items) }
     ensures err { OnErr result (rows.new.items ≡ rows.old.items) }
 {
     let heap = *rows.allocator();

@@ -104,7 +104,8 @@ fn committed_of<A: Allocator + Copy>(
 
 /// Takes the next word, which must be there.
 fn required<'a>(words: &mut Words<'a>) -> Result<&'a [u8], RowFault>
-    ensures { MatchResult result (λ word. words.old ≡ word.now ∷ words.new) (λ fault. (fault ≡ BadRow) × (words.old ≡ [])) }
+    ensures { MatchResult result (λ word. words.old ≡ word.now ∷ words.new)
+        (λ fault. (fault ≡ BadRow) × (words.old ≡ [])) }
 {
     words.next().ok_or(RowFault::BadRow)
 }
@@ -144,7 +145,8 @@ fn items_of<A: Allocator>(
     version: Version,
     word: &[u8],
 ) -> Result<Vec<(u8, Label), A>, RowFault>
-    ensures { MatchResult result (λ items. items_in version word.now ≡ Some items.items) (λ fault. Fails fault (items_in version word.now)) }
+    ensures { MatchResult result (λ items. items_in version word.now ≡ Some items.items)
+        (λ fault. Fails fault (items_in version word.now)) }
 {
     let mut items = Vec::new(heap);
     if word == b"-".as_slice() {

@@ -62,7 +62,8 @@ impl Row {
     /// The row that a text is, in either version.
     pub fn parse(alloc: Global, text: &[u8]) -> Result<Row, RowFault>
         ensures read { IfOk result (λ row. Spells row text.now) }
-        ensures only { (row : Row) → Spells row text.now → (result ≡ Ok row) ⊎ (result ≡ Err Memory) }
+        ensures only { (row : Row) → Spells row text.now →
+            (result ≡ Ok row) ⊎ (result ≡ Err Memory) }
         ensures bad { result ≡ Err BadRow → (row : Row) → ¬ Spells row text.now }
     {
         row_of(alloc, text)

@@ -27,7 +27,9 @@ impl Work<Connection, Transaction, Making> {
         requires stands { StandsAt self.old.connections self.old.realm (has_number number) place }
         requires able { MayMake number self.old }
         requires lines { 0 < self.old.making.free }
-        ensures { (connection : AConnection) → connection_of number (work_of self.old).state ≡ Some connection → Does self.old self.new (begin connection (work_of self.old)) }
+        ensures { (connection : AConnection) →
+            connection_of number (work_of self.old).state ≡ Some connection →
+            Does self.old self.new (begin connection (work_of self.old)) }
     {
         match self.make_where_room(number, place, Origin::Root) {
             Some(key) => self.reply(number, place, CommandName::Begin, Said::Begun(key)),
@@ -43,7 +45,9 @@ impl Work<Connection, Transaction, Making> {
         requires able { MayMake number self.old }
         requires peer { self.old.making.peer ≡ peer_of number (work_of self.old).state }
         requires lines { 0 < self.old.making.free }
-        ensures { (connection : AConnection) → connection_of number (work_of self.old).state ≡ Some connection → Does self.old self.new (push superior connection (work_of self.old)) }
+        ensures { (connection : AConnection) →
+            connection_of number (work_of self.old).state ≡ Some connection →
+            Does self.old self.new (push superior connection (work_of self.old)) }
     {
         let connection = self.connection(number, place);
         match self.known(&connection.peer, &superior) {
@@ -59,7 +63,9 @@ impl Work<Connection, Transaction, Making> {
         requires able { MayMake number self.old }
         requires peer { self.old.making.peer ≡ peer_of number (work_of self.old).state }
         requires lines { 0 < self.old.making.free }
-        ensures { (connection : AConnection) → connection_of number (work_of self.old).state ≡ Some connection → Does self.old self.new (push_new superior connection (work_of self.old)) }
+        ensures { (connection : AConnection) →
+            connection_of number (work_of self.old).state ≡ Some connection →
+            Does self.old self.new (push_new superior connection (work_of self.old)) }
     {
         let address = self.making.take_peer();
         let origin = Origin::Subordinate { address, superior };
@@ -80,8 +86,12 @@ impl Work<Connection, Transaction, Making> {
         requires here { self.old.realm < length self.old.heads.items }
         requires stands { StandsAt self.old.connections self.old.realm (has_number number) place }
         requires able { MayMake number self.old }
-        ensures key { (connection : AConnection) → connection_of number (work_of self.old).state ≡ Some connection → result ≡ key_where_room connection (work_of self.old).state }
-        ensures does { (connection : AConnection) → connection_of number (work_of self.old).state ≡ Some connection → Does self.old self.new (make_where_room origin connection (work_of self.old)) }
+        ensures key { (connection : AConnection) →
+            connection_of number (work_of self.old).state ≡ Some connection →
+            result ≡ key_where_room connection (work_of self.old).state }
+        ensures does { (connection : AConnection) →
+            connection_of number (work_of self.old).state ≡ Some connection →
+            Does self.old self.new (make_where_room origin connection (work_of self.old)) }
         ensures stands { StandsAt self.new.connections self.new.realm (has_number number) place }
         ensures lines { self.new.making.free ≡ self.old.making.free }
     {
@@ -99,7 +109,9 @@ impl Work<Connection, Transaction, Making> {
     #[tactic(auto, using(crate::proofs::Beginnings::room))]
     pub(crate) fn has_room(&self, boxes: usize) -> bool
         requires { self.now.realm < length self.now.heads.items }
-        ensures { result ≡ (nat_lt (length (work_of self.now).state.transactions) (work_of self.now).state.head.limits.transactions && nat_le (length (work_of self.now).state.head.branches) boxes) }
+        ensures { result ≡ (nat_lt (length (work_of self.now).state.transactions)
+            (work_of self.now).state.head.limits.transactions
+            && nat_le (length (work_of self.now).state.head.branches) boxes) }
     {
         let head = &self.heads[self.realm];
         self.transactions.count(self.realm) < head.limits.transactions as usize
@@ -113,7 +125,11 @@ impl Work<Connection, Transaction, Making> {
         requires epoch { 0 < (work_of self.now).state.head.epoch }
         requires number { 0 < number }
         requires made { made < (work_of self.now).state.head.limits.entries }
-        ensures { result ≡ record { epoch = (work_of self.now).state.head.epoch; connection = number; number = made + 1 } }
+        ensures { result ≡ record {
+          epoch = (work_of self.now).state.head.epoch;
+          connection = number;
+          number = made + 1;
+        } }
     {
         let head = &self.heads[self.realm];
         let _most = head.limits.entries;
@@ -126,11 +142,17 @@ impl Work<Connection, Transaction, Making> {
     /// A transaction is made on a connection, of its first boxes. The key is its next one.
     fn make(&mut self, number: u32, place: usize, key: Key, origin: Origin)
         requires stands { StandsAt self.old.connections self.old.realm (has_number number) place }
-        requires key { (connection : AConnection) → connection_of number (work_of self.old).state ≡ Some connection → key ≡ next_key (work_of self.old).state.head connection }
-        requires boxes { (connection : AConnection) → connection_of number (work_of self.old).state ≡ Some connection → length (work_of self.old).state.head.branches ≤ length connection.boxes }
+        requires key { (connection : AConnection) →
+            connection_of number (work_of self.old).state ≡ Some connection →
+            key ≡ next_key (work_of self.old).state.head connection }
+        requires boxes { (connection : AConnection) →
+            connection_of number (work_of self.old).state ≡ Some connection →
+            length (work_of self.old).state.head.branches ≤ length connection.boxes }
         requires room { self.old.making.room ≡ Some (room_for (work_of self.old).state.head key) }
         requires free { 0 < self.old.transactions.free }
-        ensures does { (connection : AConnection) → connection_of number (work_of self.old).state ≡ Some connection → Does self.old self.new (make origin connection (work_of self.old)) }
+        ensures does { (connection : AConnection) →
+            connection_of number (work_of self.old).state ≡ Some connection →
+            Does self.old self.new (make origin connection (work_of self.old)) }
         ensures stands { StandsAt self.new.connections self.new.realm (has_number number) place }
     {
         let room = self.making.take_room();
@@ -163,9 +185,15 @@ impl Work<Connection, Transaction, Making> {
         id: Id,
     ) -> HeldParty
         requires stands { StandsAt self.old.connections self.old.realm (has_number number) place }
-        requires boxes { (connection : AConnection) → connection_of number (work_of self.old).state ≡ Some connection → room ≤ length connection.boxes }
-        requires made { (connection : AConnection) → connection_of number (work_of self.old).state ≡ Some connection → key.number ≡ connection.made + 1 }
-        ensures party { (connection : AConnection) → connection_of number (work_of self.old).state ≡ Some connection → result ≡ idle_party name key.epoch id (fresh_members 1 (take room connection.boxes)) }
+        requires boxes { (connection : AConnection) →
+            connection_of number (work_of self.old).state ≡ Some connection →
+            room ≤ length connection.boxes }
+        requires made { (connection : AConnection) →
+            connection_of number (work_of self.old).state ≡ Some connection →
+            key.number ≡ connection.made + 1 }
+        ensures party { (connection : AConnection) →
+            connection_of number (work_of self.old).state ≡ Some connection →
+            result ≡ idle_party name key.epoch id (fresh_members 1 (take room connection.boxes)) }
         ensures does { Does self.old self.new (change number (making room key) (work_of self.old)) }
         ensures stands { StandsAt self.new.connections self.new.realm (has_number number) place }
         ensures rest { self.new ≡ record self.old { connections = self.new.connections } }

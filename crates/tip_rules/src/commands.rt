@@ -33,11 +33,16 @@ impl Work<Connection, Transaction, Making> {
         requires stands { StandsAt self.old.connections self.old.realm (has_number number) place }
         requires able { begins (ACommand command) ≡ true → MayMake number self.old }
         requires peer { self.old.making.peer ≡ peer_of number (work_of self.old).state }
-        requires part { (id : List ℕ) → joined (ACommand command) ≡ Some id → CanGrow (work_of self.old).state.head.name id (of self.old.transactions self.old.realm) }
+        requires part { (id : List ℕ) → joined (ACommand command) ≡ Some id →
+            CanGrow (work_of self.old).state.head.name id
+            (of self.old.transactions self.old.realm) }
         requires numbered { are_numbered (work_of self.old).state ≡ true }
         requires lines { lines_at number (work_of self.old).state + 2 ≤ self.old.making.free }
         requires none { IsIdle self.old.making.answer }
-        ensures { (connection : AConnection) → connection_of number (work_of self.old).state ≡ Some connection → Does self.old self.new (chosen (commanded command connection (work_of self.old)) self.old.outcome) }
+        ensures { (connection : AConnection) →
+            connection_of number (work_of self.old).state ≡ Some connection →
+            Does self.old self.new
+            (chosen (commanded command connection (work_of self.old)) self.old.outcome) }
     {
         let connection = self.connection(number, place);
         match admit(connection.state, connection.side, &command) {
@@ -53,11 +58,16 @@ impl Work<Connection, Transaction, Making> {
         requires stands { StandsAt self.old.connections self.old.realm (has_number number) place }
         requires able { begins (ACommand command) ≡ true → MayMake number self.old }
         requires peer { self.old.making.peer ≡ peer_of number (work_of self.old).state }
-        requires part { (id : List ℕ) → joined (ACommand command) ≡ Some id → CanGrow (work_of self.old).state.head.name id (of self.old.transactions self.old.realm) }
+        requires part { (id : List ℕ) → joined (ACommand command) ≡ Some id →
+            CanGrow (work_of self.old).state.head.name id
+            (of self.old.transactions self.old.realm) }
         requires numbered { are_numbered (work_of self.old).state ≡ true }
         requires lines { lines_at number (work_of self.old).state + 2 ≤ self.old.making.free }
         requires none { IsIdle self.old.making.answer }
-        ensures { (connection : AConnection) → connection_of number (work_of self.old).state ≡ Some connection → Does self.old self.new (chosen (serve command connection (work_of self.old)) self.old.outcome) }
+        ensures { (connection : AConnection) →
+            connection_of number (work_of self.old).state ≡ Some connection →
+            Does self.old self.new
+            (chosen (serve command connection (work_of self.old)) self.old.outcome) }
     {
         match command {
             Command::Identify {
@@ -91,7 +101,10 @@ impl Work<Connection, Transaction, Making> {
         requires stands { StandsAt self.old.connections self.old.realm (has_number number) place }
         requires lines { lines_at number (work_of self.old).state + 2 ≤ self.old.making.free }
         requires none { IsIdle self.old.making.answer }
-        ensures { (connection : AConnection) → connection_of number (work_of self.old).state ≡ Some connection → Does self.old self.new (identify versions.0 versions.1 peer connection (work_of self.old)) }
+        ensures { (connection : AConnection) →
+            connection_of number (work_of self.old).state ≡ Some connection →
+            Does self.old self.new
+            (identify versions.0 versions.1 peer connection (work_of self.old)) }
     {
         let (lowest, highest) = versions;
         if is_spoken(lowest, highest) {
@@ -108,7 +121,9 @@ impl Work<Connection, Transaction, Making> {
         requires here { self.old.realm < length self.old.heads.items }
         requires stands { StandsAt self.old.connections self.old.realm (has_number number) place }
         requires lines { 0 < self.old.making.free }
-        ensures { (connection : AConnection) → connection_of number (work_of self.old).state ≡ Some connection → Does self.old self.new (query superior.now connection (work_of self.old)) }
+        ensures { (connection : AConnection) →
+            connection_of number (work_of self.old).state ≡ Some connection →
+            Does self.old self.new (query superior.now connection (work_of self.old)) }
     {
         if self.exists(superior) {
             self.reply(number, place, CommandName::Query, Said::QueriedExists);
@@ -123,7 +138,10 @@ impl Work<Connection, Transaction, Making> {
         requires stands { StandsAt self.old.connections self.old.realm (has_number number) place }
         requires lines { lines_at number (work_of self.old).state + 2 ≤ self.old.making.free }
         requires none { IsIdle self.old.making.answer }
-        ensures { (connection : AConnection) → connection_of number (work_of self.old).state ≡ Some connection → Does self.old self.new (chosen (serve asked.Prepare connection (work_of self.old)) self.old.outcome) }
+        ensures { (connection : AConnection) →
+            connection_of number (work_of self.old).state ≡ Some connection →
+            Does self.old self.new
+            (chosen (serve asked.Prepare connection (work_of self.old)) self.old.outcome) }
     {
         let connection = self.connection(number, place);
         let role = connection.role;
@@ -149,7 +167,10 @@ impl Work<Connection, Transaction, Making> {
         requires stands { StandsAt self.old.connections self.old.realm (has_number number) place }
         requires lines { lines_at number (work_of self.old).state + 2 ≤ self.old.making.free }
         requires none { IsIdle self.old.making.answer }
-        ensures { (connection : AConnection) → connection_of number (work_of self.old).state ≡ Some connection → Does self.old self.new (chosen (serve asked.Commit connection (work_of self.old)) self.old.outcome) }
+        ensures { (connection : AConnection) →
+            connection_of number (work_of self.old).state ≡ Some connection →
+            Does self.old self.new
+            (chosen (serve asked.Commit connection (work_of self.old)) self.old.outcome) }
     {
         let role = self.connection(number, place).role;
         self.owe(number, place, CommandName::Commit);
@@ -173,7 +194,10 @@ impl Work<Connection, Transaction, Making> {
         requires stands { StandsAt self.old.connections self.old.realm (has_number number) place }
         requires lines { lines_at number (work_of self.old).state + 2 ≤ self.old.making.free }
         requires none { IsIdle self.old.making.answer }
-        ensures { (connection : AConnection) → connection_of number (work_of self.old).state ≡ Some connection → Does self.old self.new (chosen (serve asked.Abort connection (work_of self.old)) self.old.outcome) }
+        ensures { (connection : AConnection) →
+            connection_of number (work_of self.old).state ≡ Some connection →
+            Does self.old self.new
+            (chosen (serve asked.Abort connection (work_of self.old)) self.old.outcome) }
     {
         let role = self.connection(number, place).role;
         self.owe(number, place, CommandName::Abort);
@@ -196,7 +220,10 @@ impl Work<Connection, Transaction, Making> {
         requires key { lines_for key (work_of self.old).state ≤ self.old.making.free }
         requires lines { lines_at number (work_of self.old).state + 1 ≤ self.old.making.free }
         requires none { IsIdle self.old.making.answer }
-        ensures { (connection : AConnection) (change : Change) → connection_of number (work_of self.old).state ≡ Some connection → Does self.old self.new (chosen (Attempt.Asks change (commit key (work_of self.old)) (closed connection (work_of self.old))) self.old.outcome) }
+        ensures { (connection : AConnection) (change : Change) →
+            connection_of number (work_of self.old).state ≡ Some connection →
+            Does self.old self.new (chosen (Attempt.Asks change (commit key (work_of self.old))
+            (closed connection (work_of self.old))) self.old.outcome) }
     {
         match self.outcome {
             Outcome::Stored => self.commit(key),
@@ -210,7 +237,10 @@ impl Work<Connection, Transaction, Making> {
         requires key { lines_for key (work_of self.old).state ≤ self.old.making.free }
         requires lines { lines_at number (work_of self.old).state + 1 ≤ self.old.making.free }
         requires none { IsIdle self.old.making.answer }
-        ensures { (connection : AConnection) (change : Change) → connection_of number (work_of self.old).state ≡ Some connection → Does self.old self.new (chosen (Attempt.Asks change (aborted key (work_of self.old)) (closed connection (work_of self.old))) self.old.outcome) }
+        ensures { (connection : AConnection) (change : Change) →
+            connection_of number (work_of self.old).state ≡ Some connection →
+            Does self.old self.new (chosen (Attempt.Asks change (aborted key (work_of self.old))
+            (closed connection (work_of self.old))) self.old.outcome) }
     {
         match self.outcome {
             Outcome::Stored => self.abort(key),

@@ -33,7 +33,8 @@ impl Work<Connection, Transaction, Making> {
         response: ResponseName,
     )
         requires { StandsAt self.old.connections self.old.realm (has_number number) place }
-        ensures does { Does self.old self.new (change number (advanced command response) (work_of self.old)) }
+        ensures does { Does self.old self.new
+            (change number (advanced command response) (work_of self.old)) }
         ensures stands { StandsAt self.new.connections self.new.realm (has_number number) place }
         ensures rest { self.new ≡ record self.old { connections = self.new.connections } }
     {
@@ -85,7 +86,8 @@ impl Work<Connection, Transaction, Making> {
     )
         requires stands { StandsAt self.old.connections self.old.realm (has_number number) place }
         requires room { 0 < self.old.making.free }
-        ensures { Does self.old self.new (change number (taking role) (reply number command said (work_of self.old))) }
+        ensures { Does self.old self.new
+            (change number (taking role) (reply number command said (work_of self.old))) }
     {
         let response = said.name();
         self.tell(number, Item::Say(said));
@@ -111,7 +113,8 @@ impl Work<Connection, Transaction, Making> {
     pub fn send_as(&mut self, number: u32, place: usize, awaited: Awaited, asked: Asked, role: Role)
         requires stands { StandsAt self.old.connections self.old.realm (has_number number) place }
         requires room { 0 < self.old.making.free }
-        ensures { Does self.old self.new (change number (taking role) (send number awaited asked (work_of self.old))) }
+        ensures { Does self.old self.new
+            (change number (taking role) (send number awaited asked (work_of self.old))) }
     {
         self.send(number, place, awaited, asked);
         self.take_role(number, place, role);
@@ -120,7 +123,8 @@ impl Work<Connection, Transaction, Making> {
     /// A response is awaited.
     fn wait_for(&mut self, number: u32, place: usize, awaited: Awaited)
         requires { StandsAt self.old.connections self.old.realm (has_number number) place }
-        ensures does { Does self.old self.new (change number (awaiting awaited) (work_of self.old)) }
+        ensures does { Does self.old self.new
+            (change number (awaiting awaited) (work_of self.old)) }
         ensures stands { StandsAt self.new.connections self.new.realm (has_number number) place }
     {
         let connection = self.connections.item_mut(place);
@@ -139,8 +143,11 @@ impl Work<Connection, Transaction, Making> {
     /// A connection is there no more, and its boxes are handed back. What it was on the transaction that it was on is given.
     pub(crate) fn remove(&mut self, number: u32, place: usize) -> Option<Role>
         requires { StandsAt self.old.connections self.old.realm (has_number number) place }
-        ensures role { option_map (λ connection. connection.role) (connection_of number (work_of self.old).state) ≡ Some result }
-        ensures gone { (connection : AConnection) → connection_of number (work_of self.old).state ≡ Some connection → Does self.old self.new (gone connection (work_of self.old)) }
+        ensures role { option_map (λ connection. connection.role)
+            (connection_of number (work_of self.old).state) ≡ Some result }
+        ensures gone { (connection : AConnection) →
+            connection_of number (work_of self.old).state ≡ Some connection →
+            Does self.old self.new (gone connection (work_of self.old)) }
     {
         let connection = self.connections.remove(place);
         let role = connection.role;

@@ -19,7 +19,8 @@ impl Work<Connection, Transaction, Making> {
     #[tactic(auto, using(crate::proofs::Dials::dialling))]
     pub fn dial(&mut self, address: Address, purpose: Purpose, boxes: HeldFresh)
         requires here { self.old.realm < length self.old.heads.items }
-        requires counted { (work_of self.old).state.head.given < (work_of self.old).state.head.entries }
+        requires counted { (work_of self.old).state.head.given
+            < (work_of self.old).state.head.entries }
         requires free { 0 < self.old.connections.free }
         requires lines { 0 < self.old.making.free }
         requires peer { self.old.making.peer ≡ Some address }
@@ -44,10 +45,13 @@ impl Work<Connection, Transaction, Making> {
         boxes: HeldFresh,
     )
         requires here { self.old.realm < length self.old.heads.items }
-        requires counted { (work_of self.old).state.head.given < (work_of self.old).state.head.entries }
+        requires counted { (work_of self.old).state.head.given
+            < (work_of self.old).state.head.entries }
         requires free { 0 < self.old.connections.free }
         requires lines { 0 < self.old.making.free }
-        ensures { Does self.old self.new (tell ((work_of self.old).state.head.given + 1) (Ask (AnIdentify ours theirs)) (added (dialled address purpose boxes) (work_of self.old))) }
+        ensures { Does self.old self.new (tell ((work_of self.old).state.head.given + 1)
+            (Ask (AnIdentify ours theirs))
+            (added (dialled address purpose boxes) (work_of self.old))) }
     {
         let seat = self.next_seat();
         self.join(dialled(seat.number, address, purpose, boxes));

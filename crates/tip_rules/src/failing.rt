@@ -20,7 +20,8 @@ impl Work<Connection, Transaction, Making> {
     fn lose_superior(&mut self, key: Key)
         requires lines { lines_for key (work_of self.old).state ≤ self.old.making.free }
         requires none { IsIdle self.old.making.answer }
-        ensures { Does self.old self.new (on_key key (λ transaction. superior_lost transaction.phase key) (work_of self.old)) }
+        ensures { Does self.old self.new
+            (on_key key (λ transaction. superior_lost transaction.phase key) (work_of self.old)) }
     {
         let Some(place) = self.transaction(key) else {
             return;
@@ -36,7 +37,8 @@ impl Work<Connection, Transaction, Making> {
     fn lose_part(&mut self, key: Key, part: Part)
         requires lines { lines_for key (work_of self.old).state ≤ self.old.making.free }
         requires none { IsIdle self.old.making.answer }
-        ensures { Does self.old self.new (on_key key (λ transaction. part_lost transaction.phase part transaction) (work_of self.old)) }
+        ensures { Does self.old self.new (on_key key
+            (λ transaction. part_lost transaction.phase part transaction) (work_of self.old)) }
     {
         let Some(place) = self.transaction(key) else {
             return;
@@ -54,7 +56,9 @@ impl Work<Connection, Transaction, Making> {
         requires stands { StandsAt self.old.transactions self.old.realm (is_keyed key) place }
         requires lines { lines_for key (work_of self.old).state ≤ self.old.making.free }
         requires none { IsIdle self.old.making.answer }
-        ensures { (transaction : ATransaction) → transaction_of key (work_of self.old).state ≡ Some transaction → Does self.old self.new (lost_unanswered part transaction (work_of self.old)) }
+        ensures { (transaction : ATransaction) →
+            transaction_of key (work_of self.old).state ≡ Some transaction →
+            Does self.old self.new (lost_unanswered part transaction (work_of self.old)) }
     {
         if has_answered(&self.at(key, place).txn, part) {
             return;
@@ -93,7 +97,9 @@ impl Work<Connection, Transaction, Making> {
         requires stands { StandsAt self.old.connections self.old.realm (has_number number) place }
         requires lines { lines_at number (work_of self.old).state ≤ self.old.making.free }
         requires none { IsIdle self.old.making.answer }
-        ensures { (connection : AConnection) → connection_of number (work_of self.old).state ≡ Some connection → Does self.old self.new (fail connection (work_of self.old)) }
+        ensures { (connection : AConnection) →
+            connection_of number (work_of self.old).state ≡ Some connection →
+            Does self.old self.new (fail connection (work_of self.old)) }
     {
         let role = self.remove(number, place);
         self.miss(role);
@@ -105,7 +111,9 @@ impl Work<Connection, Transaction, Making> {
         requires stands { StandsAt self.old.connections self.old.realm (has_number number) place }
         requires lines { lines_at number (work_of self.old).state + 1 ≤ self.old.making.free }
         requires none { IsIdle self.old.making.answer }
-        ensures { (connection : AConnection) → connection_of number (work_of self.old).state ≡ Some connection → Does self.old self.new (closed connection (work_of self.old)) }
+        ensures { (connection : AConnection) →
+            connection_of number (work_of self.old).state ≡ Some connection →
+            Does self.old self.new (closed connection (work_of self.old)) }
     {
         self.tell(number, Item::Close);
         self.fail(number, place);
@@ -117,7 +125,9 @@ impl Work<Connection, Transaction, Making> {
         requires stands { StandsAt self.old.connections self.old.realm (has_number number) place }
         requires lines { lines_at number (work_of self.old).state + 2 ≤ self.old.making.free }
         requires none { IsIdle self.old.making.answer }
-        ensures { (connection : AConnection) → connection_of number (work_of self.old).state ≡ Some connection → Does self.old self.new (wrong connection (work_of self.old)) }
+        ensures { (connection : AConnection) →
+            connection_of number (work_of self.old).state ≡ Some connection →
+            Does self.old self.new (wrong connection (work_of self.old)) }
     {
         self.tell(number, Item::Say(Said::Error));
         self.close(number, place);

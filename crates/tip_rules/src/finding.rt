@@ -22,10 +22,15 @@ impl Work<Connection, Transaction, Making> {
     pub fn identified(&self, id: &Id) -> Option<(Key, usize)>
         requires { self.now.realm < length self.now.heads.items }
         ensures none { (result ≡ None) ↔ (identified_by id.now (work_of self.now).state ≡ None) }
-        ensures some { IfSome result (λ found. StandsAt self.now.transactions self.now.realm (is_keyed found.0) found.1) }
-        ensures same { IfSome result (λ found. identified_by id.now (work_of self.now).state ≡ transaction_of found.0 (work_of self.now).state) }
-        ensures named { IfSome result (λ found. StandsAt self.now.transactions self.now.realm (is_named (work_of self.now).state.head.name id.now) found.1) }
-        ensures nobody { (result ≡ None) ↔ (find (is_named (work_of self.now).state.head.name id.now) (of self.now.transactions self.now.realm) ≡ None) }
+        ensures some { IfSome result
+            (λ found. StandsAt self.now.transactions self.now.realm (is_keyed found.0) found.1) }
+        ensures same { IfSome result (λ found. identified_by id.now (work_of self.now).state
+            ≡ transaction_of found.0 (work_of self.now).state) }
+        ensures named { IfSome result (λ found. StandsAt self.now.transactions self.now.realm
+            (is_named (work_of self.now).state.head.name id.now) found.1) }
+        ensures nobody { (result ≡ None) ↔ (find
+            (is_named (work_of self.now).state.head.name id.now)
+            (of self.now.transactions self.now.realm) ≡ None) }
     {
         let query = Named {
             realm: self.name(),
@@ -49,7 +54,8 @@ impl Work<Connection, Transaction, Making> {
     /// outcome yet.
     #[tactic(auto, using(crate::proofs::Identifying::knowing))]
     pub fn known(&self, peer: &Option<Address>, superior: &Id) -> Option<Key>
-        ensures { result ≡ option_map (λ transaction. transaction.key) (find (is_known peer.now superior.now) (work_of self.now).state.transactions) }
+        ensures { result ≡ option_map (λ transaction. transaction.key)
+            (find (is_known peer.now superior.now) (work_of self.now).state.transactions) }
     {
         let place = self
             .transactions
@@ -62,8 +68,10 @@ impl Work<Connection, Transaction, Making> {
     pub fn owner(&self, party: &HeldParty) -> Option<(Key, usize)>
         requires { self.now.realm < length self.now.heads.items }
         ensures none { (result ≡ None) ↔ (owner party.now (work_of self.now).state ≡ None) }
-        ensures some { IfSome result (λ found. StandsAt self.now.transactions self.now.realm (is_keyed found.0) found.1) }
-        ensures same { IfSome result (λ found. owner party.now (work_of self.now).state ≡ transaction_of found.0 (work_of self.now).state) }
+        ensures some { IfSome result
+            (λ found. StandsAt self.now.transactions self.now.realm (is_keyed found.0) found.1) }
+        ensures same { IfSome result (λ found. owner party.now (work_of self.now).state
+            ≡ transaction_of found.0 (work_of self.now).state) }
     {
         let party = party.party();
         if party.epoch() != self.heads[self.realm].epoch {
@@ -76,7 +84,8 @@ impl Work<Connection, Transaction, Making> {
     #[tactic(auto, using(crate::proofs::Identifying::existing))]
     pub fn exists(&self, id: &Id) -> bool
         requires { self.now.realm < length self.now.heads.items }
-        ensures { result ≡ option_map_or exists (identified_by id.now (work_of self.now).state) false }
+        ensures { result
+            ≡ option_map_or exists (identified_by id.now (work_of self.now).state) false }
     {
         match self.identified(id) {
             Some((key, place)) => self.at(key, place).txn.exists(),

@@ -50,7 +50,15 @@ impl Model for Making {
     ghost Value = { Made };
 
     ghost view = { λ m. record {
-      answer = record { refusal = m.refusal; opened = m.opened; sent = m.sent.items; work = m.work; spent = m.spent; unused = m.unused; entry = m.entry };
+      answer = record {
+        refusal = m.refusal;
+        opened = m.opened;
+        sent = m.sent.items;
+        work = m.work;
+        spent = m.spent;
+        unused = m.unused;
+        entry = m.entry;
+      };
       free = vec_capacity m.sent - vec_len m.sent;
       room = m.room;
       peer = m.peer;
@@ -58,7 +66,8 @@ impl Model for Making {
       word = m.word;
     } };
 
-    ghost invariant = { λ m. (m.ordered.items ≡ []) × (vec_capacity m.sent ≤ vec_capacity m.ordered) };
+    ghost invariant = { λ m. (m.ordered.items ≡ [])
+        × (vec_capacity m.sent ≤ vec_capacity m.ordered) };
 }
 
 impl Making {
@@ -117,7 +126,10 @@ impl Making {
 
     pub fn tell(&mut self, connection: u32, item: Item)
         requires { 0 < self.old.free }
-        ensures answer { self.new.answer ≡ record self.old.answer { sent = self.old.answer.sent ++ record { connection = connection; item = item } ∷ [] } }
+        ensures answer { self.new.answer ≡ record self.old.answer {
+          sent = self.old.answer.sent
+              ++ record { connection = connection; item = item } ∷ [];
+        } }
         ensures free { self.new.free + 1 ≡ self.old.free }
         ensures room { self.new.room ≡ self.old.room }
         ensures peer { self.new.peer ≡ self.old.peer }
@@ -183,19 +195,22 @@ impl Making {
     }
 
     pub fn refuse(&mut self, why: Refusal)
-        ensures { self.new ≡ record self.old { answer = record self.old.answer { refusal = Some why } } }
+        ensures { self.new
+            ≡ record self.old { answer = record self.old.answer { refusal = Some why } } }
     {
         self.refusal = Some(why);
     }
 
     pub fn open(&mut self, seat: Seat)
-        ensures { self.new ≡ record self.old { answer = record self.old.answer { opened = Some seat } } }
+        ensures { self.new
+            ≡ record self.old { answer = record self.old.answer { opened = Some seat } } }
     {
         self.opened = Some(seat);
     }
 
     pub fn enter(&mut self, entry: u32)
-        ensures { self.new ≡ record self.old { answer = record self.old.answer { entry = Some entry } } }
+        ensures { self.new
+            ≡ record self.old { answer = record self.old.answer { entry = Some entry } } }
     {
         self.entry = Some(entry);
     }
@@ -203,7 +218,8 @@ impl Making {
     /// A party goes out for an errand. There is none out for this answer yet.
     pub fn send_out(&mut self, party: HeldParty)
         requires { self.old.answer.work ≡ None }
-        ensures { self.new ≡ record self.old { answer = record self.old.answer { work = Some party } } }
+        ensures { self.new
+            ≡ record self.old { answer = record self.old.answer { work = Some party } } }
     {
         self.work = Some(party);
     }
@@ -211,14 +227,16 @@ impl Making {
     /// A party is to be let go. There is none yet.
     pub fn let_go(&mut self, party: HeldParty)
         requires { self.old.answer.spent ≡ None }
-        ensures { self.new ≡ record self.old { answer = record self.old.answer { spent = Some party } } }
+        ensures { self.new
+            ≡ record self.old { answer = record self.old.answer { spent = Some party } } }
     {
         self.spent = Some(party);
     }
 
     /// Boxes that no transaction took are handed back.
     pub fn hand_back(&mut self, boxes: HeldFresh)
-        ensures { self.new ≡ record self.old { answer = record self.old.answer { unused = Some boxes } } }
+        ensures { self.new
+            ≡ record self.old { answer = record self.old.answer { unused = Some boxes } } }
     {
         self.unused = Some(boxes);
     }
@@ -250,7 +268,8 @@ impl Making {
     /// The answer as it is now, with its lines in the order of their turns.
     pub fn finish(self, turns: &Turns) -> Answer
         requires { Always }
-        ensures { result ≡ record self.answer { sent = in_turn (turn_in turns.now.turns) self.answer.sent } }
+        ensures { result
+            ≡ record self.answer { sent = in_turn (turn_in turns.now.turns) self.answer.sent } }
     {
         let Making {
             refusal,

@@ -28,10 +28,14 @@ impl Work<Connection, Transaction, Making> {
     pub fn prepare(&mut self, alloc: Global, event: &Event) -> Result<Room, AllocError>
         requires here { self.old.realm < length self.old.heads.items }
         requires counts { HasCounts (work_of self.old).state }
-        ensures ok { IfOk result (Suits (work_of self.new).state self.new.connections.free self.new.transactions.free (of self.new.transactions self.new.realm) event.now) }
-        ensures connections { (realm : ℕ) → of self.new.connections realm ≡ of self.old.connections realm }
-        ensures transactions { (realm : ℕ) → map seen (of self.new.transactions realm) ≡ map seen (of self.old.transactions realm) }
-        ensures rest { self.new ≡ record self.old { connections = self.new.connections; transactions = self.new.transactions } }
+        ensures ok { IfOk result (Suits (work_of self.new).state self.new.connections.free
+            self.new.transactions.free (of self.new.transactions self.new.realm) event.now) }
+        ensures connections { (realm : ℕ) →
+            of self.new.connections realm ≡ of self.old.connections realm }
+        ensures transactions { (realm : ℕ) →
+            map seen (of self.new.transactions realm) ≡ map seen (of self.old.transactions realm) }
+        ensures rest { self.new ≡ record self.old
+            { connections = self.new.connections; transactions = self.new.transactions } }
     {
         self.reserve(event)?;
         self.reserve_part(event)?;
@@ -46,9 +50,12 @@ impl Work<Connection, Transaction, Making> {
     fn reserve(&mut self, event: &Event) -> Result<(), AllocError>
         ensures places { OnOk result (connections_for event.now ≤ self.new.connections.free) }
         ensures open { OnOk result (transactions_for event.now ≤ self.new.transactions.free) }
-        ensures connections { (realm : ℕ) → of self.new.connections realm ≡ of self.old.connections realm }
-        ensures transactions { (realm : ℕ) → of self.new.transactions realm ≡ of self.old.transactions realm }
-        ensures rest { self.new ≡ record self.old { connections = self.new.connections; transactions = self.new.transactions } }
+        ensures connections { (realm : ℕ) →
+            of self.new.connections realm ≡ of self.old.connections realm }
+        ensures transactions { (realm : ℕ) →
+            of self.new.transactions realm ≡ of self.old.transactions realm }
+        ensures rest { self.new ≡ record self.old
+            { connections = self.new.connections; transactions = self.new.transactions } }
     {
         if opens(event) {
             return self.connections.reserve();
@@ -63,8 +70,10 @@ impl Work<Connection, Transaction, Making> {
     #[tactic(auto, using(crate::proofs::Needing::growing))]
     fn reserve_part(&mut self, event: &Event) -> Result<(), AllocError>
         requires here { self.old.realm < length self.old.heads.items }
-        ensures part { OnOk result (MayJoin event.now (work_of self.new).state.head.name (of self.new.transactions self.new.realm)) }
-        ensures transactions { (realm : ℕ) → map seen (of self.new.transactions realm) ≡ map seen (of self.old.transactions realm) }
+        ensures part { OnOk result (MayJoin event.now (work_of self.new).state.head.name
+            (of self.new.transactions self.new.realm)) }
+        ensures transactions { (realm : ℕ) →
+            map seen (of self.new.transactions realm) ≡ map seen (of self.old.transactions realm) }
         ensures free { self.new.transactions.free ≡ self.old.transactions.free }
         ensures rest { self.new ≡ record self.old { transactions = self.new.transactions } }
     {
@@ -100,7 +109,8 @@ impl Work<Connection, Transaction, Making> {
     ) -> Result<Option<TransactionRoom>, AllocError>
         requires here { self.now.realm < length self.now.heads.items }
         requires counts { HasCounts (work_of self.now).state }
-        ensures { is_open (work_of self.now).state ≡ true → IfOk result (λ room. room ≡ room_needed event.now (work_of self.now).state) }
+        ensures { is_open (work_of self.now).state ≡ true →
+            IfOk result (λ room. room ≡ room_needed event.now (work_of self.now).state) }
     {
         if !self.is_open() {
             return Ok(None);
@@ -122,9 +132,12 @@ impl Work<Connection, Transaction, Making> {
     /// Copies of words, for what may be made of them.
     fn words_needed(&self, event: &Event) -> Result<Words, AllocError>
         requires { self.now.realm < length self.now.heads.items }
-        ensures peer { IfOk result (λ words. words.peer ≡ peer_needed event.now (work_of self.now).state) }
-        ensures ours { IfOk result (λ words. words.ours ≡ ours_needed event.now (work_of self.now).state) }
-        ensures word { IfOk result (λ words. words.word ≡ word_needed event.now (work_of self.now).state) }
+        ensures peer { IfOk result
+            (λ words. words.peer ≡ peer_needed event.now (work_of self.now).state) }
+        ensures ours { IfOk result
+            (λ words. words.ours ≡ ours_needed event.now (work_of self.now).state) }
+        ensures word { IfOk result
+            (λ words. words.word ≡ word_needed event.now (work_of self.now).state) }
     {
         Ok(Words {
             peer: self.peer_needed(event)?,
@@ -181,7 +194,8 @@ impl Work<Connection, Transaction, Making> {
     #[tactic(auto, using(crate::proofs::Purposes::superior_wording))]
     fn superior_word(&self, id: &Id) -> Result<Option<Id>, AllocError>
         requires { self.now.realm < length self.now.heads.items }
-        ensures { IfOk result (λ word. word ≡ superior_of (identified_by id.now (work_of self.now).state)) }
+        ensures { IfOk result
+            (λ word. word ≡ superior_of (identified_by id.now (work_of self.now).state)) }
     {
         match self.identified(id) {
             Some((key, place)) => superior_in(&self.at(key, place).origin),
@@ -193,7 +207,8 @@ impl Work<Connection, Transaction, Making> {
     #[tactic(auto, using(crate::proofs::Aims::subordinate_wording))]
     fn subordinate_word(&self, id: &Id, number: u32) -> Result<Option<Id>, AllocError>
         requires { self.now.realm < length self.now.heads.items }
-        ensures { IfOk result (λ word. word ≡ named_of number (identified_by id.now (work_of self.now).state)) }
+        ensures { IfOk result
+            (λ word. word ≡ named_of number (identified_by id.now (work_of self.now).state)) }
     {
         match self.identified(id) {
             Some((key, place)) => subordinate_in(self.at(key, place), number),
@@ -269,7 +284,8 @@ impl Work<Connection, Transaction, Making> {
 
     /// The same of a line on the connection of a number: the transaction that it asks for may be another.
     fn lines_of_line(&self, number: u32) -> Result<usize, AllocError>
-        ensures { IfOk result (λ lines. lines ≡ lines_at number (work_of self.now).state + (lines_queried number (work_of self.now).state + 2)) }
+        ensures { IfOk result (λ lines. lines ≡ lines_at number (work_of self.now).state
+            + (lines_queried number (work_of self.now).state + 2)) }
     {
         let queried = self.lines_queried(number).checked_add(2).ok_or(AllocError)?;
         self.lines_at(number).checked_add(queried).ok_or(AllocError)
@@ -288,7 +304,8 @@ impl Work<Connection, Transaction, Making> {
     /// The transaction that the connection of a number asks for.
     #[tactic(auto, using(crate::proofs::Needing::asking))]
     fn queried(&self, number: u32) -> Option<Key>
-        ensures { result ≡ option_and_then (λ connection. key_queried connection.awaited) (connection_of number (work_of self.now).state) }
+        ensures { result ≡ option_and_then (λ connection. key_queried connection.awaited)
+            (connection_of number (work_of self.now).state) }
     {
         let place = self.connections.find(self.realm, &Numbered { number })?;
         key_queried(&self.connections.item(place).awaited)
@@ -298,7 +315,8 @@ impl Work<Connection, Transaction, Making> {
     #[tactic(auto, using(crate::proofs::Needing::counting))]
     fn lines_of(&self, party: &HeldParty) -> usize
         requires { self.now.realm < length self.now.heads.items }
-        ensures { result ≡ lines_of (owner party.now (work_of self.now).state) (work_of self.now).state }
+        ensures { result
+            ≡ lines_of (owner party.now (work_of self.now).state) (work_of self.now).state }
     {
         match self.owner(party) {
             Some((key, _)) => self.lines_for(key),

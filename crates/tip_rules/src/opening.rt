@@ -34,7 +34,10 @@ impl Work<Connection, Transaction, Making> {
         requires below { is_open (work_of self.old).state ≡ true }
         requires silent { self.old.making.answer ≡ silence }
         ensures does { Does self.old self.new (entered (work_of self.old).state) }
-        ensures rest { self.new ≡ record self.old { heads = self.new.heads; making = record self.old.making { answer = self.new.making.answer } } }
+        ensures rest { self.new ≡ record self.old {
+          heads = self.new.heads;
+          making = record self.old.making { answer = self.new.making.answer };
+        } }
     {
         let head = &mut self.heads[self.realm];
         let _most = head.limits.entries;
@@ -46,8 +49,10 @@ impl Work<Connection, Transaction, Making> {
     pub fn seated(&self, seat: Seat) -> Option<usize>
         requires { self.now.realm < length self.now.heads.items }
         ensures none { (result ≡ None) ↔ (seated seat (work_of self.now).state ≡ None) }
-        ensures some { IfSome result (λ place. StandsAt self.now.connections self.now.realm (has_number seat.number) place) }
-        ensures same { IfSome result (λ place. seated seat (work_of self.now).state ≡ connection_of seat.number (work_of self.now).state) }
+        ensures some { IfSome result
+            (λ place. StandsAt self.now.connections self.now.realm (has_number seat.number) place) }
+        ensures same { IfSome result (λ place. seated seat (work_of self.now).state
+            ≡ connection_of seat.number (work_of self.now).state) }
     {
         seat_place(&self.heads[self.realm], &self.connections, self.realm, seat)
     }
@@ -58,7 +63,8 @@ impl Work<Connection, Transaction, Making> {
         requires here { self.old.realm < length self.old.heads.items }
         requires lines { lines_at seat.number (work_of self.old).state ≤ self.old.making.free }
         requires none { IsIdle self.old.making.answer }
-        ensures { Does self.old self.new (lost (seated seat (work_of self.old).state) (work_of self.old)) }
+        ensures { Does self.old self.new
+            (lost (seated seat (work_of self.old).state) (work_of self.old)) }
     {
         match self.seated(seat) {
             Some(place) => self.fail(seat.number, place),
@@ -70,7 +76,8 @@ impl Work<Connection, Transaction, Making> {
     #[tactic(auto, using(crate::proofs::Openings::opening))]
     pub fn open(&mut self, boxes: HeldFresh)
         requires here { self.old.realm < length self.old.heads.items }
-        requires counted { (work_of self.old).state.head.given < (work_of self.old).state.head.entries }
+        requires counted { (work_of self.old).state.head.given
+            < (work_of self.old).state.head.entries }
         requires free { 0 < self.old.connections.free }
         ensures { Does self.old self.new (opened boxes (work_of self.old)) }
     {
@@ -103,8 +110,12 @@ impl Work<Connection, Transaction, Making> {
     /// The seat of the next connection, which is counted.
     pub(crate) fn next_seat(&mut self) -> Seat
         requires here { self.old.realm < length self.old.heads.items }
-        requires counted { (work_of self.old).state.head.given < (work_of self.old).state.head.entries }
-        ensures seat { result ≡ record { epoch = (work_of self.old).state.head.epoch; number = (work_of self.old).state.head.given + 1 } }
+        requires counted { (work_of self.old).state.head.given
+            < (work_of self.old).state.head.entries }
+        ensures seat { result ≡ record {
+          epoch = (work_of self.old).state.head.epoch;
+          number = (work_of self.old).state.head.given + 1;
+        } }
         ensures does { Does self.old self.new (counting (work_of self.old)) }
         ensures rest { self.new ≡ record self.old { heads = self.new.heads } }
     {
@@ -130,7 +141,8 @@ impl Work<Connection, Transaction, Making> {
     /// The new connection is shown.
     pub(crate) fn show(&mut self, seat: Seat)
         ensures does { Does self.old self.new (showing seat (work_of self.old)) }
-        ensures rest { self.new ≡ record self.old { making = record self.old.making { answer = self.new.making.answer } } }
+        ensures rest { self.new ≡ record self.old
+            { making = record self.old.making { answer = self.new.making.answer } } }
     {
         self.making.open(seat);
     }
@@ -143,9 +155,12 @@ pub fn seat_place(
     realm: usize,
     seat: Seat,
 ) -> Option<usize>
-    ensures none { (result ≡ None) ↔ (seated seat (connected head.now connections.now realm) ≡ None) }
-    ensures some { IfSome result (λ place. StandsAt connections.now realm (has_number seat.number) place) }
-    ensures same { IfSome result (λ place. seated seat (connected head.now connections.now realm) ≡ connection_of seat.number (connected head.now connections.now realm)) }
+    ensures none { (result ≡ None) ↔
+        (seated seat (connected head.now connections.now realm) ≡ None) }
+    ensures some { IfSome result
+        (λ place. StandsAt connections.now realm (has_number seat.number) place) }
+    ensures same { IfSome result (λ place. seated seat (connected head.now connections.now realm)
+        ≡ connection_of seat.number (connected head.now connections.now realm)) }
 {
     if seat.epoch != head.epoch {
         return None;

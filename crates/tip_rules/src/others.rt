@@ -133,7 +133,8 @@ impl<'a> Others<'a> {
     ) -> Others<'a>
         requires some { 0 < place }
         requires within { place ≤ length others.now }
-        ensures { result ≡ take (place - 1) others.now ++ (noted note.now participant.now ∷ drop place others.now) }
+        ensures { result ≡ take (place - 1) others.now
+            ++ (noted note.now participant.now ∷ drop place others.now) }
     {
         let (front, _) = others.split_at(place - 1);
         let (_, back) = others.split_at(place);
@@ -192,7 +193,8 @@ impl<'a> Others<'a> {
 /// What the answers of a transaction decide, once this is noted of one of its parts.
 #[tactic(auto, using(crate::proofs::Subordinates::deciding_noted))]
 pub fn decide_noting(txn: &Txn, part: Part, note: &Note) -> Decision
-    ensures { result ≡ decision (map (λ p. p.answer) (changed_at part (noted note.now) txn.now.parts)) }
+    ensures { result
+        ≡ decision (map (λ p. p.answer) (changed_at part (noted note.now) txn.now.parts)) }
 {
     match txn.part(Part::local()) {
         Some(local) => Others::noting(txn, part, note).decide(local_answer(local, part, note)),
@@ -281,7 +283,8 @@ fn add_pair_if_noted(
     pairs: &mut Vec<(Address, Id)>,
     noted: &Option<Noted>,
 ) -> Result<(), AllocError>
-    ensures { OnOk result (pairs.new.items ≡ pairs.old.items ++ pairs_of (option_to_list noted.now)) }
+    ensures { OnOk result
+        (pairs.new.items ≡ pairs.old.items ++ pairs_of (option_to_list noted.now)) }
 {
     match noted {
         Some(noted) => add_noted(pairs, noted),

@@ -28,7 +28,8 @@ impl Work<Connection, Transaction, Making> {
     pub fn proceed(&mut self, key: Key)
         requires lines { lines_for key (work_of self.old).state ≤ self.old.making.free }
         requires none { MayDispatch key (work_of self.old) }
-        ensures { Does self.old self.new (chosen (proceed key (work_of self.old)) self.old.outcome) }
+        ensures { Does self.old self.new
+            (chosen (proceed key (work_of self.old)) self.old.outcome) }
     {
         let Some(place) = self.transaction(key) else {
             return;
@@ -46,7 +47,9 @@ impl Work<Connection, Transaction, Making> {
     pub fn ask(&mut self, key: Key)
         requires lines { lines_for key (work_of self.old).state ≤ self.old.making.free }
         requires none { IsIdle self.old.making.answer }
-        ensures { (transaction : ATransaction) → transaction_of key (work_of self.old).state ≡ Some transaction → Does self.old self.new (chosen (ask transaction (work_of self.old)) self.old.outcome) }
+        ensures { (transaction : ATransaction) →
+            transaction_of key (work_of self.old).state ≡ Some transaction →
+            Does self.old self.new (chosen (ask transaction (work_of self.old)) self.old.outcome) }
     {
         self.enter(key, Phase::Asking);
         self.ask_party(key);
@@ -57,7 +60,8 @@ impl Work<Connection, Transaction, Making> {
     #[tactic(auto, using(crate::proofs::Outcomes::voting))]
     fn ask_party(&mut self, key: Key)
         requires none { MayDispatch key (work_of self.old) }
-        ensures { Does self.old self.new (on_key key (λ transaction. asked_for_votes transaction.place key) (work_of self.old)) }
+        ensures { Does self.old self.new
+            (on_key key (λ transaction. asked_for_votes transaction.place key) (work_of self.old)) }
     {
         let Some(place) = self.transaction(key) else {
             return;
@@ -74,7 +78,11 @@ impl Work<Connection, Transaction, Making> {
         requires stands { StandsAt self.old.transactions self.old.realm (is_keyed key) place }
         requires lines { lines_for key (work_of self.old).state ≤ self.old.making.free }
         requires none { MayDispatch key (work_of self.old) }
-        ensures { (transaction : ATransaction) → transaction_of key (work_of self.old).state ≡ Some transaction → Does self.old self.new (chosen (conclude (decision_of transaction) transaction (work_of self.old)) self.old.outcome) }
+        ensures { (transaction : ATransaction) →
+            transaction_of key (work_of self.old).state ≡ Some transaction →
+            Does self.old self.new (chosen
+            (conclude (decision_of transaction) transaction (work_of self.old))
+            self.old.outcome) }
     {
         match self.at(key, place).txn.decide() {
             Decision::Wait => self.wait(key, place),
@@ -89,7 +97,9 @@ impl Work<Connection, Transaction, Making> {
     fn wait(&mut self, key: Key, place: usize)
         requires stands { StandsAt self.old.transactions self.old.realm (is_keyed key) place }
         requires lines { lines_for key (work_of self.old).state ≤ self.old.making.free }
-        ensures { (transaction : ATransaction) → transaction_of key (work_of self.old).state ≡ Some transaction → Does self.old self.new (wait transaction.phase transaction.key (work_of self.old)) }
+        ensures { (transaction : ATransaction) →
+            transaction_of key (work_of self.old).state ≡ Some transaction →
+            Does self.old self.new (wait transaction.phase transaction.key (work_of self.old)) }
     {
         match self.at(key, place).txn.phase() {
             Phase::Asking => self.react(Reaction::Asks, key),
@@ -103,7 +113,11 @@ impl Work<Connection, Transaction, Making> {
         requires stands { StandsAt self.old.transactions self.old.realm (is_keyed key) place }
         requires lines { lines_for key (work_of self.old).state ≤ self.old.making.free }
         requires none { MayDispatch key (work_of self.old) }
-        ensures { (transaction : ATransaction) → transaction_of key (work_of self.old).state ≡ Some transaction → Does self.old self.new (chosen (agree (owed_to_superior transaction.key (work_of self.old).state) transaction.origin transaction (work_of self.old)) self.old.outcome) }
+        ensures { (transaction : ATransaction) →
+            transaction_of key (work_of self.old).state ≡ Some transaction →
+            Does self.old self.new (chosen (agree
+            (owed_to_superior transaction.key (work_of self.old).state)
+            transaction.origin transaction (work_of self.old)) self.old.outcome) }
     {
         match self.owed_to_superior(key) {
             Some(CommandName::Prepare) => {
@@ -129,7 +143,9 @@ impl Work<Connection, Transaction, Making> {
     fn promise_if_stored(&mut self, key: Key)
         requires lines { lines_for key (work_of self.old).state ≤ self.old.making.free }
         requires none { MayDispatch key (work_of self.old) }
-        ensures { (change : Change) → Does self.old self.new (chosen (Attempt.Asks change (promise key (work_of self.old)) (aborted key (work_of self.old))) self.old.outcome) }
+        ensures { (change : Change) → Does self.old self.new (chosen (Attempt.Asks change
+            (promise key (work_of self.old)) (aborted key (work_of self.old)))
+            self.old.outcome) }
     {
         match self.outcome {
             Outcome::Stored => self.promise(key),
@@ -141,7 +157,9 @@ impl Work<Connection, Transaction, Making> {
     fn commit_if_stored(&mut self, key: Key)
         requires lines { lines_for key (work_of self.old).state ≤ self.old.making.free }
         requires none { MayDispatch key (work_of self.old) }
-        ensures { (change : Change) → Does self.old self.new (chosen (Attempt.Asks change (commit key (work_of self.old)) (aborted key (work_of self.old))) self.old.outcome) }
+        ensures { (change : Change) → Does self.old self.new (chosen (Attempt.Asks change
+            (commit key (work_of self.old)) (aborted key (work_of self.old)))
+            self.old.outcome) }
     {
         match self.outcome {
             Outcome::Stored => self.commit(key),
@@ -198,7 +216,11 @@ impl Work<Connection, Transaction, Making> {
     fn remind(&mut self, key: Key, place: usize)
         requires stands { StandsAt self.old.transactions self.old.realm (is_keyed key) place }
         requires lines { lines_for key (work_of self.old).state ≤ self.old.making.free }
-        ensures { (transaction : ATransaction) → transaction_of key (work_of self.old).state ≡ Some transaction → Does self.old self.new (chosen (finish transaction (react commits transaction.key (work_of self.old))) self.old.outcome) }
+        ensures { (transaction : ATransaction) →
+            transaction_of key (work_of self.old).state ≡ Some transaction →
+            Does self.old self.new (chosen
+            (finish transaction (react commits transaction.key (work_of self.old)))
+            self.old.outcome) }
     {
         self.react(Reaction::Commits, key);
         self.finish(key, place);
@@ -208,7 +230,10 @@ impl Work<Connection, Transaction, Making> {
     #[tactic(auto, using(crate::proofs::Outcomes::finishing))]
     pub fn finish(&mut self, key: Key, place: usize)
         requires { StandsAt self.old.transactions self.old.realm (is_keyed key) place }
-        ensures { (transaction : ATransaction) → transaction_of key (work_of self.old).state ≡ Some transaction → Does self.old self.new (chosen (finish transaction (work_of self.old)) self.old.outcome) }
+        ensures { (transaction : ATransaction) →
+            transaction_of key (work_of self.old).state ≡ Some transaction →
+            Does self.old self.new
+            (chosen (finish transaction (work_of self.old)) self.old.outcome) }
     {
         if !is_done(self.at(key, place)) {
             return;

@@ -87,7 +87,9 @@ impl<'a> Outlook<'a> {
     /// Once its party, of these branches, has voted so.
     #[tactic(auto, using(crate::proofs::Outlooks::deciding))]
     pub fn voted(transaction: &'a Transaction, answer: Ballot, members: &'a [Member]) -> Outlook<'a>
-        ensures { (party : PartyNotes) → members.now ≡ party.members → result ≡ outlook (noting 0 (answered answer) (standing_at (Here party) (seen transaction.now))) }
+        ensures { (party : PartyNotes) → members.now ≡ party.members →
+            result ≡ outlook
+            (noting 0 (answered answer) (standing_at (Here party) (seen transaction.now))) }
     {
         Outlook {
             transaction,
@@ -102,7 +104,8 @@ impl<'a> Outlook<'a> {
     /// Once its party, of these branches, is here again.
     #[tactic(auto, using(crate::proofs::Outlooks::deciding))]
     pub fn back(transaction: &'a Transaction, members: &'a [Member]) -> Outlook<'a>
-        ensures { (party : PartyNotes) → members.now ≡ party.members → result ≡ outlook (standing_at (Here party) (seen transaction.now)) }
+        ensures { (party : PartyNotes) → members.now ≡ party.members →
+            result ≡ outlook (standing_at (Here party) (seen transaction.now)) }
     {
         Outlook {
             transaction,
@@ -186,7 +189,8 @@ impl<'a> Outlook<'a> {
 
     /// The row in doubt is stored, where the superior said where it is.
     fn promising(&self, alloc: Global) -> Result<Option<Change>, AllocError>
-        ensures { IfOk result (λ change. change ≡ agreed_change (Some Prepare) self.now.origin self.now) }
+        ensures { IfOk result
+            (λ change. change ≡ agreed_change (Some Prepare) self.now.origin self.now) }
     {
         match &self.transaction.origin {
             Origin::Subordinate {

@@ -37,7 +37,11 @@ impl Work<Connection, Transaction, Making> {
         requires lines { lines_at number (work_of self.old).state + 2 ≤ self.old.making.free }
         requires queried { lines_for key (work_of self.old).state ≤ self.old.making.free }
         requires none { IsIdle self.old.making.answer }
-        ensures { (connection : AConnection) → connection_of number (work_of self.old).state ≡ Some connection → Does self.old self.new (chosen (querying (exists_of response) key response connection (work_of self.old)) self.old.outcome) }
+        ensures { (connection : AConnection) →
+            connection_of number (work_of self.old).state ≡ Some connection →
+            Does self.old self.new (chosen
+            (querying (exists_of response) key response connection (work_of self.old))
+            self.old.outcome) }
     {
         match exists_of(&response) {
             Some(exists) => self.end_query(number, place, key, exists),
@@ -52,7 +56,11 @@ impl Work<Connection, Transaction, Making> {
         requires lines { lines_at number (work_of self.old).state + 2 ≤ self.old.making.free }
         requires queried { lines_for key (work_of self.old).state ≤ self.old.making.free }
         requires none { IsIdle self.old.making.answer }
-        ensures { (connection : AConnection) (said : ASaid) → connection_of number (work_of self.old).state ≡ Some connection → Does self.old self.new (chosen (querying (Some exists) key said connection (work_of self.old)) self.old.outcome) }
+        ensures { (connection : AConnection) (said : ASaid) →
+            connection_of number (work_of self.old).state ≡ Some connection →
+            Does self.old self.new (chosen
+            (querying (Some exists) key said connection (work_of self.old))
+            self.old.outcome) }
     {
         if exists {
             self.go(
@@ -78,7 +86,8 @@ impl Work<Connection, Transaction, Making> {
     /// Whether the transaction of a key is in doubt, with nobody to tell it the outcome.
     #[tactic(auto, using(crate::proofs::Asking::doubting))]
     pub(crate) fn is_in_doubt(&self, key: Key) -> bool
-        ensures { result ≡ option_map_or (is_in_doubt (work_of self.now).state) (transaction_of key (work_of self.now).state) false }
+        ensures { result ≡ option_map_or (is_in_doubt (work_of self.now).state)
+            (transaction_of key (work_of self.now).state) false }
     {
         match self.transaction(key) {
             Some(place) => {
@@ -104,7 +113,11 @@ impl Work<Connection, Transaction, Making> {
         requires key { lines_for key (work_of self.old).state ≤ self.old.making.free }
         requires lines { lines_as role (work_of self.old).state + 1 ≤ self.old.making.free }
         requires none { IsIdle self.old.making.answer }
-        ensures { (connection : AConnection) (change : Change) → connection_of number (work_of self.old).state ≡ Some connection → Does self.old self.new (chosen (Attempt.Asks change (aborted key (work_of self.old)) (closed (record connection { role = role }) (work_of self.old))) self.old.outcome) }
+        ensures { (connection : AConnection) (change : Change) →
+            connection_of number (work_of self.old).state ≡ Some connection →
+            Does self.old self.new (chosen (Attempt.Asks change (aborted key (work_of self.old))
+            (closed (record connection { role = role }) (work_of self.old)))
+            self.old.outcome) }
     {
         match self.outcome {
             Outcome::Stored => self.abort(key),
@@ -118,7 +131,9 @@ impl Work<Connection, Transaction, Making> {
         requires stands { StandsAt self.old.connections self.old.realm (has_number number) place }
         requires lines { lines_as role (work_of self.old).state + 1 ≤ self.old.making.free }
         requires none { IsIdle self.old.making.answer }
-        ensures { (connection : AConnection) → connection_of number (work_of self.old).state ≡ Some connection → Does self.old self.new (closed (record connection { role = role }) (work_of self.old)) }
+        ensures { (connection : AConnection) →
+            connection_of number (work_of self.old).state ≡ Some connection →
+            Does self.old self.new (closed (record connection { role = role }) (work_of self.old)) }
     {
         self.tell(number, Item::Close);
         let _role = self.remove(number, place);

@@ -19,9 +19,12 @@ impl Work<Connection, Transaction, Making> {
         requires here { self.old.realm < length self.old.heads.items }
         requires stands { StandsAt self.old.connections self.old.realm (has_number number) place }
         requires peer { self.old.making.peer ≡ peer_of number (work_of self.old).state }
-        requires part { CanGrow (work_of self.old).state.head.name superior.now (of self.old.transactions self.old.realm) }
+        requires part { CanGrow (work_of self.old).state.head.name superior.now
+            (of self.old.transactions self.old.realm) }
         requires lines { 0 < self.old.making.free }
-        ensures { (connection : AConnection) → connection_of number (work_of self.old).state ≡ Some connection → Does self.old self.new (pull superior.now subordinate connection (work_of self.old)) }
+        ensures { (connection : AConnection) →
+            connection_of number (work_of self.old).state ≡ Some connection →
+            Does self.old self.new (pull superior.now subordinate connection (work_of self.old)) }
     {
         let address = self.making.take_peer();
         match self.join_part(superior, address, Some(subordinate)) {
@@ -40,9 +43,13 @@ impl Work<Connection, Transaction, Making> {
         subordinate: Option<Id>,
     ) -> Option<Role>
         requires here { self.old.realm < length self.old.heads.items }
-        requires part { CanGrow (work_of self.old).state.head.name superior.now (of self.old.transactions self.old.realm) }
-        ensures role { result ≡ joined_as (identified_by superior.now (work_of self.old).state) address subordinate }
-        ensures does { Does self.old self.new (joining_part (identified_by superior.now (work_of self.old).state) address subordinate (work_of self.old)) }
+        requires part { CanGrow (work_of self.old).state.head.name superior.now
+            (of self.old.transactions self.old.realm) }
+        ensures role { result
+            ≡ joined_as (identified_by superior.now (work_of self.old).state) address subordinate }
+        ensures does { Does self.old self.new (joining_part
+            (identified_by superior.now (work_of self.old).state) address subordinate
+            (work_of self.old)) }
         ensures rest { self.new ≡ record self.old { transactions = self.new.transactions } }
     {
         let address = address?;

@@ -30,7 +30,11 @@ impl Work<Connection, Transaction, Making> {
         requires lines { lines_at number (work_of self.old).state + 2 ≤ self.old.making.free }
         requires word { self.old.making.word ≡ word_at number (work_of self.old).state }
         requires none { IsIdle self.old.making.answer }
-        ensures { (connection : AConnection) (id : List ℕ) → connection_of number (work_of self.old).state ≡ Some connection → asked_for connection.awaited ≡ Some id → Does self.old self.new (chosen (identifying (version_of response) (ToQuery id) response connection (work_of self.old)) self.old.outcome) }
+        ensures { (connection : AConnection) (id : List ℕ) →
+            connection_of number (work_of self.old).state ≡ Some connection →
+            asked_for connection.awaited ≡ Some id →
+            Does self.old self.new (chosen (identifying (version_of response) (ToQuery id) response
+            connection (work_of self.old)) self.old.outcome) }
     {
         match version_of(&response) {
             Some(version) => self.greet_to_ask(number, place, version),
@@ -46,7 +50,10 @@ impl Work<Connection, Transaction, Making> {
         requires lines { lines_at number (work_of self.old).state + 2 ≤ self.old.making.free }
         requires word { self.old.making.word ≡ word_at number (work_of self.old).state }
         requires none { IsIdle self.old.making.answer }
-        ensures { (connection : AConnection) (id : List ℕ) → connection_of number (work_of self.old).state ≡ Some connection → asked_for connection.awaited ≡ Some id → Does self.old self.new (greeted version (ToQuery id) connection (work_of self.old)) }
+        ensures { (connection : AConnection) (id : List ℕ) →
+            connection_of number (work_of self.old).state ≡ Some connection →
+            asked_for connection.awaited ≡ Some id →
+            Does self.old self.new (greeted version (ToQuery id) connection (work_of self.old)) }
     {
         if version >= 3 {
             self.pursue_query(number, place);
@@ -62,7 +69,11 @@ impl Work<Connection, Transaction, Making> {
         requires lines { lines_at number (work_of self.old).state + 2 ≤ self.old.making.free }
         requires word { self.old.making.word ≡ word_at number (work_of self.old).state }
         requires none { IsIdle self.old.making.answer }
-        ensures { (connection : AConnection) (id : List ℕ) → connection_of number (work_of self.old).state ≡ Some connection → asked_for connection.awaited ≡ Some id → Does self.old self.new (query_for (identified_by id (work_of self.old).state) connection (go_on AnIdentify AnIdentified connection (work_of self.old))) }
+        ensures { (connection : AConnection) (id : List ℕ) →
+            connection_of number (work_of self.old).state ≡ Some connection →
+            asked_for connection.awaited ≡ Some id →
+            Does self.old self.new (query_for (identified_by id (work_of self.old).state) connection
+            (go_on AnIdentify AnIdentified connection (work_of self.old))) }
     {
         let connection = self.connection(number, place);
         let role = connection.role;
@@ -82,7 +93,8 @@ impl Work<Connection, Transaction, Making> {
     /// The key of the transaction that a connection was opened to ask for, if it is open.
     fn key_asked(&self, awaited: &Option<Awaited>) -> Option<Key>
         requires { self.now.realm < length self.now.heads.items }
-        ensures { result ≡ option_and_then (key_of (work_of self.now).state) (asked_for awaited.now) }
+        ensures { result
+            ≡ option_and_then (key_of (work_of self.now).state) (asked_for awaited.now) }
     {
         match awaited {
             Some(Awaited::Identify(Purpose::Query(id))) => self.key_of(id),
@@ -105,9 +117,13 @@ impl Work<Connection, Transaction, Making> {
     fn query_about(&mut self, number: u32, place: usize, role: Option<Role>, key: Key)
         requires stands { StandsAt self.old.connections self.old.realm (has_number number) place }
         requires lines { lines_as role (work_of self.old).state + 1 ≤ self.old.making.free }
-        requires word { self.old.making.word ≡ superior_of (transaction_of key (work_of self.old).state) }
+        requires word { self.old.making.word
+            ≡ superior_of (transaction_of key (work_of self.old).state) }
         requires none { IsIdle self.old.making.answer }
-        ensures { (connection : AConnection) → connection_of number (work_of self.old).state ≡ Some connection → Does self.old self.new (query_for (transaction_of key (work_of self.old).state) (record connection { role = role }) (work_of self.old)) }
+        ensures { (connection : AConnection) →
+            connection_of number (work_of self.old).state ≡ Some connection →
+            Does self.old self.new (query_for (transaction_of key (work_of self.old).state)
+            (record connection { role = role }) (work_of self.old)) }
     {
         if !self.is_in_doubt(key) {
             return self.close_as(number, place, role);
@@ -122,7 +138,10 @@ impl Work<Connection, Transaction, Making> {
     /// Whether the superior of the transaction of a key is at the other side of a connection.
     fn is_decided_on(&self, number: u32, place: usize, key: Key) -> bool
         requires { StandsAt self.now.connections self.now.realm (has_number number) place }
-        ensures { (connection : AConnection) → connection_of number (work_of self.now).state ≡ Some connection → result ≡ option_map_or (λ t. is_decided_at connection.peer t.origin) (transaction_of key (work_of self.now).state) false }
+        ensures { (connection : AConnection) →
+            connection_of number (work_of self.now).state ≡ Some connection →
+            result ≡ option_map_or (λ t. is_decided_at connection.peer t.origin)
+            (transaction_of key (work_of self.now).state) false }
     {
         match self.transaction(key) {
             Some(at) => is_decided_at(
@@ -138,9 +157,14 @@ impl Work<Connection, Transaction, Making> {
     fn ask_superior(&mut self, number: u32, place: usize, role: Option<Role>, key: Key)
         requires stands { StandsAt self.old.connections self.old.realm (has_number number) place }
         requires lines { lines_as role (work_of self.old).state + 1 ≤ self.old.making.free }
-        requires word { self.old.making.word ≡ superior_of (transaction_of key (work_of self.old).state) }
+        requires word { self.old.making.word
+            ≡ superior_of (transaction_of key (work_of self.old).state) }
         requires none { IsIdle self.old.making.answer }
-        ensures { (connection : AConnection) (t : ATransaction) → connection_of number (work_of self.old).state ≡ Some connection → transaction_of key (work_of self.old).state ≡ Some t → Does self.old self.new (ask_superior t.origin t.key (record connection { role = role }) (work_of self.old)) }
+        ensures { (connection : AConnection) (t : ATransaction) →
+            connection_of number (work_of self.old).state ≡ Some connection →
+            transaction_of key (work_of self.old).state ≡ Some t →
+            Does self.old self.new (ask_superior t.origin t.key (record connection { role = role })
+            (work_of self.old)) }
     {
         match self.making.take_word() {
             Some(superior) => self.send(number, place, Awaited::Query(key), Asked::Query(superior)),

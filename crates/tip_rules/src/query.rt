@@ -166,7 +166,9 @@ fn is_of(realm: &Realm, id: &Id, key: Key) -> bool
 
 /// Whether an identifier was made of a realm's name and a key.
 fn is_made_of(parts: IdParts, realm: &str, key: Key) -> bool
-    ensures { result ≡ (bytes_eq parts.entry.realm.now realm.now && (parts.entry.epoch == key.epoch && (parts.entry.connection == key.connection && (parts.entry.number == key.number)))) }
+    ensures { result ≡ (bytes_eq parts.entry.realm.now realm.now
+        && (parts.entry.epoch == key.epoch && (parts.entry.connection == key.connection
+        && (parts.entry.number == key.number)))) }
 {
     parts.realm == realm
         && parts.epoch == key.epoch()

@@ -42,7 +42,12 @@ impl Work<Connection, Transaction, Making> {
         requires lines { lines_at number (work_of self.old).state + 2 ≤ self.old.making.free }
         requires word { self.old.making.word ≡ word_at number (work_of self.old).state }
         requires none { IsIdle self.old.making.answer }
-        ensures { (connection : AConnection) (id : List ℕ) (subordinate : ℕ) → connection_of number (work_of self.old).state ≡ Some connection → aimed_at connection.awaited ≡ Some (id, subordinate) → Does self.old self.new (chosen (identifying (version_of response) (ToReach id subordinate) response connection (work_of self.old)) self.old.outcome) }
+        ensures { (connection : AConnection) (id : List ℕ) (subordinate : ℕ) →
+            connection_of number (work_of self.old).state ≡ Some connection →
+            aimed_at connection.awaited ≡ Some (id, subordinate) →
+            Does self.old self.new (chosen (identifying (version_of response)
+            (ToReach id subordinate) response connection (work_of self.old))
+            self.old.outcome) }
     {
         match version_of(&response) {
             Some(version) => self.greet_to_reach(number, place, version),
@@ -58,7 +63,11 @@ impl Work<Connection, Transaction, Making> {
         requires lines { lines_at number (work_of self.old).state + 2 ≤ self.old.making.free }
         requires word { self.old.making.word ≡ word_at number (work_of self.old).state }
         requires none { IsIdle self.old.making.answer }
-        ensures { (connection : AConnection) (id : List ℕ) (subordinate : ℕ) → connection_of number (work_of self.old).state ≡ Some connection → aimed_at connection.awaited ≡ Some (id, subordinate) → Does self.old self.new (greeted version (ToReach id subordinate) connection (work_of self.old)) }
+        ensures { (connection : AConnection) (id : List ℕ) (subordinate : ℕ) →
+            connection_of number (work_of self.old).state ≡ Some connection →
+            aimed_at connection.awaited ≡ Some (id, subordinate) →
+            Does self.old self.new
+            (greeted version (ToReach id subordinate) connection (work_of self.old)) }
     {
         if version >= 3 {
             self.pursue_reconnect(number, place);
@@ -74,7 +83,12 @@ impl Work<Connection, Transaction, Making> {
         requires lines { lines_at number (work_of self.old).state + 2 ≤ self.old.making.free }
         requires word { self.old.making.word ≡ word_at number (work_of self.old).state }
         requires none { IsIdle self.old.making.answer }
-        ensures { (connection : AConnection) (id : List ℕ) (subordinate : ℕ) → connection_of number (work_of self.old).state ≡ Some connection → aimed_at connection.awaited ≡ Some (id, subordinate) → Does self.old self.new (reconnect_for (identified_by id (work_of self.old).state) subordinate connection (go_on AnIdentify AnIdentified connection (work_of self.old))) }
+        ensures { (connection : AConnection) (id : List ℕ) (subordinate : ℕ) →
+            connection_of number (work_of self.old).state ≡ Some connection →
+            aimed_at connection.awaited ≡ Some (id, subordinate) →
+            Does self.old self.new (reconnect_for (identified_by id (work_of self.old).state)
+            subordinate connection
+            (go_on AnIdentify AnIdentified connection (work_of self.old))) }
     {
         let connection = self.connection(number, place);
         let role = connection.role;
@@ -95,7 +109,8 @@ impl Work<Connection, Transaction, Making> {
     #[tactic(auto, using(crate::proofs::Aims::aiming))]
     fn aim_of(&self, awaited: &Option<Awaited>) -> Option<Aim>
         requires { self.now.realm < length self.now.heads.items }
-        ensures { result ≡ option_and_then (aim_in (work_of self.now).state) (aimed_at awaited.now) }
+        ensures { result
+            ≡ option_and_then (aim_in (work_of self.now).state) (aimed_at awaited.now) }
     {
         match awaited {
             Some(Awaited::Identify(Purpose::Reconnect(id, subordinate))) => {
@@ -113,9 +128,13 @@ impl Work<Connection, Transaction, Making> {
     fn reach_again(&mut self, number: u32, place: usize, role: Option<Role>, aim: Aim)
         requires stands { StandsAt self.old.connections self.old.realm (has_number number) place }
         requires lines { lines_as role (work_of self.old).state + 1 ≤ self.old.making.free }
-        requires word { self.old.making.word ≡ named_of aim.subordinate (transaction_of aim.key (work_of self.old).state) }
+        requires word { self.old.making.word
+            ≡ named_of aim.subordinate (transaction_of aim.key (work_of self.old).state) }
         requires none { IsIdle self.old.making.answer }
-        ensures { (connection : AConnection) → connection_of number (work_of self.old).state ≡ Some connection → Does self.old self.new (reconnect_for (transaction_of aim.key (work_of self.old).state) aim.subordinate (record connection { role = role }) (work_of self.old)) }
+        ensures { (connection : AConnection) →
+            connection_of number (work_of self.old).state ≡ Some connection →
+            Does self.old self.new (reconnect_for (transaction_of aim.key (work_of self.old).state)
+            aim.subordinate (record connection { role = role }) (work_of self.old)) }
     {
         let key = aim.key;
         match self.owed_part(number, place, key, aim.subordinate) {
@@ -129,7 +148,10 @@ impl Work<Connection, Transaction, Making> {
     #[tactic(auto, using(crate::proofs::Aims::owing_part))]
     fn owed_part(&self, number: u32, place: usize, key: Key, subordinate: u32) -> Option<Part>
         requires { StandsAt self.now.connections self.now.realm (has_number number) place }
-        ensures { (connection : AConnection) → connection_of number (work_of self.now).state ≡ Some connection → result ≡ option_and_then (owed_in connection.peer subordinate (work_of self.now).state) (transaction_of key (work_of self.now).state) }
+        ensures { (connection : AConnection) →
+            connection_of number (work_of self.now).state ≡ Some connection →
+            result ≡ option_and_then (owed_in connection.peer subordinate (work_of self.now).state)
+            (transaction_of key (work_of self.now).state) }
     {
         let at = self.transaction(key)?;
         let transaction = self.at(key, at);
@@ -155,7 +177,8 @@ impl Work<Connection, Transaction, Making> {
         part: Part,
         participant: &Participant,
     ) -> bool
-        ensures { result ≡ is_owed_commit peer.now key (work_of self.now).state (part, participant.now) }
+        ensures { result
+            ≡ is_owed_commit peer.now key (work_of self.now).state (part, participant.now) }
     {
         match peer {
             Some(peer) => {
@@ -181,7 +204,10 @@ impl Work<Connection, Transaction, Making> {
         requires stands { StandsAt self.old.connections self.old.realm (has_number number) place }
         requires lines { lines_as role (work_of self.old).state + 1 ≤ self.old.making.free }
         requires none { IsIdle self.old.making.answer }
-        ensures { (connection : AConnection) → connection_of number (work_of self.old).state ≡ Some connection → Does self.old self.new (reach_by self.old.making.word part key (record connection { role = role }) (work_of self.old)) }
+        ensures { (connection : AConnection) →
+            connection_of number (work_of self.old).state ≡ Some connection →
+            Does self.old self.new (reach_by self.old.making.word part key
+            (record connection { role = role }) (work_of self.old)) }
     {
         match self.making.take_word() {
             Some(id) => self.send_as(
@@ -208,7 +234,8 @@ fn is_at(participant: &Participant, peer: &Address) -> bool
 
 /// The subordinate of a number, counted from 1 among those that said yes, and which part it is.
 pub(crate) fn subordinate_of(transaction: &Transaction, number: u32) -> Option<(Part, &Participant)>
-    ensures { option_map (λ s. (s.0, s.1.now)) result ≡ subordinate_of number (seen transaction.now) }
+    ensures { option_map (λ s. (s.0, s.1.now)) result
+        ≡ subordinate_of number (seen transaction.now) }
 {
     match number {
         0 => None,
@@ -218,7 +245,8 @@ pub(crate) fn subordinate_of(transaction: &Transaction, number: u32) -> Option<(
 
 /// The one at a place among those that said yes, and which part it is.
 fn willing_at(others: &[Participant], place: usize) -> Option<(Part, &Participant)>
-    ensures { option_map (λ s. (s.0, s.1.now)) result ≡ slice_get (willing_from 1 others.now) place }
+    ensures { option_map (λ s. (s.0, s.1.now)) result
+        ≡ slice_get (willing_from 1 others.now) place }
 {
     let mut before = place;
     for (index, participant) in others.iter().enumerate() {

@@ -89,7 +89,8 @@ impl Reaction {
 
     /// What is asked on a connection: of a subordinate alone, where nothing is awaited there.
     fn demanded_on(self, connection: &Connection) -> Option<Demand>
-        ensures { option_map demand_of result ≡ demanded_as (reaction_of self) connection.now.role connection.now }
+        ensures { option_map demand_of result
+            ≡ demanded_as (reaction_of self) connection.now.role connection.now }
     {
         match connection.role {
             Some(Role::Subordinate { .. }) if connection.awaited.is_none() => {
@@ -108,13 +109,17 @@ pub struct Progress {
 }
 
 impl Visit<Connection, Making> for Progress {
-    ghost left = { λ progress connection. (reacted (reaction_of progress.reaction) progress.key connection).connection };
+    ghost left = { λ progress connection.
+        (reacted (reaction_of progress.reaction) progress.key connection).connection };
 
-    ghost noted = { λ progress making connection.
-        let said = sent_by (reaction_of progress.reaction) progress.key connection in
-        record making { answer = record making.answer { sent = making.answer.sent ++ said }; free = making.free - length said } };
+    ghost noted = { λ progress making connection. let said = sent_by (reaction_of progress.reaction)
+        progress.key connection in record making {
+          answer = record making.answer { sent = making.answer.sent ++ said };
+          free = making.free - length said;
+        } };
 
-    ghost may = { λ progress making connection. is_on progress.key connection ≡ true → 0 < making.free };
+    ghost may = { λ progress making connection. is_on progress.key connection ≡ true →
+        0 < making.free };
 
     fn visit(&self, connection: &mut Connection, making: &mut Making) {
         if !is_on(connection.role, self.key) {
@@ -131,8 +136,10 @@ impl Progress {
     /// A superior that asked is answered, where the reaction says so.
     fn answer(&self, connection: &mut Connection, command: CommandName, making: &mut Making)
         requires { 0 < making.old.free }
-        ensures connection { connection.new ≡ (reacts (reaction_of self.now.reaction) self.now.key (Some command) connection.old).connection }
-        ensures making { GoOut making.old making.new (items_on connection.old.number (reacts (reaction_of self.now.reaction) self.now.key (Some command) connection.old).items) }
+        ensures connection { connection.new ≡ (reacts (reaction_of self.now.reaction)
+            self.now.key (Some command) connection.old).connection }
+        ensures making { GoOut making.old making.new (items_on connection.old.number (reacts
+            (reaction_of self.now.reaction) self.now.key (Some command) connection.old).items) }
     {
         if let Some(said) = self.reaction.owed(command) {
             connection.go(command, said.name());
@@ -143,8 +150,10 @@ impl Progress {
     /// A subordinate is asked, where the reaction says so.
     fn demand(&self, connection: &mut Connection, making: &mut Making)
         requires { 0 < making.old.free }
-        ensures connection { connection.new ≡ (reacts (reaction_of self.now.reaction) self.now.key None connection.old).connection }
-        ensures making { GoOut making.old making.new (items_on connection.old.number (reacts (reaction_of self.now.reaction) self.now.key None connection.old).items) }
+        ensures connection { connection.new
+            ≡ (reacts (reaction_of self.now.reaction) self.now.key None connection.old).connection }
+        ensures making { GoOut making.old making.new (items_on connection.old.number
+            (reacts (reaction_of self.now.reaction) self.now.key None connection.old).items) }
     {
         if let Some(demand) = self.reaction.demanded_on(connection) {
             connection.awaited = Some(demand.awaited());

@@ -31,7 +31,8 @@ impl Realms<Connection, Transaction> {
     pub fn room(&mut self, alloc: Global, realm: usize, event: &Event) -> Result<Room, AllocError>
         requires here { realm < length self.old.heads.items }
         requires counts { HasCounts (state_in realm self.old) }
-        ensures ok { IfOk result (Suits (state_in realm self.new) self.new.connections.free self.new.transactions.free (of self.new.transactions realm) event.now) }
+        ensures ok { IfOk result (Suits (state_in realm self.new) self.new.connections.free
+            self.new.transactions.free (of self.new.transactions realm) event.now) }
         ensures heads { self.new.heads ≡ self.old.heads }
         ensures realms { (place : ℕ) → state_in place self.new ≡ state_in place self.old }
     {
@@ -47,7 +48,9 @@ impl Realms<Connection, Transaction> {
         requires counts { HasCounts (state_in realm self.old) }
         requires silent { making.answer ≡ silence }
         requires needs { HasNeeds event (working realm outcome making self.old) }
-        ensures { Does (working realm outcome making self.old) (working realm outcome result self.new) (happened (state_in realm self.old) event outcome) }
+        ensures { Does (working realm outcome making self.old)
+            (working realm outcome result self.new)
+            (happened (state_in realm self.old) event outcome) }
     {
         let mut work = self.lend(realm, outcome, making);
         work.step(event);

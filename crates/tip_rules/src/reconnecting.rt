@@ -28,7 +28,9 @@ impl Work<Connection, Transaction, Making> {
         requires stands { StandsAt self.old.connections self.old.realm (has_number number) place }
         requires numbered { are_numbered (work_of self.old).state ≡ true }
         requires lines { 2 ≤ self.old.making.free }
-        ensures { (connection : AConnection) → connection_of number (work_of self.old).state ≡ Some connection → Does self.old self.new (reconnect subordinate.now connection (work_of self.old)) }
+        ensures { (connection : AConnection) →
+            connection_of number (work_of self.old).state ≡ Some connection →
+            Does self.old self.new (reconnect subordinate.now connection (work_of self.old)) }
     {
         let Some((key, at)) = self.identified(subordinate) else {
             return self.reply(number, place, CommandName::Reconnect, Said::NotReconnected);
@@ -45,9 +47,13 @@ impl Work<Connection, Transaction, Making> {
     fn take_over(&mut self, key: Key, number: u32, place: usize)
         requires stands { StandsAt self.old.connections self.old.realm (has_number number) place }
         requires numbered { are_numbered (work_of self.old).state ≡ true }
-        requires in_doubt { (transaction : ATransaction) → transaction_of key (work_of self.old).state ≡ Some transaction → is_prepared transaction.phase ≡ true }
+        requires in_doubt { (transaction : ATransaction) →
+            transaction_of key (work_of self.old).state ≡ Some transaction →
+            is_prepared transaction.phase ≡ true }
         requires lines { 2 ≤ self.old.making.free }
-        ensures { Does self.old self.new (take_over key number (find (is_superior_of key) (work_of self.old).state.connections) (work_of self.old)) }
+        ensures { Does self.old self.new (take_over key number
+            (find (is_superior_of key) (work_of self.old).state.connections)
+            (work_of self.old)) }
     {
         let earlier = self.superior_number(key);
         let role = Role::Superior(key);
@@ -67,7 +73,8 @@ impl Work<Connection, Transaction, Making> {
     /// The number of the connection of a transaction's superior, if there is one.
     #[tactic(auto, using(crate::proofs::Superiors::superiors))]
     fn superior_number(&self, key: Key) -> Option<u32>
-        ensures { result ≡ option_map (λ connection. connection.number) (find (is_superior_of key) (work_of self.now).state.connections) }
+        ensures { result ≡ option_map (λ connection. connection.number)
+            (find (is_superior_of key) (work_of self.now).state.connections) }
     {
         let place = self.connections.find(self.realm, &SuperiorOf { key })?;
         Some(self.connections.item(place).number)
@@ -77,7 +84,9 @@ impl Work<Connection, Transaction, Making> {
     #[tactic(auto, using(crate::proofs::Superiors::hanging_up))]
     fn hang_up(&mut self, number: u32)
         requires { 0 < self.old.making.free }
-        ensures { (connection : AConnection) → connection_of number (work_of self.old).state ≡ Some connection → Does self.old self.new (gone connection (tell number Close (work_of self.old))) }
+        ensures { (connection : AConnection) →
+            connection_of number (work_of self.old).state ≡ Some connection →
+            Does self.old self.new (gone connection (tell number Close (work_of self.old))) }
     {
         let Some(place) = self.connections.find(self.realm, &Numbered { number }) else {
             return;

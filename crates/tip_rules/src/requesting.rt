@@ -22,9 +22,11 @@ impl Work<Connection, Transaction, Making> {
     pub fn ask_push(&mut self, seat: Seat, id: &Id)
         requires here { self.old.realm < length self.old.heads.items }
         requires peer { self.old.making.peer ≡ peer_of seat.number (work_of self.old).state }
-        requires part { CanGrow (work_of self.old).state.head.name id.now (of self.old.transactions self.old.realm) }
+        requires part { CanGrow (work_of self.old).state.head.name id.now
+            (of self.old.transactions self.old.realm) }
         requires lines { 0 < self.old.making.free }
-        ensures { Does self.old self.new (ask_push (seated seat (work_of self.old).state) id.now (work_of self.old)) }
+        ensures { Does self.old self.new
+            (ask_push (seated seat (work_of self.old).state) id.now (work_of self.old)) }
     {
         let Some(place) = self.seated(seat) else {
             return self.refuse(Refusal::Stale);
@@ -41,9 +43,13 @@ impl Work<Connection, Transaction, Making> {
         requires here { self.old.realm < length self.old.heads.items }
         requires stands { StandsAt self.old.connections self.old.realm (has_number number) place }
         requires peer { self.old.making.peer ≡ peer_of number (work_of self.old).state }
-        requires part { CanGrow (work_of self.old).state.head.name id.now (of self.old.transactions self.old.realm) }
+        requires part { CanGrow (work_of self.old).state.head.name id.now
+            (of self.old.transactions self.old.realm) }
         requires lines { 0 < self.old.making.free }
-        ensures { (connection : AConnection) → connection_of number (work_of self.old).state ≡ Some connection → Does self.old self.new (push_part (identified_by id.now (work_of self.old).state) connection.peer connection.number (work_of self.old)) }
+        ensures { (connection : AConnection) →
+            connection_of number (work_of self.old).state ≡ Some connection →
+            Does self.old self.new (push_part (identified_by id.now (work_of self.old).state)
+            connection.peer connection.number (work_of self.old)) }
     {
         let address = self.making.take_peer();
         match self.join_part(id, address, None) {
@@ -60,7 +66,8 @@ impl Work<Connection, Transaction, Making> {
         requires peer { self.old.making.peer ≡ peer_of seat.number (work_of self.old).state }
         requires word { self.old.making.word ≡ Some superior }
         requires lines { 0 < self.old.making.free }
-        ensures { Does self.old self.new (ask_pull (seated seat (work_of self.old).state) superior (work_of self.old)) }
+        ensures { Does self.old self.new
+            (ask_pull (seated seat (work_of self.old).state) superior (work_of self.old)) }
     {
         let Some(place) = self.seated(seat) else {
             return self.refuse(Refusal::Stale);
@@ -81,7 +88,11 @@ impl Work<Connection, Transaction, Making> {
         requires peer { self.old.making.peer ≡ peer_of number (work_of self.old).state }
         requires word { self.old.making.word ≡ Some superior }
         requires lines { 0 < self.old.making.free }
-        ensures { (connection : AConnection) → connection_of number (work_of self.old).state ≡ Some connection → Does self.old self.new (pull_if (find (is_known connection.peer superior) (work_of self.old).state.transactions) superior connection (work_of self.old)) }
+        ensures { (connection : AConnection) →
+            connection_of number (work_of self.old).state ≡ Some connection →
+            Does self.old self.new (pull_if
+            (find (is_known connection.peer superior) (work_of self.old).state.transactions)
+            superior connection (work_of self.old)) }
     {
         let connection = self.connection(number, place);
         match self.known(&connection.peer, &superior) {
@@ -98,7 +109,9 @@ impl Work<Connection, Transaction, Making> {
         requires peer { self.old.making.peer ≡ peer_of number (work_of self.old).state }
         requires word { self.old.making.word ≡ Some superior }
         requires lines { 0 < self.old.making.free }
-        ensures { (connection : AConnection) → connection_of number (work_of self.old).state ≡ Some connection → Does self.old self.new (pull_new superior connection (work_of self.old)) }
+        ensures { (connection : AConnection) →
+            connection_of number (work_of self.old).state ≡ Some connection →
+            Does self.old self.new (pull_new superior connection (work_of self.old)) }
     {
         let (address, word) = self.making.take_question();
         let origin = Origin::Subordinate { address, superior };

@@ -36,7 +36,11 @@ impl Work<Connection, Transaction, Making> {
         requires queried { lines_queried number (work_of self.old).state ≤ self.old.making.free }
         requires word { self.old.making.word ≡ word_at number (work_of self.old).state }
         requires none { IsIdle self.old.making.answer }
-        ensures { (connection : AConnection) → connection_of number (work_of self.old).state ≡ Some connection → Does self.old self.new (chosen (hear Primary (AResponse response) connection (work_of self.old)) self.old.outcome) }
+        ensures { (connection : AConnection) →
+            connection_of number (work_of self.old).state ≡ Some connection →
+            Does self.old self.new (chosen
+            (hear Primary (AResponse response) connection (work_of self.old))
+            self.old.outcome) }
     {
         match Awaits::of(&self.connection(number, place).awaited) {
             Awaits::OfPart(command) => self.respond_as_part(number, place, command, response),
@@ -60,7 +64,10 @@ impl Work<Connection, Transaction, Making> {
         requires stands { StandsAt self.old.connections self.old.realm (has_number number) place }
         requires lines { lines_at number (work_of self.old).state + 2 ≤ self.old.making.free }
         requires none { IsIdle self.old.making.answer }
-        ensures { (connection : AConnection) → connection_of number (work_of self.old).state ≡ Some connection → Does self.old self.new (chosen (responding (note_of connection.awaited response) command response connection (work_of self.old)) self.old.outcome) }
+        ensures { (connection : AConnection) →
+            connection_of number (work_of self.old).state ≡ Some connection →
+            Does self.old self.new (chosen (responding (note_of connection.awaited response) command
+            response connection (work_of self.old)) self.old.outcome) }
     {
         let name = response.name();
         let ends = ends(&response);
@@ -75,7 +82,11 @@ impl Work<Connection, Transaction, Making> {
         requires stands { StandsAt self.old.connections self.old.realm (has_number number) place }
         requires lines { lines_at number (work_of self.old).state + 2 ≤ self.old.making.free }
         requires none { IsIdle self.old.making.answer }
-        ensures { (connection : AConnection) → connection_of number (work_of self.old).state ≡ Some connection → Does self.old self.new (chosen (identifying (version_of response) Plain response connection (work_of self.old)) self.old.outcome) }
+        ensures { (connection : AConnection) →
+            connection_of number (work_of self.old).state ≡ Some connection →
+            Does self.old self.new (chosen
+            (identifying (version_of response) Plain response connection (work_of self.old))
+            self.old.outcome) }
     {
         match version_of(&response) {
             Some(version) => self.greet_back(number, place, version),
@@ -89,7 +100,9 @@ impl Work<Connection, Transaction, Making> {
         requires stands { StandsAt self.old.connections self.old.realm (has_number number) place }
         requires lines { lines_at number (work_of self.old).state + 2 ≤ self.old.making.free }
         requires none { IsIdle self.old.making.answer }
-        ensures { (connection : AConnection) → connection_of number (work_of self.old).state ≡ Some connection → Does self.old self.new (greeted version Plain connection (work_of self.old)) }
+        ensures { (connection : AConnection) →
+            connection_of number (work_of self.old).state ≡ Some connection →
+            Does self.old self.new (greeted version Plain connection (work_of self.old)) }
     {
         if version >= 3 {
             self.go(
@@ -108,7 +121,11 @@ impl Work<Connection, Transaction, Making> {
         requires stands { StandsAt self.old.connections self.old.realm (has_number number) place }
         requires lines { lines_at number (work_of self.old).state + 2 ≤ self.old.making.free }
         requires none { IsIdle self.old.making.answer }
-        ensures { (connection : AConnection) → connection_of number (work_of self.old).state ≡ Some connection → Does self.old self.new (chosen (pulling (pulled_of response) response connection (work_of self.old)) self.old.outcome) }
+        ensures { (connection : AConnection) →
+            connection_of number (work_of self.old).state ≡ Some connection →
+            Does self.old self.new (chosen
+            (pulling (pulled_of response) response connection (work_of self.old))
+            self.old.outcome) }
     {
         match pulled_of(&response) {
             Some(pulled) => self.end_pull(number, place, pulled),
@@ -122,7 +139,10 @@ impl Work<Connection, Transaction, Making> {
         requires stands { StandsAt self.old.connections self.old.realm (has_number number) place }
         requires lines { lines_at number (work_of self.old).state + 2 ≤ self.old.making.free }
         requires none { IsIdle self.old.making.answer }
-        ensures { (connection : AConnection) (said : ASaid) → connection_of number (work_of self.old).state ≡ Some connection → Does self.old self.new (chosen (pulling (Some pulled) said connection (work_of self.old)) self.old.outcome) }
+        ensures { (connection : AConnection) (said : ASaid) →
+            connection_of number (work_of self.old).state ≡ Some connection →
+            Does self.old self.new (chosen
+            (pulling (Some pulled) said connection (work_of self.old)) self.old.outcome) }
     {
         if pulled {
             self.go(number, place, CommandName::Pull, ResponseName::Pulled);
@@ -153,7 +173,10 @@ impl Work<Connection, Transaction, Making> {
         requires stands { StandsAt self.old.connections self.old.realm (has_number number) place }
         requires lines { lines_at number (work_of self.old).state + 2 ≤ self.old.making.free }
         requires none { IsIdle self.old.making.answer }
-        ensures { (connection : AConnection) → connection_of number (work_of self.old).state ≡ Some connection → Does self.old self.new (if ends then closed connection (work_of self.old) else wrong connection (work_of self.old)) }
+        ensures { (connection : AConnection) →
+            connection_of number (work_of self.old).state ≡ Some connection →
+            Does self.old self.new (if ends then closed connection (work_of self.old)
+            else wrong connection (work_of self.old)) }
     {
         if ends {
             self.close(number, place);
@@ -175,7 +198,10 @@ impl Work<Connection, Transaction, Making> {
         requires stands { StandsAt self.old.connections self.old.realm (has_number number) place }
         requires lines { lines_at number (work_of self.old).state + 2 ≤ self.old.making.free }
         requires none { IsIdle self.old.making.answer }
-        ensures { (connection : AConnection) → connection_of number (work_of self.old).state ≡ Some connection → Does self.old self.new (chosen (noting_as note connection.role (go_on command response connection (work_of self.old))) self.old.outcome) }
+        ensures { (connection : AConnection) →
+            connection_of number (work_of self.old).state ≡ Some connection →
+            Does self.old self.new (chosen (noting_as note connection.role
+            (go_on command response connection (work_of self.old))) self.old.outcome) }
     {
         let role = self.connection(number, place).role;
         self.go(number, place, command, response);
@@ -189,7 +215,8 @@ impl Work<Connection, Transaction, Making> {
     fn note_on(&mut self, role: Role, note: Note)
         requires lines { lines_as (Some role) (work_of self.old).state ≤ self.old.making.free }
         requires none { IsIdle self.old.making.answer }
-        ensures { Does self.old self.new (chosen (noting_as note (Some role) (work_of self.old)) self.old.outcome) }
+        ensures { Does self.old self.new
+            (chosen (noting_as note (Some role) (work_of self.old)) self.old.outcome) }
     {
         match role {
             Role::Subordinate { key, part } => {

@@ -29,9 +29,12 @@ impl Work<Connection, Transaction, Making> {
     #[tactic(auto, using(crate::proofs::Coming::voting))]
     pub fn voted(&mut self, party: HeldParty)
         requires here { self.old.realm < length self.old.heads.items }
-        requires lines { lines_of (owner party (work_of self.old).state) (work_of self.old).state ≤ self.old.making.free }
+        requires lines { lines_of (owner party (work_of self.old).state) (work_of self.old).state
+            ≤ self.old.making.free }
         requires none { IsIdle self.old.making.answer }
-        ensures { Does self.old self.new (chosen (voted (owner party (work_of self.old).state) party (work_of self.old)) self.old.outcome) }
+        ensures { Does self.old self.new (chosen
+            (voted (owner party (work_of self.old).state) party (work_of self.old))
+            self.old.outcome) }
     {
         let Some((key, place)) = self.owner(&party) else {
             return self.meet(party);
@@ -50,7 +53,9 @@ impl Work<Connection, Transaction, Making> {
         requires out { party_here place self.old ≡ None }
         requires lines { lines_for key (work_of self.old).state ≤ self.old.making.free }
         requires none { IsIdle self.old.making.answer }
-        ensures { Does self.old self.new (chosen (proceed key (alter key (noting 0 (answered (party_answer party))) (alter key (standing_at (Here party)) (work_of self.old)))) self.old.outcome) }
+        ensures { Does self.old self.new (chosen (proceed key (alter key
+            (noting 0 (answered (party_answer party)))
+            (alter key (standing_at (Here party)) (work_of self.old)))) self.old.outcome) }
     {
         let answer = answer_of(&party);
         self.take_back(key, place, party);
@@ -62,9 +67,12 @@ impl Work<Connection, Transaction, Making> {
     #[tactic(auto, using(crate::proofs::Coming::settling))]
     pub fn settled(&mut self, party: HeldParty)
         requires here { self.old.realm < length self.old.heads.items }
-        requires lines { lines_of (owner party (work_of self.old).state) (work_of self.old).state ≤ self.old.making.free }
+        requires lines { lines_of (owner party (work_of self.old).state) (work_of self.old).state
+            ≤ self.old.making.free }
         requires none { IsIdle self.old.making.answer }
-        ensures { Does self.old self.new (chosen (settled (owner party (work_of self.old).state) party (work_of self.old)) self.old.outcome) }
+        ensures { Does self.old self.new (chosen
+            (settled (owner party (work_of self.old).state) party (work_of self.old))
+            self.old.outcome) }
     {
         let Some((key, place)) = self.owner(&party) else {
             return self.meet(party);
@@ -85,7 +93,10 @@ impl Work<Connection, Transaction, Making> {
         requires out { party_here place self.old ≡ None }
         requires lines { lines_for key (work_of self.old).state ≤ self.old.making.free }
         requires none { IsIdle self.old.making.answer }
-        ensures { Does self.old self.new (chosen (proceed key (if has_ready party then alter key (standing_at (Here party)) (work_of self.old) else dispatch key (alter key (standing_at (Here party)) (work_of self.old)))) self.old.outcome) }
+        ensures { Does self.old self.new (chosen (proceed key (if has_ready party
+            then alter key (standing_at (Here party)) (work_of self.old)
+            else dispatch key
+            (alter key (standing_at (Here party)) (work_of self.old)))) self.old.outcome) }
     {
         let waits = has_ready(&party);
         self.take_back(key, place, party);
@@ -104,7 +115,9 @@ impl Work<Connection, Transaction, Making> {
         requires out { party_here place self.old ≡ None }
         requires lines { lines_for key (work_of self.old).state ≤ self.old.making.free }
         requires none { IsIdle self.old.making.answer }
-        ensures { Does self.old self.new (chosen (proceed key (alter key (standing_at (Here party)) (work_of self.old))) self.old.outcome) }
+        ensures { Does self.old self.new (chosen
+            (proceed key (alter key (standing_at (Here party)) (work_of self.old)))
+            self.old.outcome) }
     {
         self.take_back(key, place, party);
         self.proceed(key);
@@ -115,7 +128,8 @@ impl Work<Connection, Transaction, Making> {
     fn take_back(&mut self, key: Key, place: usize, party: HeldParty)
         requires stands { StandsAt self.old.transactions self.old.realm (is_keyed key) place }
         requires out { party_here place self.old ≡ None }
-        ensures does { Does self.old self.new (alter key (standing_at (Here party)) (work_of self.old)) }
+        ensures does { Does self.old self.new
+            (alter key (standing_at (Here party)) (work_of self.old)) }
         ensures stands { StandsAt self.new.transactions self.new.realm (is_keyed key) place }
     {
         let transaction = self.transactions.item_mut(place);
@@ -130,7 +144,9 @@ impl Work<Connection, Transaction, Making> {
     pub fn resume(&mut self, id: &Id)
         requires here { self.old.realm < length self.old.heads.items }
         requires none { IsIdle self.old.making.answer }
-        ensures { Does self.old self.new (chosen (resume (identified_by id.now (work_of self.old).state) (work_of self.old)) self.old.outcome) }
+        ensures { Does self.old self.new (chosen
+            (resume (identified_by id.now (work_of self.old).state) (work_of self.old))
+            self.old.outcome) }
     {
         let Some((key, place)) = self.identified(id) else {
             return self.refuse(Refusal::NotActive);
@@ -147,7 +163,10 @@ impl Work<Connection, Transaction, Making> {
     fn resume_committed(&mut self, key: Key, place: usize)
         requires stands { StandsAt self.old.transactions self.old.realm (is_keyed key) place }
         requires none { IsIdle self.old.making.answer }
-        ensures { (transaction : ATransaction) → transaction_of key (work_of self.old).state ≡ Some transaction → Does self.old self.new (chosen (resume_in transaction.place transaction (work_of self.old)) self.old.outcome) }
+        ensures { (transaction : ATransaction) →
+            transaction_of key (work_of self.old).state ≡ Some transaction →
+            Does self.old self.new (chosen
+            (resume_in transaction.place transaction (work_of self.old)) self.old.outcome) }
     {
         match &self.at(key, place).place {
             PartyPlace::Here(_) => self.dispatch(key),
@@ -160,7 +179,10 @@ impl Work<Connection, Transaction, Making> {
     #[tactic(auto, using(crate::proofs::Coming::ending))]
     fn finish_if_done(&mut self, key: Key, place: usize)
         requires { StandsAt self.old.transactions self.old.realm (is_keyed key) place }
-        ensures { (transaction : ATransaction) → transaction_of key (work_of self.old).state ≡ Some transaction → Does self.old self.new (chosen (resume_in Spent transaction (work_of self.old)) self.old.outcome) }
+        ensures { (transaction : ATransaction) →
+            transaction_of key (work_of self.old).state ≡ Some transaction →
+            Does self.old self.new
+            (chosen (resume_in Spent transaction (work_of self.old)) self.old.outcome) }
     {
         if is_done(self.at(key, place)) {
             self.finish(key, place);
@@ -179,7 +201,8 @@ impl Work<Connection, Transaction, Making> {
     /// A party that no transaction gave out for this is let go.
     fn meet(&mut self, party: HeldParty)
         requires { self.old.making.answer.spent ≡ None }
-        ensures { Does self.old self.new (chosen (strange party (work_of self.old)) self.old.outcome) }
+        ensures { Does self.old self.new
+            (chosen (strange party (work_of self.old)) self.old.outcome) }
     {
         self.making.refuse(Refusal::Stranger);
         self.making.let_go(party);

@@ -25,7 +25,14 @@ impl Model for Room {
 
     ghost Value = { Granted };
 
-    ghost view = { λ r. record { lines = r.making.free; transaction = r.making.room; peer = r.making.peer; ours = r.making.ours; word = r.making.word; change = r.change } };
+    ghost view = { λ r. record {
+      lines = r.making.free;
+      transaction = r.making.room;
+      peer = r.making.peer;
+      ours = r.making.ours;
+      word = r.making.word;
+      change = r.change;
+    } };
 
     ghost invariant = { λ r. r.making.answer ≡ silence };
 }

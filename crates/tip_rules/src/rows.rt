@@ -45,7 +45,8 @@ fn keep(
     branch: &(u8, Label),
     members: &[Member],
 ) -> Result<(), AllocError>
-    ensures { OnOk result (kept.new.items ≡ kept.old.items ++ filter (has_promised members.now) (branch.now ∷ [])) }
+    ensures { OnOk result
+        (kept.new.items ≡ kept.old.items ++ filter (has_promised members.now) (branch.now ∷ [])) }
 {
     let (number, label) = branch;
     if has_promised(members, *number) {
@@ -56,7 +57,8 @@ fn keep(
 
 /// Whether a branch of this number promised to commit.
 fn has_promised(members: &[Member], number: u8) -> bool
-    ensures { result ≡ list_any (λ member. is_ready member && (member.number == number)) members.now }
+    ensures { result
+        ≡ list_any (λ member. is_ready member && (member.number == number)) members.now }
 {
     members
         .iter()

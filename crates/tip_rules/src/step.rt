@@ -32,7 +32,8 @@ impl Work<Connection, Transaction, Making> {
         requires counts { HasCounts (work_of self.old).state }
         requires silent { self.old.making.answer ≡ silence }
         requires needs { HasNeeds event self.old }
-        ensures { Does self.old self.new (happened (work_of self.old).state event self.old.outcome) }
+        ensures { Does self.old self.new
+            (happened (work_of self.old).state event self.old.outcome) }
     {
         if !self.is_open() {
             return self.turn_down(event);
@@ -53,7 +54,8 @@ impl Work<Connection, Transaction, Making> {
     #[tactic(auto, using(crate::proofs::Happening::happening))]
     fn happen(&mut self, event: Event)
         requires { IsReady event self.old }
-        ensures { Does self.old self.new (chosen (attempt event (work_of self.old)) self.old.outcome) }
+        ensures { Does self.old self.new
+            (chosen (attempt event (work_of self.old)) self.old.outcome) }
     {
         match event {
             Event::Open { boxes } => self.open(boxes),
@@ -78,13 +80,18 @@ impl Work<Connection, Transaction, Making> {
         requires here { self.old.realm < length self.old.heads.items }
         requires able { begins heard ≡ true → MayMake seat.number self.old }
         requires peer { self.old.making.peer ≡ peer_of seat.number (work_of self.old).state }
-        requires part { (id : List ℕ) → joined heard ≡ Some id → CanGrow (work_of self.old).state.head.name id (of self.old.transactions self.old.realm) }
+        requires part { (id : List ℕ) → joined heard ≡ Some id →
+            CanGrow (work_of self.old).state.head.name id
+            (of self.old.transactions self.old.realm) }
         requires numbered { are_numbered (work_of self.old).state ≡ true }
         requires lines { lines_at seat.number (work_of self.old).state + 2 ≤ self.old.making.free }
-        requires queried { lines_queried seat.number (work_of self.old).state ≤ self.old.making.free }
+        requires queried { lines_queried seat.number (work_of self.old).state
+            ≤ self.old.making.free }
         requires word { self.old.making.word ≡ word_at seat.number (work_of self.old).state }
         requires none { IsIdle self.old.making.answer }
-        ensures { Does self.old self.new (chosen (line (seated seat (work_of self.old).state) heard (work_of self.old)) self.old.outcome) }
+        ensures { Does self.old self.new (chosen
+            (line (seated seat (work_of self.old).state) heard (work_of self.old))
+            self.old.outcome) }
     {
         let Some(place) = self.seated(seat) else {
             return self.refuse(Refusal::Stale);
@@ -106,11 +113,16 @@ impl Work<Connection, Transaction, Making> {
         requires stands { StandsAt self.old.connections self.old.realm (has_number number) place }
         requires able { begins heard ≡ true → MayMake number self.old }
         requires peer { self.old.making.peer ≡ peer_of number (work_of self.old).state }
-        requires part { (id : List ℕ) → joined heard ≡ Some id → CanGrow (work_of self.old).state.head.name id (of self.old.transactions self.old.realm) }
+        requires part { (id : List ℕ) → joined heard ≡ Some id →
+            CanGrow (work_of self.old).state.head.name id
+            (of self.old.transactions self.old.realm) }
         requires numbered { are_numbered (work_of self.old).state ≡ true }
         requires lines { lines_at number (work_of self.old).state + 2 ≤ self.old.making.free }
         requires none { IsIdle self.old.making.answer }
-        ensures { (connection : AConnection) → connection_of number (work_of self.old).state ≡ Some connection → Does self.old self.new (chosen (hear Secondary heard connection (work_of self.old)) self.old.outcome) }
+        ensures { (connection : AConnection) →
+            connection_of number (work_of self.old).state ≡ Some connection →
+            Does self.old self.new
+            (chosen (hear Secondary heard connection (work_of self.old)) self.old.outcome) }
     {
         match heard {
             Heard::Command(command) => self.command(number, place, command),
@@ -126,7 +138,10 @@ impl Work<Connection, Transaction, Making> {
         requires queried { lines_queried number (work_of self.old).state ≤ self.old.making.free }
         requires word { self.old.making.word ≡ word_at number (work_of self.old).state }
         requires none { IsIdle self.old.making.answer }
-        ensures { (connection : AConnection) → connection_of number (work_of self.old).state ≡ Some connection → Does self.old self.new (chosen (hear Primary heard connection (work_of self.old)) self.old.outcome) }
+        ensures { (connection : AConnection) →
+            connection_of number (work_of self.old).state ≡ Some connection →
+            Does self.old self.new
+            (chosen (hear Primary heard connection (work_of self.old)) self.old.outcome) }
     {
         match heard {
             Heard::Command(command) => self.name_as_primary(number, place, command.name()),
@@ -141,7 +156,11 @@ impl Work<Connection, Transaction, Making> {
         requires stands { StandsAt self.old.connections self.old.realm (has_number number) place }
         requires lines { lines_at number (work_of self.old).state + 2 ≤ self.old.making.free }
         requires none { IsIdle self.old.making.answer }
-        ensures { (connection : AConnection) (command : Command) → connection_of number (work_of self.old).state ≡ Some connection → name_of command ≡ name → Does self.old self.new (chosen (hear Primary (ACommand command) connection (work_of self.old)) self.old.outcome) }
+        ensures { (connection : AConnection) (command : Command) →
+            connection_of number (work_of self.old).state ≡ Some connection →
+            name_of command ≡ name → Does self.old self.new (chosen
+            (hear Primary (ACommand command) connection (work_of self.old))
+            self.old.outcome) }
     {
         if name == CommandName::Error {
             self.close(number, place);

@@ -64,7 +64,8 @@ impl Work<Connection, Transaction, Making> {
         heard: &Heard,
     ) -> Result<Option<Change>, AllocError>
         requires { self.now.realm < length self.now.heads.items }
-        ensures { IfOk result (λ change. change ≡ foreseen (Line seat heard.now) (work_of self.now).state) }
+        ensures { IfOk result
+            (λ change. change ≡ foreseen (Line seat heard.now) (work_of self.now).state) }
     {
         match heard {
             Heard::Command(command) => self.wanted_on(alloc, seat, command),
@@ -81,7 +82,8 @@ impl Work<Connection, Transaction, Making> {
         command: &Command,
     ) -> Result<Option<Change>, AllocError>
         requires { self.now.realm < length self.now.heads.items }
-        ensures { IfOk result (λ change. change ≡ line_wanted (seated seat (work_of self.now).state) command.now (work_of self.now).state) }
+        ensures { IfOk result (λ change. change ≡ line_wanted (seated seat (work_of self.now).state)
+            command.now (work_of self.now).state) }
     {
         let Some(place) = self.seated(seat) else {
             return Ok(None);
@@ -101,7 +103,8 @@ impl Work<Connection, Transaction, Making> {
         connection: &Connection,
         command: &Command,
     ) -> Result<Option<Change>, AllocError>
-        ensures { IfOk result (λ change. change ≡ command_wanted command.now connection.now (work_of self.now).state) }
+        ensures { IfOk result (λ change. change
+            ≡ command_wanted command.now connection.now (work_of self.now).state) }
     {
         match command {
             Command::Prepare => self.wanted_by_prepare(alloc, connection),
@@ -117,7 +120,8 @@ impl Work<Connection, Transaction, Making> {
         alloc: Global,
         connection: &Connection,
     ) -> Result<Option<Change>, AllocError>
-        ensures { IfOk result (λ change. change ≡ command_wanted Prepare connection.now (work_of self.now).state) }
+        ensures { IfOk result
+            (λ change. change ≡ command_wanted Prepare connection.now (work_of self.now).state) }
     {
         let Some(key) = superior_role(connection.role) else {
             return Ok(None);
@@ -143,7 +147,9 @@ impl Work<Connection, Transaction, Making> {
         number: u32,
         transaction: &Transaction,
     ) -> Result<Option<Change>, AllocError>
-        ensures { IfOk result (λ change. change ≡ wished (owed_then command number transaction.now.key (work_of self.now).state) (outlook (asked (seen transaction.now)))) }
+        ensures { IfOk result (λ change. change ≡ wished
+            (owed_then command number transaction.now.key (work_of self.now).state)
+            (outlook (asked (seen transaction.now)))) }
     {
         let owed = self.owed_then(command, number, transaction.key);
         Outlook::asked(transaction).wished(alloc, owed)
@@ -155,7 +161,8 @@ impl Work<Connection, Transaction, Making> {
         alloc: Global,
         connection: &Connection,
     ) -> Result<Option<Change>, AllocError>
-        ensures { IfOk result (λ change. change ≡ command_wanted Commit connection.now (work_of self.now).state) }
+        ensures { IfOk result
+            (λ change. change ≡ command_wanted Commit connection.now (work_of self.now).state) }
     {
         let Some(key) = superior_role(connection.role) else {
             return Ok(None);
@@ -211,7 +218,8 @@ impl Work<Connection, Transaction, Making> {
         response: &Response,
     ) -> Result<Option<Change>, AllocError>
         requires { self.now.realm < length self.now.heads.items }
-        ensures { IfOk result (λ change. change ≡ response_wanted (seated seat (work_of self.now).state) response.now (work_of self.now).state) }
+        ensures { IfOk result (λ change. change ≡ response_wanted
+            (seated seat (work_of self.now).state) response.now (work_of self.now).state) }
     {
         let Some(place) = self.seated(seat) else {
             return Ok(None);
@@ -238,7 +246,9 @@ impl Work<Connection, Transaction, Making> {
         connection: &Connection,
         response: &Response,
     ) -> Result<Option<Change>, AllocError>
-        ensures { IfOk result (λ change. change ≡ answer_wanted (note_of connection.now.awaited response.now) connection.now (work_of self.now).state) }
+        ensures { IfOk result (λ change. change ≡ answer_wanted
+            (note_of connection.now.awaited response.now) connection.now
+            (work_of self.now).state) }
     {
         match Note::copied(&connection.awaited, response)? {
             Some(note) => self.wanted_once_noted(alloc, connection.role, &note),
@@ -253,8 +263,10 @@ impl Work<Connection, Transaction, Making> {
         key: Key,
         response: &Response,
     ) -> Option<Change>
-        requires { connection_of connection.now.number (work_of self.now).state ≡ Some connection.now }
-        ensures { result ≡ query_wanted (exists_of response.now) key connection.now (work_of self.now).state }
+        requires { connection_of connection.now.number (work_of self.now).state
+            ≡ Some connection.now }
+        ensures { result
+            ≡ query_wanted (exists_of response.now) key connection.now (work_of self.now).state }
     {
         if exists_of(response)? {
             return None;
@@ -275,8 +287,10 @@ impl Work<Connection, Transaction, Making> {
     /// Whether the superior of the transaction of a key is on a connection, once this one has gone on after QUERIEDNOTFOUND.
     #[tactic(auto, using(crate::proofs::Asking::superior_then))]
     fn has_superior_then(&self, connection: &Connection, key: Key) -> bool
-        requires { connection_of connection.now.number (work_of self.now).state ≡ Some connection.now }
-        ensures { result ≡ list_any (is_superior_of key) (forgotten connection.now (work_of self.now).state).connections }
+        requires { connection_of connection.now.number (work_of self.now).state
+            ≡ Some connection.now }
+        ensures { result ≡ list_any (is_superior_of key)
+            (forgotten connection.now (work_of self.now).state).connections }
     {
         let there = self
             .connections
@@ -295,7 +309,8 @@ impl Work<Connection, Transaction, Making> {
         role: Option<Role>,
         note: &Note,
     ) -> Result<Option<Change>, AllocError>
-        ensures { IfOk result (λ change. change ≡ wanted_of_part note.now (part_of role) (work_of self.now).state) }
+        ensures { IfOk result
+            (λ change. change ≡ wanted_of_part note.now (part_of role) (work_of self.now).state) }
     {
         match role {
             Some(role) => self.wanted_on_role(alloc, role, note),
@@ -310,7 +325,8 @@ impl Work<Connection, Transaction, Making> {
         role: Role,
         note: &Note,
     ) -> Result<Option<Change>, AllocError>
-        ensures { IfOk result (λ change. change ≡ wanted_of_part note.now (part_of (Some role)) (work_of self.now).state) }
+        ensures { IfOk result (λ change. change
+            ≡ wanted_of_part note.now (part_of (Some role)) (work_of self.now).state) }
     {
         match role {
             Role::Subordinate { key, part } => self.wanted_noting(alloc, key, part, note),
@@ -326,7 +342,9 @@ impl Work<Connection, Transaction, Making> {
         part: Part,
         note: &Note,
     ) -> Result<Option<Change>, AllocError>
-        ensures { IfOk result (λ change. change ≡ option_and_then (wanted_noting note.now part (work_of self.now).state) (transaction_of key (work_of self.now).state)) }
+        ensures { IfOk result (λ change. change ≡ option_and_then
+            (wanted_noting note.now part (work_of self.now).state)
+            (transaction_of key (work_of self.now).state)) }
     {
         let Some(place) = self.transaction(key) else {
             return Ok(None);
@@ -340,7 +358,8 @@ impl Work<Connection, Transaction, Making> {
     #[tactic(auto, using(crate::proofs::Outlooks::voting_ahead))]
     fn wanted_by_vote(&self, alloc: Global, party: &HeldParty) -> Result<Option<Change>, AllocError>
         requires { self.now.realm < length self.now.heads.items }
-        ensures { IfOk result (λ change. change ≡ foreseen (Voted party.now) (work_of self.now).state) }
+        ensures { IfOk result
+            (λ change. change ≡ foreseen (Voted party.now) (work_of self.now).state) }
     {
         let Some((key, place)) = self.owner(party) else {
             return Ok(None);
@@ -362,8 +381,10 @@ impl Work<Connection, Transaction, Making> {
         members: &[Member],
     ) -> Result<Option<Change>, AllocError>
         requires { StandsAt self.now.transactions self.now.realm (is_keyed key) place }
-        ensures { (t : ATransaction) (party : PartyNotes) → transaction_of key (work_of self.now).state ≡ Some t → members.now ≡ party.members →
-            IfOk result (λ change. change ≡ wished (owed_to_superior key (work_of self.now).state) (outlook (noting 0 (answered answer) (standing_at (Here party) t)))) }
+        ensures { (t : ATransaction) (party : PartyNotes) →
+            transaction_of key (work_of self.now).state ≡ Some t → members.now ≡ party.members →
+            IfOk result (λ change. change ≡ wished (owed_to_superior key (work_of self.now).state)
+            (outlook (noting 0 (answered answer) (standing_at (Here party) t)))) }
     {
         let transaction = self.at(key, place);
         Outlook::voted(transaction, answer, members).wished(alloc, self.owed_to_superior(key))
@@ -377,7 +398,8 @@ impl Work<Connection, Transaction, Making> {
         party: &HeldParty,
     ) -> Result<Option<Change>, AllocError>
         requires { self.now.realm < length self.now.heads.items }
-        ensures { IfOk result (λ change. change ≡ foreseen (Settled party.now) (work_of self.now).state) }
+        ensures { IfOk result
+            (λ change. change ≡ foreseen (Settled party.now) (work_of self.now).state) }
     {
         let Some((key, place)) = self.owner(party) else {
             return Ok(None);
@@ -405,8 +427,10 @@ impl Work<Connection, Transaction, Making> {
         members: &[Member],
     ) -> Result<Option<Change>, AllocError>
         requires { StandsAt self.now.transactions self.now.realm (is_keyed key) place }
-        ensures { (t : ATransaction) (party : PartyNotes) → transaction_of key (work_of self.now).state ≡ Some t → members.now ≡ party.members →
-            IfOk result (λ change. change ≡ wished (owed_to_superior key (work_of self.now).state) (outlook (standing_at (Here party) t))) }
+        ensures { (t : ATransaction) (party : PartyNotes) →
+            transaction_of key (work_of self.now).state ≡ Some t → members.now ≡ party.members →
+            IfOk result (λ change. change ≡ wished (owed_to_superior key (work_of self.now).state)
+            (outlook (standing_at (Here party) t))) }
     {
         let transaction = self.at(key, place);
         Outlook::back(transaction, members).wished(alloc, self.owed_to_superior(key))
@@ -421,7 +445,8 @@ impl Work<Connection, Transaction, Making> {
     ) -> Result<Option<Change>, AllocError>
         requires { StandsAt self.now.transactions self.now.realm (is_keyed key) place }
         ensures { (t : ATransaction) → transaction_of key (work_of self.now).state ≡ Some t →
-            IfOk result (λ change. change ≡ wished (owed_to_superior key (work_of self.now).state) (outlook (standing_at Spent t))) }
+            IfOk result (λ change. change ≡ wished (owed_to_superior key (work_of self.now).state)
+            (outlook (standing_at Spent t))) }
     {
         let transaction = self.at(key, place);
         Outlook::spent(transaction).wished(alloc, self.owed_to_superior(key))
@@ -460,7 +485,8 @@ fn hears_responses(connection: &Connection) -> bool
 /// Whether a connection is the one of a transaction's superior, and no more once it has gone on after QUERIEDNOTFOUND.
 #[tactic(auto, using(crate::proofs::Asking::leaving))]
 fn leaves(connection: &Connection, key: Key) -> bool
-    ensures { result ≡ (is_superior_of key connection.now && not (is_superior_of key (advanced Query QueriedNotFound connection.now))) }
+    ensures { result ≡ (is_superior_of key connection.now
+        && not (is_superior_of key (advanced Query QueriedNotFound connection.now))) }
 {
     asks_for(connection.role, key)
         && becomes_idle(after_named(
@@ -482,7 +508,8 @@ fn becomes_idle(to: Option<(State, Turn)>) -> bool
 
 /// Whether a command is valid on a connection.
 fn is_admitted(connection: &Connection, command: &Command) -> bool
-    ensures { result ≡ is_admitted (admit_of connection.now.state connection.now.side (name_of command.now)) }
+    ensures { result
+        ≡ is_admitted (admit_of connection.now.state connection.now.side (name_of command.now)) }
 {
     match admit(connection.state, connection.side, command) {
         Admit::Serve => true,

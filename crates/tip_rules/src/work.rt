@@ -51,7 +51,8 @@ impl Work<Connection, Transaction, Making> {
     /// Where the transaction of a key stands, if it is open.
     pub fn transaction(&self, key: Key) -> Option<usize>
         ensures none { (result ≡ None) ↔ (transaction_of key (work_of self.now).state ≡ None) }
-        ensures some { IfSome result (λ place. StandsAt self.now.transactions self.now.realm (is_keyed key) place) }
+        ensures some { IfSome result
+            (λ place. StandsAt self.now.transactions self.now.realm (is_keyed key) place) }
     {
         self.transactions.find(self.realm, &Keyed { key })
     }
@@ -79,7 +80,8 @@ impl Work<Connection, Transaction, Making> {
     /// The answer of a part is noted, where there is such a part.
     pub(crate) fn note(&mut self, key: Key, place: usize, part: Part, answer: Ballot)
         requires { StandsAt self.old.transactions self.old.realm (is_keyed key) place }
-        ensures { Does self.old self.new (alter key (noting part (answered answer)) (work_of self.old)) }
+        ensures { Does self.old self.new
+            (alter key (noting part (answered answer)) (work_of self.old)) }
     {
         let transaction = self.transactions.item_mut(place);
         answer_part(&mut transaction.txn, part, answer);
@@ -115,8 +117,10 @@ impl Work<Connection, Transaction, Making> {
     /// Each connection on the transaction reacts.
     pub fn react(&mut self, reaction: Reaction, key: Key)
         requires { lines_for key (work_of self.old).state ≤ self.old.making.free }
-        ensures does { Does self.old self.new (react (reaction_of reaction) key (work_of self.old)) }
-        ensures others { self.new ≡ record self.old { connections = self.new.connections; making = self.new.making } }
+        ensures does { Does self.old self.new
+            (react (reaction_of reaction) key (work_of self.old)) }
+        ensures others { self.new
+            ≡ record self.old { connections = self.new.connections; making = self.new.making } }
     {
         let progress = Progress { reaction, key };
         self.connections
@@ -150,7 +154,8 @@ impl Work<Connection, Transaction, Making> {
         requires stands { StandsAt self.old.transactions self.old.realm (is_keyed key) place }
         requires here { IsSome (party_here place self.old) }
         requires none { self.old.making.answer.work ≡ None }
-        ensures { (party : PartyNotes) → party_here place self.old ≡ Some party → Does self.old self.new (give_out errand party key (work_of self.old)) }
+        ensures { (party : PartyNotes) → party_here place self.old ≡ Some party →
+            Does self.old self.new (give_out errand party key (work_of self.old)) }
     {
         let mut party = self.take_party(key, place, PartyPlace::Out(errand));
         party.give(errand);
@@ -162,7 +167,8 @@ impl Work<Connection, Transaction, Making> {
         requires stands { StandsAt self.old.transactions self.old.realm (is_keyed key) place }
         requires here { IsSome (party_here place self.old) }
         requires none { self.old.making.answer.spent ≡ None }
-        ensures { (party : PartyNotes) → party_here place self.old ≡ Some party → Does self.old self.new (let_go party key (work_of self.old)) }
+        ensures { (party : PartyNotes) → party_here place self.old ≡ Some party →
+            Does self.old self.new (let_go party key (work_of self.old)) }
     {
         let party = self.take_party(key, place, PartyPlace::Spent);
         self.making.let_go(party);

@@ -62,7 +62,8 @@ impl Noted {
 
     /// What is noted of the party that an event brings back, if it does.
     pub(crate) fn brought(alloc: Global, event: &Event) -> Result<Option<Noted>, AllocError>
-        ensures { IfOk result (λ copy. option_map_or (λ noted. calls_of (notes_of noted)) copy [] ≡ brought event.now) }
+        ensures { IfOk result (λ copy. option_map_or (λ noted. calls_of (notes_of noted)) copy []
+            ≡ brought event.now) }
     {
         match event {
             Event::Voted(party) | Event::Settled(party) => Ok(Some(Noted::of(alloc, party)?)),

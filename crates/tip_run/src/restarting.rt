@@ -30,8 +30,11 @@ impl<S: RowLog + Drop> Running<S> {
         boxes: Vec<Vec<HeldPrepared>>,
     ) -> Result<(Running<S>, Vec<Shown>), RunFault>
         requires { Always }
-        ensures restarts { IfOk result (λ again. Restarts S.stands S.may_leave S.is_true S.faults S.is_due (around self) (around again.0) (map (λ lots. lots.items) boxes.items) again.1.items) }
-        ensures why { IfErr result (IsWhyNotRestarted S.stands S.may_leave S.is_true S.faults S.is_due (around self) (map (λ lots. lots.items) boxes.items)) }
+        ensures restarts { IfOk result (λ again. Restarts S.stands S.may_leave S.is_true S.faults
+            S.is_due (around self) (around again.0) (map (λ lots. lots.items) boxes.items)
+            again.1.items) }
+        ensures why { IfErr result (IsWhyNotRestarted S.stands S.may_leave S.is_true S.faults
+            S.is_due (around self) (map (λ lots. lots.items) boxes.items)) }
         ensures runs { IfOk result (λ again. again.0.host.is_stopped ≡ false) }
     {
         let shown = self.all_leave(alloc)?;
@@ -59,8 +62,10 @@ impl<S: RowLog + Drop> Running<S> {
         boxes: Vec<HeldPrepared>,
     ) -> Result<Shown, RunFault>
         requires { Always }
-        ensures renews { IfOk result (λ shown. Renews S.stands S.is_true (around self.old) (around self.new) realm boxes.items shown) }
-        ensures why { IfErr result (IsWhyNotRenewed S.stands S.is_true self.old.host.is_stopped (around self.old) realm boxes.items) }
+        ensures renews { IfOk result (λ shown. Renews S.stands S.is_true (around self.old)
+            (around self.new) realm boxes.items shown) }
+        ensures why { IfErr result (IsWhyNotRenewed S.stands S.is_true self.old.host.is_stopped
+            (around self.old) realm boxes.items) }
         ensures stopped { self.new.host.is_stopped ≡ self.old.host.is_stopped }
     {
         let mut left = Vec::new(alloc);
@@ -80,7 +85,8 @@ impl<S: RowLog + Drop> Running<S> {
 
     /// What each realm shows as the process ends: its parties are let go, first those that are out.
     fn all_leave(&self, alloc: Global) -> Result<Vec<Shown>, AllocError>
-        ensures { (place : ℕ) → IfOk result (λ shown. shown_at place shown.items ≡ flat_map drops_of (of self.now.out place) ++ drops_in (realm_at self.now.host.core place)) }
+        ensures { (place : ℕ) → IfOk result (λ shown. shown_at place shown.items ≡ flat_map drops_of
+            (of self.now.out place) ++ drops_in (realm_at self.now.host.core place)) }
     {
         let mut shown = Vec::new(alloc);
         for realm in 0..self.host.core.heads().len() {
@@ -94,7 +100,8 @@ impl<S: RowLog + Drop> Running<S> {
 
     /// Notes the parties that are out of a realm.
     fn note_out(&self, alloc: Global, realm: usize, left: &mut Vec<Noted>) -> Result<(), AllocError>
-        ensures { OnOk result (map notes_of left.new.items ≡ map notes_of left.old.items ++ of self.now.out realm) }
+        ensures { OnOk result
+            (map notes_of left.new.items ≡ map notes_of left.old.items ++ of self.now.out realm) }
     {
         for party in self.out.items(realm) {
             left.push(Noted::of(alloc, party)?)?;
@@ -110,7 +117,9 @@ fn note_here(
     realm: usize,
     left: &mut Vec<Noted>,
 ) -> Result<(), AllocError>
-    ensures { (state : State) → realm_at core.now realm ≡ Some state → OnOk result (flat_map drops_of (map notes_of left.new.items) ≡ flat_map drops_of (map notes_of left.old.items) ++ drops_here state) }
+    ensures { (state : State) → realm_at core.now realm ≡ Some state →
+        OnOk result (flat_map drops_of (map notes_of left.new.items)
+        ≡ flat_map drops_of (map notes_of left.old.items) ++ drops_here state) }
 {
     for transaction in core.transactions(realm) {
         if let PartyPlace::Here(party) = &transaction.place {

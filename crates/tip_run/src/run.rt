@@ -20,8 +20,10 @@ impl<S: RowLog + Drop> Running<S> {
     /// holds of the moves before it.
     pub fn run(self, alloc: Global, moves: Vec<Move>) -> Result<(Running<S>, Vec<Shown>), Halt>
         requires { Always }
-        ensures ran { IfOk result (λ ran. HasRun S.stands S.may_leave S.is_true S.faults S.is_due (around self) moves.items ran.1.items (around ran.0)) }
-        ensures halted { IfErr result (HasHalted S.stands S.may_leave S.is_true S.faults S.is_due self.host.is_stopped (around self) moves.items) }
+        ensures ran { IfOk result (λ ran. HasRun S.stands S.may_leave S.is_true S.faults S.is_due
+            (around self) moves.items ran.1.items (around ran.0)) }
+        ensures halted { IfErr result (HasHalted S.stands S.may_leave S.is_true S.faults S.is_due
+            self.host.is_stopped (around self) moves.items) }
     {
         let mut running = self;
         let mut shown = Vec::new(alloc);
@@ -43,10 +45,15 @@ impl<S: RowLog + Drop> Running<S> {
     /// One move; what it shows is added to what was shown.
     fn make(self, alloc: Global, next: Move, shown: &mut Vec<Shown>) -> Result<Running<S>, RunFault>
         requires { Always }
-        ensures made { IfOk result (λ after. (more : List Shown) × (shown.new.items ≡ shown.old.items ++ more) × IsMade S.stands S.may_leave S.is_true S.faults S.is_due (around self) next more (around after)) }
+        ensures made { IfOk result (λ after. (more : List Shown)
+            × (shown.new.items ≡ shown.old.items ++ more)
+            × IsMade S.stands S.may_leave S.is_true S.faults S.is_due (around self) next more
+            (around after)) }
         ensures same { OnErr result (shown.new.items ≡ shown.old.items) }
-        ensures why { IfErr result (IsWhyNotMade S.stands S.may_leave S.is_true S.faults S.is_due self.host.is_stopped (around self) next) }
-        ensures stopped { IfOk result (λ after. after.host.is_stopped ≡ true → self.host.is_stopped ≡ true) }
+        ensures why { IfErr result (IsWhyNotMade S.stands S.may_leave S.is_true S.faults S.is_due
+            self.host.is_stopped (around self) next) }
+        ensures stopped { IfOk result
+            (λ after. after.host.is_stopped ≡ true → self.host.is_stopped ≡ true) }
     {
         let (after, mut more) = self.made(alloc, next)?;
         shown.append(&mut more)?;
@@ -56,9 +63,12 @@ impl<S: RowLog + Drop> Running<S> {
     /// One move, and what it shows.
     fn made(mut self, alloc: Global, next: Move) -> Result<(Running<S>, Vec<Shown>), RunFault>
         requires { Always }
-        ensures made { IfOk result (λ after. IsMade S.stands S.may_leave S.is_true S.faults S.is_due (around self) next after.1.items (around after.0)) }
-        ensures why { IfErr result (IsWhyNotMade S.stands S.may_leave S.is_true S.faults S.is_due self.host.is_stopped (around self) next) }
-        ensures stopped { IfOk result (λ after. after.0.host.is_stopped ≡ true → self.host.is_stopped ≡ true) }
+        ensures made { IfOk result (λ after. IsMade S.stands S.may_leave S.is_true S.faults S.is_due
+            (around self) next after.1.items (around after.0)) }
+        ensures why { IfErr result (IsWhyNotMade S.stands S.may_leave S.is_true S.faults S.is_due
+            self.host.is_stopped (around self) next) }
+        ensures stopped { IfOk result
+            (λ after. after.0.host.is_stopped ≡ true → self.host.is_stopped ≡ true) }
     {
         let shown = match next {
             Move::Step { realm, event } => Some(self.step(alloc, realm, event)?),

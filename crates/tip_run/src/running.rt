@@ -81,7 +81,8 @@ impl<S: RowLog + Drop> Running<S> {
     ) -> Result<Shown, RunFault>
         requires { Always }
         ensures nobody { OnOk result (brings_no_party event ≡ true) }
-        ensures comes { IfOk result (λ shown. Comes S.stands S.may_leave S.is_true S.faults S.is_due (around self.old) (around self.new) realm event shown) }
+        ensures comes { IfOk result (λ shown. Comes S.stands S.may_leave S.is_true S.faults S.is_due
+            (around self.old) (around self.new) realm event shown) }
         ensures why { IfErr result (IsWhyNotStepped self.old.host.is_stopped event) }
         ensures stopped { self.new.host.is_stopped ≡ self.old.host.is_stopped }
     {
@@ -94,7 +95,8 @@ impl<S: RowLog + Drop> Running<S> {
     /// The oldest party that is out of a realm does its errand and comes back. Where none is out, nothing happens.
     pub(crate) fn go(&mut self, alloc: Global, realm: usize) -> Result<Option<Shown>, RunFault>
         requires { Always }
-        ensures goes { IfOk result (λ shown. Goes S.stands S.may_leave S.is_true S.faults S.is_due (around self.old) (around self.new) realm (of self.old.out realm) shown) }
+        ensures goes { IfOk result (λ shown. Goes S.stands S.may_leave S.is_true S.faults S.is_due
+            (around self.old) (around self.new) realm (of self.old.out realm) shown) }
         ensures why { IfErr result (IsWhyNotBack self.old.host.is_stopped (of self.old.out realm)) }
         ensures stopped { self.new.host.is_stopped ≡ self.old.host.is_stopped }
     {
@@ -110,7 +112,8 @@ impl<S: RowLog + Drop> Running<S> {
     /// The oldest party that is out of a realm is let go. Where none is out, nothing happens.
     pub(crate) fn lose(&mut self, alloc: Global, realm: usize) -> Result<Option<Shown>, RunFault>
         requires { Always }
-        ensures loses { IfOk result (λ shown. Loses (around self.old) (around self.new) realm (of self.old.out realm) shown) }
+        ensures loses { IfOk result (λ shown. Loses (around self.old) (around self.new) realm
+            (of self.old.out realm) shown) }
         ensures why { IfErr result IsWhyNotLost }
         ensures stopped { self.new.host.is_stopped ≡ self.old.host.is_stopped }
     {
@@ -124,7 +127,8 @@ impl<S: RowLog + Drop> Running<S> {
 
     /// An event of a realm; the party that it sends out is out.
     fn happen(&mut self, alloc: Global, realm: usize, event: Event) -> Result<Shown, RunFault>
-        ensures happens { IfOk result (λ shown. Happens S.stands S.may_leave S.is_true S.faults S.is_due (around self.old) (around self.new) realm event shown) }
+        ensures happens { IfOk result (λ shown. Happens S.stands S.may_leave S.is_true S.faults
+            S.is_due (around self.old) (around self.new) realm event shown) }
         ensures why { IfErr result (IsWhyNotHappened self.old.host.is_stopped) }
         ensures stopped { self.new.host.is_stopped ≡ self.old.host.is_stopped }
     {
@@ -145,8 +149,10 @@ impl<S: RowLog + Drop> Running<S> {
     fn take_oldest(&mut self, realm: usize) -> Option<HeldParty>
         ensures host { self.new.host ≡ self.old.host }
         ensures none { IfNone result ((of self.old.out realm ≡ []) × (self.new ≡ self.old)) }
-        ensures some { IfSome result (λ party. of self.old.out realm ≡ party ∷ of self.new.out realm) }
-        ensures others { (other : ℕ) → other ≢ realm → of self.new.out other ≡ of self.old.out other }
+        ensures some { IfSome result
+            (λ party. of self.old.out realm ≡ party ∷ of self.new.out realm) }
+        ensures others { (other : ℕ) → other ≢ realm →
+            of self.new.out other ≡ of self.old.out other }
     {
         let place = self.out.find(realm, &Any)?;
         Some(self.out.remove(place))

@@ -46,7 +46,10 @@ impl Shown {
     ) -> Result<(Shown, Option<HeldParty>), AllocError>
         ensures work { IfOk result (λ shown. shown.1 ≡ happened.answer.work) }
         ensures realm { IfOk result (λ shown. shown.0.realm ≡ realm) }
-        ensures shows { (event : Event) → option_map_or (λ noted. calls_of (notes_of noted)) back [] ≡ brought event → IfOk result (λ shown. outputs_of shown.0 ≡ outputs event happened.change happened.outcome happened.answer) }
+        ensures shows { (event : Event) →
+            option_map_or (λ noted. calls_of (notes_of noted)) back [] ≡ brought event →
+            IfOk result (λ shown. outputs_of shown.0
+            ≡ outputs event happened.change happened.outcome happened.answer) }
     {
         let Happened {
             change,
@@ -78,7 +81,8 @@ impl Shown {
     /// A party of a realm was let go, and nothing else is shown.
     pub(crate) fn leaving(alloc: Global, realm: usize, left: Vec<Noted>) -> Shown
         ensures realm { result.realm ≡ realm }
-        ensures shows { outputs_of result ≡ flat_map (λ noted. drops_of (notes_of noted)) left.items }
+        ensures shows { outputs_of result
+            ≡ flat_map (λ noted. drops_of (notes_of noted)) left.items }
     {
         Shown {
             realm,

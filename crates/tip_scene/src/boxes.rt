@@ -74,7 +74,8 @@ pub(crate) fn dealt_to_all(
     pool: &mut Vec<Box<dyn Branch + Send>>,
     realms: &[Recovery],
 ) -> Result<Vec<Vec<HeldPrepared>>, AllocError>
-    ensures { IfOk result (λ all. map (λ lots. lots.items) all.items ≡ map (λ recovery. map (λ row. willing_boxes row.row) recovery.rows) realms.now) }
+    ensures { IfOk result (λ all. map (λ lots. lots.items) all.items
+        ≡ map (λ recovery. map (λ row. willing_boxes row.row) recovery.rows) realms.now) }
 {
     let mut all = Vec::with_capacity(alloc, realms.len())?;
     for recovery in realms {
@@ -164,7 +165,8 @@ pub fn are_of(boxes: &[Box<dyn Branch + Send>], kinds: &[u8]) -> bool
 
 /// Whether this is a branch of this letter.
 fn is_of(branch: &Box<dyn Branch + Send>, kind: u8) -> bool
-    ensures { result ≡ true → (standing branch.now).badge ≡ record { plan = plan_of kind; mark = 0 } }
+    ensures { result ≡ true →
+        (standing branch.now).badge ≡ record { plan = plan_of kind; mark = 0 } }
 {
     branch.plan() == plan_of(kind) && branch.mark() == 0
 }

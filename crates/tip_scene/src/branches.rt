@@ -31,7 +31,8 @@ pub fn first_branches(alloc: Global, count: u8) -> Result<Branches, AllocError>
 
 /// Branches with these labels, numbered from 1; spaces stand between them.
 pub fn labelled_branches(alloc: Global, labels: &[u8]) -> Result<Branches, LineFault>
-    ensures ok { IfOk result (λ branches. (branches ≡ numbered 1 (fields_of 32 labels.now)) × (are_labels (fields_of 32 labels.now) ≡ true)) }
+    ensures ok { IfOk result (λ branches. (branches ≡ numbered 1 (fields_of 32 labels.now))
+        × (are_labels (fields_of 32 labels.now) ≡ true)) }
     ensures bad { IsErrOf result NotUnderstood → are_labels (fields_of 32 labels.now) ≡ false }
 {
     let mut fields: Fields<'_, b' '> = Fields::of(labels);

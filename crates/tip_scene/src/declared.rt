@@ -53,7 +53,8 @@ impl<S: RowLog + Drop> Declared<S, Core> {
     pub fn new(alloc: Global, core: Core, store: S) -> Declared<S, Core>
         requires { Always }
         ensures store { result.store ≡ store }
-        ensures none { (basis : Basis) → IsBasis (keeping S.stands S.is_true S.is_due) basis store → IsDeclared (keeping S.stands S.is_true S.is_due) basis result [] }
+        ensures none { (basis : Basis) → IsBasis (keeping S.stands S.is_true S.is_due) basis store →
+            IsDeclared (keeping S.stands S.is_true S.is_due) basis result [] }
     {
         Declared {
             core,
@@ -73,7 +74,9 @@ impl<S: RowLog + Drop> Declared<S, Core> {
     ) -> Result<(), LineFault>
         requires { Always }
         ensures store { self.new.store ≡ self.old.store }
-        ensures declares { Declares (declared name.now address.now branches limits self.old.declarations.items) self.new.declarations.items result }
+        ensures declares { Declares
+            (declared name.now address.now branches limits self.old.declarations.items)
+            self.new.declarations.items result }
     {
         if self.declarations.len() >= MOST_REALMS
             || !is_count(branches)
@@ -91,7 +94,9 @@ impl<S: RowLog + Drop> Declared<S, Core> {
     pub fn label(&mut self, alloc: Global, name: &str, labels: &[u8]) -> Result<(), LineFault>
         requires { Always }
         ensures store { self.new.store ≡ self.old.store }
-        ensures declares { Declares (labelled name.now (fields_of 32 labels.now) self.old.declarations.items) self.new.declarations.items result }
+        ensures declares { Declares
+            (labelled name.now (fields_of 32 labels.now) self.old.declarations.items)
+            self.new.declarations.items result }
     {
         let place = place_of(name, &self.declarations);
         let Some(declaration) = self.declarations.get_mut(place) else {
@@ -109,9 +114,17 @@ impl<S: RowLog + Drop> Declared<S, Core> {
         printed: &mut String,
     ) -> Result<Playing<Host<S>>, (ActFault, Option<S>)>
         requires { Always }
-        ensures truth { Trusts (keeping S.stands S.is_true S.is_due) self.store (λ playing. playing.host.store) result }
-        ensures text { (basis : Basis) (declarations : List Declaration) → IsDeclared (keeping S.stands S.is_true S.is_due) basis self declarations → IfOk result (λ playing. S.is_true playing.host.store → string_bytes printed.new ≡ string_bytes printed.old ++ starts_text basis declarations) }
-        ensures scene { (basis : Basis) (declarations : List Declaration) → IsDeclared (keeping S.stands S.is_true S.is_due) basis self declarations → IfOk result (λ playing. S.is_true playing.host.store → IsScene (keeping S.stands S.is_true S.is_due) playing.host playing.actors.items (scene_of basis declarations)) }
+        ensures truth { Trusts (keeping S.stands S.is_true S.is_due) self.store
+            (λ playing. playing.host.store) result }
+        ensures text { (basis : Basis) (declarations : List Declaration) →
+            IsDeclared (keeping S.stands S.is_true S.is_due) basis self declarations →
+            IfOk result (λ playing. S.is_true playing.host.store → string_bytes printed.new
+            ≡ string_bytes printed.old ++ starts_text basis declarations) }
+        ensures scene { (basis : Basis) (declarations : List Declaration) →
+            IsDeclared (keeping S.stands S.is_true S.is_due) basis self declarations →
+            IfOk result (λ playing. S.is_true playing.host.store → IsScene
+            (keeping S.stands S.is_true S.is_due) playing.host playing.actors.items
+            (scene_of basis declarations)) }
     {
         let Declared {
             core,
@@ -134,7 +147,9 @@ impl<S: RowLog + Drop> Declared<S, Core> {
     pub(crate) fn willing(&mut self, only: Option<&str>) -> Result<usize, ActFault>
         requires { Always }
         ensures truth { S.is_true self.new.store → S.is_true self.old.store }
-        ensures stands { (basis : Basis) (declarations : List Declaration) → IsDeclared (keeping S.stands S.is_true S.is_due) basis self.old declarations → IsDeclared (keeping S.stands S.is_true S.is_due) basis self.new declarations }
+        ensures stands { (basis : Basis) (declarations : List Declaration) →
+            IsDeclared (keeping S.stands S.is_true S.is_due) basis self.old declarations →
+            IsDeclared (keeping S.stands S.is_true S.is_due) basis self.new declarations }
     {
         count_declared(&mut self.store, &self.declarations, only)
     }
@@ -144,7 +159,8 @@ impl Declaration {
     /// Its branches have these labels, by number, where none were named before.
     fn label(&mut self, alloc: Global, labels: &[u8]) -> Result<(), LineFault>
         ensures ok { OnOk result (with_labels (fields_of 32 labels.now) self.old ≡ Some self.new) }
-        ensures bad { IsErrOf result NotUnderstood → with_labels (fields_of 32 labels.now) self.old ≡ None }
+        ensures bad { IsErrOf result NotUnderstood →
+            with_labels (fields_of 32 labels.now) self.old ≡ None }
     {
         if self.is_labelled {
             return Err(LineFault::NotUnderstood);
@@ -213,8 +229,11 @@ fn declaration_of(
     limits: Limits,
 ) -> Result<Declaration, LineFault>
     requires { branches ≤ 8 }
-    ensures ok { IfOk result (λ declaration. (declaration ≡ declaration_of name.now address.now branches limits) × (is_realm name.now ≡ true) × (is_address address.now ≡ true)) }
-    ensures bad { IsErrOf result NotUnderstood → (is_realm name.now && is_address address.now) ≡ false }
+    ensures ok { IfOk result (λ declaration. (declaration
+        ≡ declaration_of name.now address.now branches limits) × (is_realm name.now ≡ true)
+        × (is_address address.now ≡ true)) }
+    ensures bad { IsErrOf result NotUnderstood →
+        (is_realm name.now && is_address address.now) ≡ false }
 {
     Ok(Declaration {
         name: Realm::new(alloc, name.as_bytes())?,
@@ -230,7 +249,9 @@ fn parts_of(
     alloc: Global,
     declarations: Vec<Declaration>,
 ) -> Result<(Vec<Actor>, Vec<RealmSpec>), AllocError>
-    ensures { IfOk result (λ parts. ((basis : Basis) → AreNew parts.0.items (scene_of basis declarations.items)) × (parts.1.items ≡ map spec_of declarations.items)) }
+    ensures { IfOk result (λ parts. ((basis : Basis) →
+        AreNew parts.0.items (scene_of basis declarations.items))
+        × (parts.1.items ≡ map spec_of declarations.items)) }
 {
     let actors = actors_of(alloc, &declarations)?;
     let specs = specs_of(alloc, declarations)?;
@@ -239,7 +260,8 @@ fn parts_of(
 
 /// Each realm at its start.
 fn actors_of(alloc: Global, declarations: &[Declaration]) -> Result<Vec<Actor>, AllocError>
-    ensures { IfOk result (λ actors. (basis : Basis) → AreNew actors.items (scene_of basis declarations.now)) }
+    ensures { IfOk result
+        (λ actors. (basis : Basis) → AreNew actors.items (scene_of basis declarations.now)) }
 {
     let mut actors = Vec::with_capacity(alloc, declarations.len())?;
     for declaration in declarations {

@@ -47,9 +47,14 @@ impl<S: RowLog + Drop> Playing<Host<S>, Actor> {
         printed: &mut String,
     ) -> Result<Playing<Host<S>>, (LineFault, Option<S>)>
         requires { Always }
-        ensures truth { Trusts (keeping S.stands S.is_true S.is_due) self.host.store (λ playing. playing.host.store) result }
-        ensures moves { (scene : Scene) → IsScene (keeping S.stands S.is_true S.is_due) self.host self.actors.items scene → may_say R.may (move_by instruction.entry) ≡ true → ComeWith (Some (move_by instruction.entry)) (map standing boxes.items) →
-            Moves (keeping S.stands S.is_true S.is_due) (string_bytes printed.old) (string_bytes printed.new) (moved (move_by instruction.entry) scene) result }
+        ensures truth { Trusts (keeping S.stands S.is_true S.is_due) self.host.store
+            (λ playing. playing.host.store) result }
+        ensures moves { (scene : Scene) →
+            IsScene (keeping S.stands S.is_true S.is_due) self.host self.actors.items scene →
+            may_say R.may (move_by instruction.entry) ≡ true →
+            ComeWith (Some (move_by instruction.entry)) (map standing boxes.items) →
+            Moves (keeping S.stands S.is_true S.is_due) (string_bytes printed.old)
+            (string_bytes printed.new) (moved (move_by instruction.entry) scene) result }
     {
         let Some(realm) = instruction.realm() else {
             return restart(self, alloc, pool, printed);
@@ -74,8 +79,13 @@ impl<S: RowLog + Drop> Playing<Host<S>, Actor> {
         requires always { Always }
         requires named { realm_of (move_by instruction) ≡ Some realm.now }
         ensures truth { S.is_true self.new.host.store → S.is_true self.old.host.store }
-        ensures serves { (scene : Scene) → IsScene (keeping S.stands S.is_true S.is_due) self.old.host self.old.actors.items scene → may_say R.may (move_by instruction.entry) ≡ true → ComeWith (Some (move_by instruction.entry)) (map standing boxes.items) → S.is_true self.new.host.store →
-            Serves (keeping S.stands S.is_true S.is_due) (string_bytes printed.old) (string_bytes printed.new) (moved (move_by instruction.entry) scene) self.new result }
+        ensures serves { (scene : Scene) → IsScene (keeping S.stands S.is_true S.is_due)
+            self.old.host self.old.actors.items scene →
+            may_say R.may (move_by instruction.entry) ≡ true →
+            ComeWith (Some (move_by instruction.entry)) (map standing boxes.items) →
+            S.is_true self.new.host.store → Serves (keeping S.stands S.is_true S.is_due)
+            (string_bytes printed.old) (string_bytes printed.new)
+            (moved (move_by instruction.entry) scene) self.new result }
     {
         if let Instruction::Renew { .. } = instruction {
             return self.renew(alloc, realm, pool, printed);
@@ -94,7 +104,11 @@ impl<S: RowLog + Drop> Playing<Host<S>, Actor> {
     ) -> Result<(), LineFault>
         requires { Always }
         ensures truth { S.is_true self.new.host.store → S.is_true self.old.host.store }
-        ensures serves { (scene : Scene) → IsScene (keeping S.stands S.is_true S.is_due) self.old.host self.old.actors.items scene → S.is_true self.new.host.store → Serves (keeping S.stands S.is_true S.is_due) (string_bytes printed.old) (string_bytes printed.new) (moved_in (Renews name.now) (Some name.now) scene) self.new result }
+        ensures serves { (scene : Scene) → IsScene (keeping S.stands S.is_true S.is_due)
+            self.old.host self.old.actors.items scene → S.is_true self.new.host.store →
+            Serves (keeping S.stands S.is_true S.is_due) (string_bytes printed.old)
+            (string_bytes printed.new) (moved_in (Renews name.now) (Some name.now) scene)
+            self.new result }
     {
         let place = self.place_of(name);
         let Some(actor) = self.actors.get_mut(place) else {
@@ -120,8 +134,13 @@ impl<S: RowLog + Drop> Playing<Host<S>, Actor> {
         requires always { Always }
         requires same { is_start (move_by instruction) ≡ false }
         ensures truth { S.is_true self.new.host.store → S.is_true self.old.host.store }
-        ensures serves { (scene : Scene) → IsScene (keeping S.stands S.is_true S.is_due) self.old.host self.old.actors.items scene → may_say R.may (move_by instruction.entry) ≡ true → boxes ≡ boxes_of (plans_with (move_by instruction.entry)) →
-            Serves (keeping S.stands S.is_true S.is_due) (string_bytes printed.old) (string_bytes printed.new) (moved_in (move_by instruction.entry) (Some realm.now) scene) self.new result }
+        ensures serves { (scene : Scene) → IsScene (keeping S.stands S.is_true S.is_due)
+            self.old.host self.old.actors.items scene →
+            may_say R.may (move_by instruction.entry) ≡ true →
+            boxes ≡ boxes_of (plans_with (move_by instruction.entry)) →
+            Serves (keeping S.stands S.is_true S.is_due) (string_bytes printed.old)
+            (string_bytes printed.new)
+            (moved_in (move_by instruction.entry) (Some realm.now) scene) self.new result }
     {
         let place = self.place_of(realm);
         let Some(actor) = self.actors.get_mut(place) else {
@@ -148,7 +167,10 @@ impl<S: RowLog + Drop> Playing<Host<S>, Actor> {
     pub(crate) fn willing(&mut self, only: Option<&str>) -> Result<usize, ActFault>
         requires { Always }
         ensures truth { S.is_true self.new.host.store → S.is_true self.old.host.store }
-        ensures stands { (scene : Scene) → IsScene (keeping S.stands S.is_true S.is_due) self.old.host self.old.actors.items scene → IsScene (keeping S.stands S.is_true S.is_due) self.new.host self.new.actors.items scene }
+        ensures stands { (scene : Scene) → IsScene (keeping S.stands S.is_true S.is_due)
+            self.old.host self.old.actors.items scene →
+            IsScene (keeping S.stands S.is_true S.is_due) self.new.host self.new.actors.items
+            scene }
     {
         count_acting(&mut self.host.store, &self.actors, only)
     }
@@ -179,8 +201,13 @@ fn obey<S: RowLog + Drop, R: Refuser<S>>(
 ) -> Result<bool, ActFault>
     requires { is_start (move_by instruction) ≡ false }
     ensures truth { S.is_true host.new.store → S.is_true host.old.store }
-    ensures tells { (acting : Acting) → IsActing (keeping S.stands S.is_true S.is_due) host.old place actor.old acting → may_say R.may (move_by instruction.entry) ≡ true → boxes ≡ boxes_of (plans_with (move_by instruction.entry)) →
-        IfOk result (λ told. Tells (keeping S.stands S.is_true S.is_due) host.old host.new place actor.old actor.new (string_bytes printed.old) (string_bytes printed.new) told (does (move_by instruction.entry) acting)) }
+    ensures tells { (acting : Acting) →
+        IsActing (keeping S.stands S.is_true S.is_due) host.old place actor.old acting →
+        may_say R.may (move_by instruction.entry) ≡ true →
+        boxes ≡ boxes_of (plans_with (move_by instruction.entry)) →
+        IfOk result (λ told. Tells (keeping S.stands S.is_true S.is_due) host.old host.new place
+        actor.old actor.new (string_bytes printed.old) (string_bytes printed.new) told
+        (does (move_by instruction.entry) acting)) }
 {
     match instruction {
         Instruction::Realm { .. }
@@ -219,7 +246,8 @@ fn obey<S: RowLog + Drop, R: Refuser<S>>(
 
 /// What a line prints that is of no realm.
 fn print_elsewhere(printed: &mut String, instruction: Instruction<'_>) -> Result<(), LineFault>
-    ensures { Prints (string_bytes printed.old) (string_bytes printed.new) (elsewhere (move_by instruction.entry)) result }
+    ensures { Prints (string_bytes printed.old) (string_bytes printed.new)
+        (elsewhere (move_by instruction.entry)) result }
 {
     match instruction {
         Instruction::Realm { .. }

@@ -36,7 +36,9 @@ pub(crate) fn renew<S: RowLog + Drop>(
     printed: &mut String,
 ) -> Result<(), ActFault>
     ensures truth { S.is_true host.new.store → S.is_true host.old.store }
-    ensures acts { S.is_true host.new.store → OnOk result (Acts (keeping S.stands S.is_true S.is_due) host.old host.new place actor.old actor.new (string_bytes printed.old) (string_bytes printed.new) renews) }
+    ensures acts { S.is_true host.new.store → OnOk result (Acts
+        (keeping S.stands S.is_true S.is_due) host.old host.new place actor.old actor.new
+        (string_bytes printed.old) (string_bytes printed.new) renews) }
 {
     let Some(epoch) = next_epoch(host.core.heads(), place) else {
         print_refusal(printed, actor.name.as_str(), Refusal::EpochEnd)?;
@@ -52,7 +54,9 @@ pub(crate) fn renew<S: RowLog + Drop>(
 
 /// The epoch in which a realm would start again; None after the last.
 fn next_epoch(heads: &[Head], place: usize) -> Option<u32>
-    ensures { result ≡ option_and_then (λ head. if head.epoch == last_epoch then None else Some (head.epoch + 1)) (slice_get heads.now place) }
+    ensures { result ≡ option_and_then
+        (λ head. if head.epoch == last_epoch then None else Some (head.epoch + 1))
+        (slice_get heads.now place) }
 {
     match heads.get(place) {
         Some(head) => epoch_after(head.epoch),
@@ -82,7 +86,12 @@ fn renew_by<S: RowLog + Drop>(
     printed: &mut String,
 ) -> Result<(), ActFault>
     ensures truth { S.is_true host.new.store → S.is_true host.old.store }
-    ensures done { S.is_true host.new.store → (acting : Acting) → IsActing (keeping S.stands S.is_true S.is_due) host.old place actor.old acting → IsWilling recovery acting → epoch ≡ acting.world.state.head.epoch + 1 → OnOk result (IsDone (keeping S.stands S.is_true S.is_due) host.old host.new place actor.old actor.new (string_bytes printed.old) (string_bytes printed.new) (renewed acting.due acting)) }
+    ensures done { S.is_true host.new.store → (acting : Acting) →
+        IsActing (keeping S.stands S.is_true S.is_due) host.old place actor.old acting →
+        IsWilling recovery acting → epoch ≡ acting.world.state.head.epoch + 1 →
+        OnOk result (IsDone (keeping S.stands S.is_true S.is_due) host.old host.new place actor.old
+        actor.new (string_bytes printed.old) (string_bytes printed.new)
+        (renewed acting.due acting)) }
 {
     let mut opening = String::new(alloc);
     let name = actor.name.as_str();
@@ -118,7 +127,12 @@ fn print_opening(
     epoch: u32,
     rows: &[Unfinished],
 ) -> Result<(), AllocError>
-    ensures { (state : State) → realm_at core.now place ≡ Some state → OnOk result (string_bytes printed.new ≡ string_bytes printed.old ++ (flat_map (λ transaction. shown_text name.now (drops_at transaction.place)) state.transactions ++ (start_text name.now epoch ++ flat_map (λ row. adopted_text name.now (identifier row.realm row.key) (branches_of row.row)) rows.now))) }
+    ensures { (state : State) → realm_at core.now place ≡ Some state →
+        OnOk result (string_bytes printed.new ≡ string_bytes printed.old ++ (flat_map
+        (λ transaction. shown_text name.now (drops_at transaction.place))
+        state.transactions ++ (start_text name.now epoch ++ flat_map (λ row. adopted_text
+        name.now (identifier row.realm row.key)
+        (branches_of row.row)) rows.now))) }
 {
     print_here(printed, name, core, place)?;
     print_start(printed, name, epoch)?;

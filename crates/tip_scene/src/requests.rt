@@ -30,8 +30,12 @@ pub(crate) fn dial<S: RowLog + Drop>(
     printed: &mut String,
 ) -> Result<bool, ActFault>
     ensures truth { S.is_true host.new.store → S.is_true host.old.store }
-    ensures tells { (acting : Acting) (realm : List ℕ) (plans : List Plan) → IsActing (keeping S.stands S.is_true S.is_due) host.old place actor.old acting → boxes ≡ boxes_of plans →
-        IfOk result (λ told. Tells (keeping S.stands S.is_true S.is_due) host.old host.new place actor.old actor.new (string_bytes printed.old) (string_bytes printed.new) told (does (Dial realm address.now plans (purpose_of aim.entry)) acting)) }
+    ensures tells { (acting : Acting) (realm : List ℕ) (plans : List Plan) →
+        IsActing (keeping S.stands S.is_true S.is_due) host.old place actor.old acting →
+        boxes ≡ boxes_of plans → IfOk result (λ told. Tells (keeping S.stands S.is_true S.is_due)
+        host.old host.new place actor.old actor.new (string_bytes printed.old)
+        (string_bytes printed.new) told
+        (does (Dial realm address.now plans (purpose_of aim.entry)) acting)) }
 {
     match dialling(alloc, address, aim, boxes)? {
         Some(event) => {
@@ -49,7 +53,9 @@ fn dialling(
     aim: Aim<'_>,
     boxes: HeldFresh,
 ) -> Result<Option<Event>, AllocError>
-    ensures { IfOk result (λ event. event ≡ (if is_address address.now && is_purpose (purpose_of aim.entry) then Some (Dials address.now (purpose_of aim.entry) boxes) else None)) }
+    ensures { IfOk result (λ event. event ≡ (if is_address address.now
+        && is_purpose (purpose_of aim.entry)
+        then Some (Dials address.now (purpose_of aim.entry) boxes) else None)) }
 {
     let address = address_in(alloc, address)?;
     let purpose = purpose_in(alloc, aim)?;
@@ -73,8 +79,11 @@ pub(crate) fn push<S: RowLog + Drop>(
     printed: &mut String,
 ) -> Result<bool, ActFault>
     ensures truth { S.is_true host.new.store → S.is_true host.old.store }
-    ensures tells { (acting : Acting) (realm : List ℕ) → IsActing (keeping S.stands S.is_true S.is_due) host.old place actor.old acting →
-        IfOk result (λ told. Tells (keeping S.stands S.is_true S.is_due) host.old host.new place actor.old actor.new (string_bytes printed.old) (string_bytes printed.new) told (does (Push realm asked.entry.connection asked.entry.id.now) acting)) }
+    ensures tells { (acting : Acting) (realm : List ℕ) →
+        IsActing (keeping S.stands S.is_true S.is_due) host.old place actor.old acting →
+        IfOk result (λ told. Tells (keeping S.stands S.is_true S.is_due) host.old host.new place
+        actor.old actor.new (string_bytes printed.old) (string_bytes printed.new) told
+        (does (Push realm asked.entry.connection asked.entry.id.now) acting)) }
 {
     match id_in(alloc, asked.id)? {
         Some(id) => actor.push(alloc, host, place, asked.connection, id, printed),
@@ -92,8 +101,11 @@ pub(crate) fn pull<S: RowLog + Drop>(
     printed: &mut String,
 ) -> Result<bool, ActFault>
     ensures truth { S.is_true host.new.store → S.is_true host.old.store }
-    ensures tells { (acting : Acting) (realm : List ℕ) → IsActing (keeping S.stands S.is_true S.is_due) host.old place actor.old acting →
-        IfOk result (λ told. Tells (keeping S.stands S.is_true S.is_due) host.old host.new place actor.old actor.new (string_bytes printed.old) (string_bytes printed.new) told (does (Pull realm asked.entry.connection asked.entry.id.now) acting)) }
+    ensures tells { (acting : Acting) (realm : List ℕ) →
+        IsActing (keeping S.stands S.is_true S.is_due) host.old place actor.old acting →
+        IfOk result (λ told. Tells (keeping S.stands S.is_true S.is_due) host.old host.new place
+        actor.old actor.new (string_bytes printed.old) (string_bytes printed.new) told
+        (does (Pull realm asked.entry.connection asked.entry.id.now) acting)) }
 {
     match id_in(alloc, asked.id)? {
         Some(superior) => actor.pull(alloc, host, place, asked.connection, superior, printed),
@@ -111,8 +123,11 @@ pub(crate) fn resume<S: RowLog + Drop>(
     printed: &mut String,
 ) -> Result<bool, ActFault>
     ensures truth { S.is_true host.new.store → S.is_true host.old.store }
-    ensures tells { (acting : Acting) (realm : List ℕ) → IsActing (keeping S.stands S.is_true S.is_due) host.old place actor.old acting →
-        IfOk result (λ told. Tells (keeping S.stands S.is_true S.is_due) host.old host.new place actor.old actor.new (string_bytes printed.old) (string_bytes printed.new) told (does (Resume realm id.now) acting)) }
+    ensures tells { (acting : Acting) (realm : List ℕ) →
+        IsActing (keeping S.stands S.is_true S.is_due) host.old place actor.old acting →
+        IfOk result (λ told. Tells (keeping S.stands S.is_true S.is_due) host.old host.new place
+        actor.old actor.new (string_bytes printed.old) (string_bytes printed.new) told
+        (does (Resume realm id.now) acting)) }
 {
     match id_in(alloc, id)? {
         Some(id) => {
@@ -125,7 +140,8 @@ pub(crate) fn resume<S: RowLog + Drop>(
 
 /// What a connection is opened for; None where its identifier is no word.
 fn purpose_in(alloc: Global, aim: Aim<'_>) -> Result<Option<Purpose>, AllocError>
-    ensures { IfOk result (λ purpose. purpose ≡ (if is_purpose (purpose_of aim.entry) then Some (purpose_of aim.entry) else None)) }
+    ensures { IfOk result (λ purpose. purpose
+        ≡ (if is_purpose (purpose_of aim.entry) then Some (purpose_of aim.entry) else None)) }
 {
     match aim {
         Aim::Plain => Ok(Some(Purpose::Plain)),
@@ -153,7 +169,8 @@ fn id_in(alloc: Global, id: &[u8]) -> Result<Option<Id>, AllocError>
 
 /// An address, if it is one.
 fn address_in(alloc: Global, address: &[u8]) -> Result<Option<Address>, AllocError>
-    ensures { IfOk result (λ found. found ≡ (if is_address address.now then Some address.now else None)) }
+    ensures { IfOk result
+        (λ found. found ≡ (if is_address address.now then Some address.now else None)) }
 {
     match Address::new(alloc, address) {
         Ok(address) => Ok(Some(address)),

@@ -30,8 +30,12 @@ pub(crate) fn restart<S: RowLog + Drop>(
     pool: &mut Vec<Box<dyn Branch + Send>>,
     printed: &mut String,
 ) -> Result<Playing<Host<S>>, (LineFault, Option<S>)>
-    ensures truth { Trusts (keeping S.stands S.is_true S.is_due) playing.host.store (λ again. again.host.store) result }
-    ensures moves { (scene : Scene) → IsScene (keeping S.stands S.is_true S.is_due) playing.host playing.actors.items scene → Moves (keeping S.stands S.is_true S.is_due) (string_bytes printed.old) (string_bytes printed.new) (restarted scene) result }
+    ensures truth { Trusts (keeping S.stands S.is_true S.is_due) playing.host.store
+        (λ again. again.host.store) result }
+    ensures moves { (scene : Scene) →
+        IsScene (keeping S.stands S.is_true S.is_due) playing.host playing.actors.items scene →
+        Moves (keeping S.stands S.is_true S.is_due) (string_bytes printed.old)
+        (string_bytes printed.new) (restarted scene) result }
 {
     let Playing { host, actors } = playing;
     if is_any_at_end(host.core.heads()) {
@@ -57,8 +61,12 @@ fn leave<S: RowLog + Drop>(
     actors: &[Actor],
     printed: &mut String,
 ) -> Result<Vec<RealmSpec>, AllocError>
-    ensures specs { IfOk result (λ specs. (place : ℕ) → slice_get specs.items place ≡ option_map (λ (state : State). spec_of_head state.head) (realm_at host.now.core place)) }
-    ensures text { (scene : Scene) → IsScene (keeping S.stands S.is_true S.is_due) host.now actors.now scene → OnOk result (string_bytes printed.new ≡ string_bytes printed.old ++ flat_map (λ acting. (restarts acting).printed) scene) }
+    ensures specs { IfOk result (λ specs. (place : ℕ) → slice_get specs.items place ≡ option_map
+        (λ (state : State). spec_of_head state.head) (realm_at host.now.core place)) }
+    ensures text { (scene : Scene) →
+        IsScene (keeping S.stands S.is_true S.is_due) host.now actors.now scene →
+        OnOk result (string_bytes printed.new ≡ string_bytes printed.old
+        ++ flat_map (λ acting. (restarts acting).printed) scene) }
 {
     print_leaving(printed, host, actors)?;
     host.declarations(alloc)
@@ -73,8 +81,14 @@ fn rise_again<S: RowLog + Drop>(
     printed: &mut String,
 ) -> Result<Playing<Host<S>>, AllocError>
     ensures store { IfOk result (λ playing. playing.host.store ≡ recovering.store) }
-    ensures text { (scene : Scene) → AreAgain actors.items scene → AreWaiting (keeping S.stands S.is_true S.is_due) recovering scene → IfOk result (λ playing. string_bytes printed.new ≡ string_bytes printed.old ++ openings_text scene) }
-    ensures scene { (scene : Scene) → AreAgain actors.items scene → AreWaiting (keeping S.stands S.is_true S.is_due) recovering scene → IfOk result (λ playing. IsScene (keeping S.stands S.is_true S.is_due) playing.host playing.actors.items scene) }
+    ensures text { (scene : Scene) → AreAgain actors.items scene →
+        AreWaiting (keeping S.stands S.is_true S.is_due) recovering scene →
+        IfOk result (λ playing. string_bytes printed.new
+        ≡ string_bytes printed.old ++ openings_text scene) }
+    ensures scene { (scene : Scene) → AreAgain actors.items scene →
+        AreWaiting (keeping S.stands S.is_true S.is_due) recovering scene →
+        IfOk result (λ playing. IsScene (keeping S.stands S.is_true S.is_due) playing.host
+        playing.actors.items scene) }
 {
     rise(alloc, recovering, anew(alloc, actors)?, pool, printed)
 }
@@ -92,7 +106,10 @@ fn print_leaving<S: RowLog + Drop>(
     host: &Host<S>,
     actors: &[Actor],
 ) -> Result<(), AllocError>
-    ensures { (scene : Scene) → IsScene (keeping S.stands S.is_true S.is_due) host.now actors.now scene → OnOk result (string_bytes printed.new ≡ string_bytes printed.old ++ flat_map (λ acting. (restarts acting).printed) scene) }
+    ensures { (scene : Scene) →
+        IsScene (keeping S.stands S.is_true S.is_due) host.now actors.now scene →
+        OnOk result (string_bytes printed.new ≡ string_bytes printed.old
+        ++ flat_map (λ acting. (restarts acting).printed) scene) }
 {
     for (place, actor) in actors.iter().enumerate() {
         actor.print_leaving(host, place, printed)?;

@@ -29,8 +29,14 @@ pub(crate) fn rise<S: RowLog + Drop>(
     printed: &mut String,
 ) -> Result<Playing<Host<S>>, AllocError>
     ensures store { IfOk result (λ playing. playing.host.store ≡ recovering.store) }
-    ensures text { (scene : Scene) → AreNew actors.items scene → AreWaiting (keeping S.stands S.is_true S.is_due) recovering scene → IfOk result (λ playing. string_bytes printed.new ≡ string_bytes printed.old ++ openings_text scene) }
-    ensures scene { (scene : Scene) → AreNew actors.items scene → AreWaiting (keeping S.stands S.is_true S.is_due) recovering scene → IfOk result (λ playing. IsScene (keeping S.stands S.is_true S.is_due) playing.host playing.actors.items scene) }
+    ensures text { (scene : Scene) → AreNew actors.items scene →
+        AreWaiting (keeping S.stands S.is_true S.is_due) recovering scene →
+        IfOk result (λ playing. string_bytes printed.new
+        ≡ string_bytes printed.old ++ openings_text scene) }
+    ensures scene { (scene : Scene) → AreNew actors.items scene →
+        AreWaiting (keeping S.stands S.is_true S.is_due) recovering scene →
+        IfOk result (λ playing. IsScene (keeping S.stands S.is_true S.is_due) playing.host
+        playing.actors.items scene) }
 {
     let lots = dealt_to_all(alloc, pool, recovering.realms())?;
     if !recovering.adopt_all(lots) {
@@ -46,8 +52,14 @@ fn begin<S: RowLog + Drop>(
     printed: &mut String,
 ) -> Result<Playing<Host<S>>, AllocError>
     ensures store { IfOk result (λ playing. playing.host.store ≡ recovering.store) }
-    ensures text { (scene : Scene) → AreNew actors.items scene → AreRising (keeping S.stands S.is_true S.is_due) recovering scene → IfOk result (λ playing. string_bytes printed.new ≡ string_bytes printed.old ++ openings_text scene) }
-    ensures scene { (scene : Scene) → AreNew actors.items scene → AreRising (keeping S.stands S.is_true S.is_due) recovering scene → IfOk result (λ playing. IsScene (keeping S.stands S.is_true S.is_due) playing.host playing.actors.items scene) }
+    ensures text { (scene : Scene) → AreNew actors.items scene →
+        AreRising (keeping S.stands S.is_true S.is_due) recovering scene →
+        IfOk result (λ playing. string_bytes printed.new
+        ≡ string_bytes printed.old ++ openings_text scene) }
+    ensures scene { (scene : Scene) → AreNew actors.items scene →
+        AreRising (keeping S.stands S.is_true S.is_due) recovering scene →
+        IfOk result (λ playing. IsScene (keeping S.stands S.is_true S.is_due) playing.host
+        playing.actors.items scene) }
 {
     print_openings(printed, &recovering, &actors)?;
     match recovering.begin() {
@@ -73,7 +85,9 @@ fn print_openings<S: RowLog + Drop>(
     recovering: &Recovering<S>,
     actors: &[Actor],
 ) -> Result<(), AllocError>
-    ensures { (scene : Scene) → AreNew actors.now scene → AreRising (keeping S.stands S.is_true S.is_due) recovering.now scene → OnOk result (string_bytes printed.new ≡ string_bytes printed.old ++ openings_text scene) }
+    ensures { (scene : Scene) → AreNew actors.now scene →
+        AreRising (keeping S.stands S.is_true S.is_due) recovering.now scene →
+        OnOk result (string_bytes printed.new ≡ string_bytes printed.old ++ openings_text scene) }
 {
     for (place, actor) in actors.iter().enumerate() {
         print_opening(printed, recovering, place, actor)?;
@@ -88,7 +102,9 @@ fn print_opening<S: RowLog + Drop>(
     place: usize,
     actor: &Actor,
 ) -> Result<(), AllocError>
-    ensures { (acting : Acting) → actor.now.name ≡ acting.name → IsRising (keeping S.stands S.is_true S.is_due) recovering.now place acting → OnOk result (string_bytes printed.new ≡ string_bytes printed.old ++ opening_text acting) }
+    ensures { (acting : Acting) → actor.now.name ≡ acting.name →
+        IsRising (keeping S.stands S.is_true S.is_due) recovering.now place acting →
+        OnOk result (string_bytes printed.new ≡ string_bytes printed.old ++ opening_text acting) }
 {
     let name = actor.name.as_str();
     let Some(epoch) = recovering.epoch(place) else {
@@ -104,7 +120,9 @@ pub(crate) fn print_adoptions(
     name: &str,
     rows: &[Unfinished],
 ) -> Result<(), AllocError>
-    ensures { OnOk result (string_bytes printed.new ≡ string_bytes printed.old ++ flat_map (λ row. adopted_text name.now (identifier row.realm row.key) (branches_of row.row)) rows.now) }
+    ensures { OnOk result (string_bytes printed.new ≡ string_bytes printed.old
+        ++ flat_map (λ row. adopted_text name.now (identifier row.realm row.key)
+        (branches_of row.row)) rows.now) }
 {
     for row in rows {
         print_adopted(printed, name, row.id(), row.branches())?;

@@ -31,7 +31,8 @@ impl<S: RowLog + Drop> Stage<Declared<S>, Playing<Host<S>>> {
     pub fn new(alloc: Global, core: Core, store: S) -> Stage<Declared<S>, Playing<Host<S>>>
         requires { Always }
         ensures store { store_of result ≡ store }
-        ensures none { (basis : Basis) → IsBasis (keeping S.stands S.is_true S.is_due) basis store → IsStage (keeping S.stands S.is_true S.is_due) basis result (Begins []) }
+        ensures none { (basis : Basis) → IsBasis (keeping S.stands S.is_true S.is_due) basis store →
+            IsStage (keeping S.stands S.is_true S.is_due) basis result (Begins []) }
     {
         Stage::Declaring(Declared::new(alloc, core, store))
     }
@@ -48,9 +49,13 @@ impl<S: RowLog + Drop> Stage<Declared<S>, Playing<Host<S>>> {
         printed: &mut String,
     ) -> Result<Stage<Declared<S>, Playing<Host<S>>>, (LineFault, Option<S>)>
         requires { Always }
-        ensures truth { Trusts (keeping S.stands S.is_true S.is_due) (store_of self) store_of result }
-        ensures acts { (basis : Basis) (stage : AStage) → basis.may_refuse ≡ R.may → IsStage (keeping S.stands S.is_true S.is_due) basis self stage → ComeWith (move_of line.now) (map standing boxes.items) →
-            ActsSo (keeping S.stands S.is_true S.is_due) basis (string_bytes printed.old) (string_bytes printed.new) (acted basis stage line.now) result }
+        ensures truth { Trusts (keeping S.stands S.is_true S.is_due) (store_of self) store_of
+            result }
+        ensures acts { (basis : Basis) (stage : AStage) → basis.may_refuse ≡ R.may →
+            IsStage (keeping S.stands S.is_true S.is_due) basis self stage →
+            ComeWith (move_of line.now) (map standing boxes.items) →
+            ActsSo (keeping S.stands S.is_true S.is_due) basis (string_bytes printed.old)
+            (string_bytes printed.new) (acted basis stage line.now) result }
     {
         if line.is_empty() {
             return Ok(self);
@@ -72,8 +77,12 @@ impl<S: RowLog + Drop> Stage<Declared<S>, Playing<Host<S>>> {
         printed: &mut String,
     ) -> Result<S, (ActFault, Option<S>)>
         requires { Always }
-        ensures truth { Trusts (keeping S.stands S.is_true S.is_due) (store_of self) (λ store. store) result }
-        ensures closes { (basis : Basis) (stage : AStage) → IsStage (keeping S.stands S.is_true S.is_due) basis self stage → IfOk result (λ store. S.is_true store → string_bytes printed.new ≡ string_bytes printed.old ++ closing_of basis stage) }
+        ensures truth { Trusts (keeping S.stands S.is_true S.is_due) (store_of self)
+            (λ store. store) result }
+        ensures closes { (basis : Basis) (stage : AStage) →
+            IsStage (keeping S.stands S.is_true S.is_due) basis self stage →
+            IfOk result (λ store. S.is_true store →
+            string_bytes printed.new ≡ string_bytes printed.old ++ closing_of basis stage) }
     {
         match self {
             Stage::Declaring(declared) => {
@@ -99,7 +108,9 @@ impl<S: RowLog + Drop> Stage<Declared<S>, Playing<Host<S>>> {
     pub fn wanted(&mut self, alloc: Global, line: &[u8]) -> Result<Wanted, ActFault>
         requires { Always }
         ensures truth { S.is_true (store_of self.new) → S.is_true (store_of self.old) }
-        ensures stands { (basis : Basis) (stage : AStage) → IsStage (keeping S.stands S.is_true S.is_due) basis self.old stage → IsStage (keeping S.stands S.is_true S.is_due) basis self.new stage }
+        ensures stands { (basis : Basis) (stage : AStage) →
+            IsStage (keeping S.stands S.is_true S.is_due) basis self.old stage →
+            IsStage (keeping S.stands S.is_true S.is_due) basis self.new stage }
         ensures wanted { IfOk result (AreWanted (move_of line.now)) }
     {
         match Instruction::parse(line) {
@@ -115,7 +126,9 @@ impl<S: RowLog + Drop> Stage<Declared<S>, Playing<Host<S>>> {
     pub fn wanted_at_start(&mut self) -> Result<usize, ActFault>
         requires { Always }
         ensures truth { S.is_true (store_of self.new) → S.is_true (store_of self.old) }
-        ensures stands { (basis : Basis) (stage : AStage) → IsStage (keeping S.stands S.is_true S.is_due) basis self.old stage → IsStage (keeping S.stands S.is_true S.is_due) basis self.new stage }
+        ensures stands { (basis : Basis) (stage : AStage) →
+            IsStage (keeping S.stands S.is_true S.is_due) basis self.old stage →
+            IsStage (keeping S.stands S.is_true S.is_due) basis self.new stage }
     {
         match self {
             Stage::Declaring(declared) => declared.willing(None),
@@ -126,7 +139,9 @@ impl<S: RowLog + Drop> Stage<Declared<S>, Playing<Host<S>>> {
     /// How many willing boxes an instruction wants: for the start, if it is the first that declares none, and for what it starts again.
     fn willing(&mut self, instruction: Instruction<'_>) -> Result<usize, ActFault>
         ensures truth { S.is_true (store_of self.new) → S.is_true (store_of self.old) }
-        ensures stands { (basis : Basis) (stage : AStage) → IsStage (keeping S.stands S.is_true S.is_due) basis self.old stage → IsStage (keeping S.stands S.is_true S.is_due) basis self.new stage }
+        ensures stands { (basis : Basis) (stage : AStage) →
+            IsStage (keeping S.stands S.is_true S.is_due) basis self.old stage →
+            IsStage (keeping S.stands S.is_true S.is_due) basis self.new stage }
     {
         let again = match instruction {
             Instruction::Realm { .. } | Instruction::Labels { .. } => return Ok(0),
@@ -143,7 +158,9 @@ impl<S: RowLog + Drop> Stage<Declared<S>, Playing<Host<S>>> {
     /// How many branches the stored rows have, of one realm or of all.
     fn rows(&mut self, only: Option<&str>) -> Result<usize, ActFault>
         ensures truth { S.is_true (store_of self.new) → S.is_true (store_of self.old) }
-        ensures stands { (basis : Basis) (stage : AStage) → IsStage (keeping S.stands S.is_true S.is_due) basis self.old stage → IsStage (keeping S.stands S.is_true S.is_due) basis self.new stage }
+        ensures stands { (basis : Basis) (stage : AStage) →
+            IsStage (keeping S.stands S.is_true S.is_due) basis self.old stage →
+            IsStage (keeping S.stands S.is_true S.is_due) basis self.new stage }
     {
         match self {
             Stage::Declaring(declared) => declared.willing(only),
@@ -161,9 +178,14 @@ impl<S: RowLog + Drop> Stage<Declared<S>, Playing<Host<S>>> {
         pool: &mut Vec<Box<dyn Branch + Send>>,
         printed: &mut String,
     ) -> Result<Stage<Declared<S>, Playing<Host<S>>>, (LineFault, Option<S>)>
-        ensures truth { Trusts (keeping S.stands S.is_true S.is_due) (store_of self) store_of result }
-        ensures acts { (basis : Basis) (stage : AStage) → IsStage (keeping S.stands S.is_true S.is_due) basis self stage → may_say R.may (move_by instruction.entry) ≡ true → ComeWith (Some (move_by instruction.entry)) (map standing boxes.items) →
-            ActsSo (keeping S.stands S.is_true S.is_due) basis (string_bytes printed.old) (string_bytes printed.new) (acts basis stage (move_by instruction.entry)) result }
+        ensures truth { Trusts (keeping S.stands S.is_true S.is_due) (store_of self) store_of
+            result }
+        ensures acts { (basis : Basis) (stage : AStage) →
+            IsStage (keeping S.stands S.is_true S.is_due) basis self stage →
+            may_say R.may (move_by instruction.entry) ≡ true →
+            ComeWith (Some (move_by instruction.entry)) (map standing boxes.items) →
+            ActsSo (keeping S.stands S.is_true S.is_due) basis (string_bytes printed.old)
+            (string_bytes printed.new) (acts basis stage (move_by instruction.entry)) result }
     {
         match self {
             Stage::Declaring(declared) => {
@@ -188,8 +210,13 @@ fn declare<S: RowLog + Drop, R: Refuser<S>>(
     printed: &mut String,
 ) -> Result<Stage<Declared<S>, Playing<Host<S>>>, (LineFault, Option<S>)>
     ensures truth { Trusts (keeping S.stands S.is_true S.is_due) declared.store store_of result }
-    ensures acts { (basis : Basis) (declarations : List Declaration) → IsDeclared (keeping S.stands S.is_true S.is_due) basis declared declarations → may_say R.may (move_by instruction.entry) ≡ true → ComeWith (Some (move_by instruction.entry)) (map standing boxes.items) →
-        ActsSo (keeping S.stands S.is_true S.is_due) basis (string_bytes printed.old) (string_bytes printed.new) (acts basis (Begins declarations) (move_by instruction.entry)) result }
+    ensures acts { (basis : Basis) (declarations : List Declaration) →
+        IsDeclared (keeping S.stands S.is_true S.is_due) basis declared declarations →
+        may_say R.may (move_by instruction.entry) ≡ true →
+        ComeWith (Some (move_by instruction.entry)) (map standing boxes.items) →
+        ActsSo (keeping S.stands S.is_true S.is_due) basis (string_bytes printed.old)
+        (string_bytes printed.new)
+        (acts basis (Begins declarations) (move_by instruction.entry)) result }
 {
     let noted = match instruction {
         Instruction::Realm {

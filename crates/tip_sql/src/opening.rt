@@ -55,7 +55,8 @@ pub fn make_tables<S: Alter>(conn: &mut Connection<S>) -> Result<usize, Error>
 }
 
 fn make_realms<S: Alter>(conn: &mut Connection<S>) -> Result<usize, Error>
-    ensures { (state S.Store conn.old).now.schema ≡ no_schema → Takes half_schema (state S.Store conn.old) (state S.Store conn.new) result }
+    ensures { (state S.Store conn.old).now.schema ≡ no_schema →
+        Takes half_schema (state S.Store conn.old) (state S.Store conn.new) result }
 {
     conn.execute(
         "CREATE TABLE realm (name TEXT PRIMARY KEY, epoch INTEGER NOT NULL) STRICT",
@@ -64,7 +65,8 @@ fn make_realms<S: Alter>(conn: &mut Connection<S>) -> Result<usize, Error>
 }
 
 fn make_rows<S: Alter>(conn: &mut Connection<S>) -> Result<usize, Error>
-    ensures takes { (state S.Store conn.old).now.schema ≡ half_schema → Takes log_schema (state S.Store conn.old) (state S.Store conn.new) result }
+    ensures takes { (state S.Store conn.old).now.schema ≡ half_schema →
+        Takes log_schema (state S.Store conn.old) (state S.Store conn.new) result }
     ensures truth { HasCleanDisk (state S.Store conn.new) → HasCleanDisk (state S.Store conn.old) }
 {
     conn.execute(
@@ -109,8 +111,10 @@ fn row_ids<S: Alter>(conn: &mut Connection<S>) -> Result<Vec<SqlRow>, Error>
 
 /// Whether they are numbers that rise strictly.
 fn are_ids(rows: &[SqlRow]) -> bool
-    ensures numbers { OnTrue result ((row : Shown) → Has rows.now row → (id : ℤ) × (column row 0 ≡ Int id)) }
-    ensures rising { OnTrue result (rises (λ m n. is_lt (int_cmp m n)) (map number_at rows.now) ≡ true) }
+    ensures numbers { OnTrue result
+        ((row : Shown) → Has rows.now row → (id : ℤ) × (column row 0 ≡ Int id)) }
+    ensures rising { OnTrue result
+        (rises (λ m n. is_lt (int_cmp m n)) (map number_at rows.now) ≡ true) }
 {
     let mut last = None;
     for row in rows {

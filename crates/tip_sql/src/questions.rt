@@ -19,7 +19,8 @@ pub fn part<S: Alter>(
     conn: &mut Connection<S>,
     realm: &Realm,
 ) -> Result<Loaded, LoadFault>
-    ensures { Looks (λ log loaded. IsPart log realm.now loaded.epoch loaded.rows.items) (λ log. IsSpoiled log realm.now) (state S.Store conn.old) (state S.Store conn.new) result }
+    ensures { Looks (λ log loaded. IsPart log realm.now loaded.epoch loaded.rows.items)
+        (λ log. IsSpoiled log realm.now) (state S.Store conn.old) (state S.Store conn.new) result }
 {
     let Ok(epochs) = statements::epoch(conn, realm) else {
         return Err(LoadFault::Refused);
@@ -32,7 +33,8 @@ pub fn part<S: Alter>(
 
 /// The names of the known realms.
 pub fn realms<S: Alter>(alloc: Global, conn: &mut Connection<S>) -> Result<Vec<Realm>, LoadFault>
-    ensures { Looks (λ log names. AreNames log names.items) HasBadName (state S.Store conn.old) (state S.Store conn.new) result }
+    ensures { Looks (λ log names. AreNames log names.items) HasBadName (state S.Store conn.old)
+        (state S.Store conn.new) result }
 {
     let Ok(names) = statements::names(conn) else {
         return Err(LoadFault::Refused);
@@ -45,7 +47,8 @@ pub fn is_at_end<S: Alter>(
     conn: &mut Connection<S>,
     realm: Option<&Realm>,
 ) -> Result<bool, LoadFault>
-    ensures { Looks (IsEnded (option_copied realm.entry)) (λ _. ⊥) (state S.Store conn.old) (state S.Store conn.new) result }
+    ensures { Looks (IsEnded (option_copied realm.entry)) (λ _. ⊥) (state S.Store conn.old)
+        (state S.Store conn.new) result }
 {
     match realm {
         Some(realm) => is_realm_at_end(conn, realm),
@@ -54,7 +57,8 @@ pub fn is_at_end<S: Alter>(
 }
 
 fn is_one_at_end<S: Alter>(conn: &mut Connection<S>) -> Result<bool, LoadFault>
-    ensures { Looks (λ log. IsEnded None log) (λ _. ⊥) (state S.Store conn.old) (state S.Store conn.new) result }
+    ensures { Looks (λ log. IsEnded None log) (λ _. ⊥) (state S.Store conn.old)
+        (state S.Store conn.new) result }
 {
     let Ok(names) = statements::ended(conn) else {
         return Err(LoadFault::Refused);
@@ -73,7 +77,8 @@ fn has_some(rows: &[SqlRow]) -> bool
 }
 
 fn is_realm_at_end<S: Alter>(conn: &mut Connection<S>, realm: &Realm) -> Result<bool, LoadFault>
-    ensures { Looks (λ log. IsEnded (Some realm.now) log) (λ _. ⊥) (state S.Store conn.old) (state S.Store conn.new) result }
+    ensures { Looks (λ log. IsEnded (Some realm.now) log) (λ _. ⊥) (state S.Store conn.old)
+        (state S.Store conn.new) result }
 {
     let Ok(epochs) = statements::epoch(conn, realm) else {
         return Err(LoadFault::Refused);

@@ -29,7 +29,8 @@ pub fn part_in(alloc: Global, epochs: &[SqlRow], rows: &[SqlRow]) -> Result<Load
     ensures epoch { IfOk result (λ loaded. epoch_in epochs.now ≡ Some loaded.epoch) }
     ensures read { IfOk result (λ loaded. map Some loaded.rows.items ≡ map entry_in rows.now) }
     ensures rising { IfOk result (λ loaded. is_rising loaded.rows.items ≡ true) }
-    ensures bad { result ≡ Err BadRow → (epoch_in epochs.now ≡ None) ⊎ ((row : Shown) × Has rows.now row × (entry_in row ≡ None)) }
+    ensures bad { result ≡ Err BadRow →
+        (epoch_in epochs.now ≡ None) ⊎ ((row : Shown) × Has rows.now row × (entry_in row ≡ None)) }
 {
     let Some(epoch) = epoch_in(epochs) else {
         return Err(LoadFault::BadRow);

@@ -46,10 +46,14 @@ impl<S: Alter + Drop> SqlRows<S> {
     /// Takes over a database that has our tables and nothing else, and makes the tables that are not there.
     /// It commits with full sync, as the connection was opened. At a fault the connection is dropped.
     pub fn over(alloc: Global, mut conn: Connection<S>) -> Result<SqlRows<S>, OverFault>
-        ensures bad_schema { (result ≡ Err OverFault.BadSchema) ↔ (lacks_column (state S.Store conn).now.schema ≡ true) }
-        ensures stands { IfOk result (λ rows. stands_in S.Store rows (found_in (state S.Store conn).now)) }
-        ensures truth { IfOk result (λ rows. is_true_in S.Store rows → HasCleanDisk (state S.Store conn)) }
-        ensures settled { IfOk result (λ rows. is_true_in S.Store rows → IsSettled (stands_in S.Store) (may_leave_in S.Store) rows) }
+        ensures bad_schema { (result ≡ Err OverFault.BadSchema) ↔
+            (lacks_column (state S.Store conn).now.schema ≡ true) }
+        ensures stands { IfOk result
+            (λ rows. stands_in S.Store rows (found_in (state S.Store conn).now)) }
+        ensures truth { IfOk result
+            (λ rows. is_true_in S.Store rows → HasCleanDisk (state S.Store conn)) }
+        ensures settled { IfOk result (λ rows. is_true_in S.Store rows →
+            IsSettled (stands_in S.Store) (may_leave_in S.Store) rows) }
         ensures no_faults { IfOk result (λ rows. rows.faults ≡ 0) }
     {
         if lacks_column(conn.schema()) {
@@ -87,11 +91,14 @@ impl<S: Alter> SqlRows<S> {
 
     /// Makes one change, unless the database is shut.
     fn change(&mut self, change: &Change<'_>) -> Result<(), Refused>
-        ensures stands { Stands (stands_in S.Store) (change_of change.now) self.old self.new result }
+        ensures stands { Stands (stands_in S.Store) (change_of change.now) self.old self.new
+            result }
         ensures counts { self.new.faults ≡ counted (is_err result) self.old.faults }
         ensures truth { is_true_in S.Store self.new → is_true_in S.Store self.old }
-        ensures stop { LeavesOne (stands_in S.Store) (is_true_in S.Store) (may_leave_in S.Store) (change_of change.now) self.old self.new }
-        ensures settled { is_true_in S.Store self.new → OnOk result (IsSettled (stands_in S.Store) (may_leave_in S.Store) self.new) }
+        ensures stop { LeavesOne (stands_in S.Store) (is_true_in S.Store) (may_leave_in S.Store)
+            (change_of change.now) self.old self.new }
+        ensures settled { is_true_in S.Store self.new →
+            OnOk result (IsSettled (stands_in S.Store) (may_leave_in S.Store) self.new) }
     {
         if self.is_shut {
             return Err(refuse(&mut self.faults));
@@ -107,12 +114,16 @@ impl<S: Alter> SqlRows<S> {
 impl<S: Alter> SqlRows<S> {
     /// Whether the epoch of this realm, or of some realm, is at its end.
     fn is_at_end(&mut self, realm: Option<&Realm>) -> Result<bool, Refused>
-        ensures ended { (log : Log) → stands_in S.Store self.old log → is_true_in S.Store self.new → IfOk result (IsEnded (option_copied realm.entry) log) }
-        ensures stands { (log : Log) → stands_in S.Store self.old log → stands_in S.Store self.new log }
+        ensures ended { (log : Log) → stands_in S.Store self.old log → is_true_in S.Store self.new →
+            IfOk result (IsEnded (option_copied realm.entry) log) }
+        ensures stands { (log : Log) → stands_in S.Store self.old log →
+            stands_in S.Store self.new log }
         ensures counts { self.new.faults ≡ counted (is_err result) self.old.faults }
         ensures truth { is_true_in S.Store self.new → is_true_in S.Store self.old }
-        ensures stop { LeavesSame (stands_in S.Store) (is_true_in S.Store) (may_leave_in S.Store) self.old self.new }
-        ensures settled { is_true_in S.Store self.new → OnOk result (IsSettled (stands_in S.Store) (may_leave_in S.Store) self.new) }
+        ensures stop { LeavesSame (stands_in S.Store) (is_true_in S.Store) (may_leave_in S.Store)
+            self.old self.new }
+        ensures settled { is_true_in S.Store self.new →
+            OnOk result (IsSettled (stands_in S.Store) (may_leave_in S.Store) self.new) }
     {
         if self.is_shut {
             return Err(refuse(&mut self.faults));
@@ -216,7 +227,8 @@ fn is_refused<T>(read: &Result<T, LoadFault>) -> bool
 
 /// A rise that was refused, or made.
 fn risen(done: Result<(), Refused>) -> Result<(), RaiseFault>
-    ensures { MatchResult result (λ _. done ≡ Ok (record {})) (λ fault. (fault ≡ RaiseFault.Refused) × (done ≡ Err (record {}))) }
+    ensures { MatchResult result (λ _. done ≡ Ok (record {}))
+        (λ fault. (fault ≡ RaiseFault.Refused) × (done ≡ Err (record {}))) }
 {
     match done {
         Ok(()) => Ok(()),

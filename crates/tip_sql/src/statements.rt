@@ -29,7 +29,8 @@ pub fn make<S: Alter>(
     conn: &mut Connection<S>,
     change: &Change<'_>,
 ) -> Result<usize, Error>
-    ensures { Changes (change_of change.now) (state S.Store conn.old) (state S.Store conn.new) result }
+    ensures { Changes (change_of change.now) (state S.Store conn.old) (state S.Store conn.new)
+        result }
 {
     match change {
         Change::Know(realm) => know(conn, *realm),
@@ -44,7 +45,8 @@ pub fn make<S: Alter>(
 }
 
 fn know<S: Alter>(conn: &mut Connection<S>, realm: &Realm) -> Result<usize, Error>
-    ensures { Changes (with_known realm.now) (state S.Store conn.old) (state S.Store conn.new) result }
+    ensures { Changes (with_known realm.now) (state S.Store conn.old) (state S.Store conn.new)
+        result }
 {
     conn.execute(
         "INSERT INTO realm (name, epoch) VALUES (?1, 0) ON CONFLICT (name) DO NOTHING",
@@ -62,7 +64,8 @@ fn raise_all<S: Alter>(conn: &mut Connection<S>) -> Result<usize, Error>
 }
 
 fn raise_one<S: Alter>(conn: &mut Connection<S>, realm: &Realm) -> Result<usize, Error>
-    ensures { Changes (with_raised realm.now) (state S.Store conn.old) (state S.Store conn.new) result }
+    ensures { Changes (with_raised realm.now) (state S.Store conn.old) (state S.Store conn.new)
+        result }
 {
     conn.execute(
         "UPDATE realm SET epoch = epoch + 1 WHERE name = ?1 AND epoch >= 0 AND epoch < 4294967295",
@@ -76,7 +79,9 @@ fn put<S: Alter>(
     key: Key,
     text: &str,
 ) -> Result<usize, Error>
-    ensures { (row : Row) → row_of text.now ≡ Some row → Changes (with_row realm.now key row) (state S.Store conn.old) (state S.Store conn.new) result }
+    ensures { (row : Row) → row_of text.now ≡ Some row →
+        Changes (with_row realm.now key row) (state S.Store conn.old) (state S.Store conn.new)
+        result }
 {
     conn.execute(
         "INSERT INTO txn (realm, epoch, conn, num, text) VALUES (?1, ?2, ?3, ?4, ?5) ON CONFLICT (realm, epoch, conn, num) DO UPDATE SET text = ?5",
@@ -91,7 +96,8 @@ fn put<S: Alter>(
 }
 
 fn remove<S: Alter>(conn: &mut Connection<S>, realm: &Realm, key: Key) -> Result<usize, Error>
-    ensures { Changes (without_row realm.now key) (state S.Store conn.old) (state S.Store conn.new) result }
+    ensures { Changes (without_row realm.now key) (state S.Store conn.old) (state S.Store conn.new)
+        result }
 {
     conn.execute(
         "DELETE FROM txn WHERE realm = ?1 AND epoch = ?2 AND conn = ?3 AND num = ?4",
@@ -113,7 +119,8 @@ pub fn ended<S: Alter>(conn: &mut Connection<S>) -> Result<Vec<SqlRow>, Error>
 
 /// The epoch of a realm, if it is known.
 pub fn epoch<S: Alter>(conn: &mut Connection<S>, realm: &Realm) -> Result<Vec<SqlRow>, Error>
-    ensures { Shows 0 (is_named realm.now) epoch_shown (state S.Store conn.old) (state S.Store conn.new) result }
+    ensures { Shows 0 (is_named realm.now) epoch_shown (state S.Store conn.old)
+        (state S.Store conn.new) result }
 {
     conn.query_all(
         "SELECT epoch FROM realm WHERE name = ?1",
@@ -123,7 +130,8 @@ pub fn epoch<S: Alter>(conn: &mut Connection<S>, realm: &Realm) -> Result<Vec<Sq
 
 /// The rows of a realm.
 pub fn rows<S: Alter>(conn: &mut Connection<S>, realm: &Realm) -> Result<Vec<SqlRow>, Error>
-    ensures { Shows 2 (is_named realm.now) row_shown (state S.Store conn.old) (state S.Store conn.new) result }
+    ensures { Shows 2 (is_named realm.now) row_shown (state S.Store conn.old)
+        (state S.Store conn.new) result }
 {
     conn.query_all(
         "SELECT epoch, conn, num, text FROM txn WHERE realm = ?1 ORDER BY epoch, conn, num",

@@ -30,7 +30,10 @@ impl<T, A: Allocator> Model for Table<T, A> {
 
     ghost Value = { Kept T };
 
-    ghost view = { λ t. record { entries = t.entries.items; free = vec_capacity t.entries - vec_len t.entries } };
+    ghost view = { λ t. record {
+      entries = t.entries.items;
+      free = vec_capacity t.entries - vec_len t.entries;
+    } };
 }
 
 impl<T: Drop, A: Allocator> Table<T, A> {
@@ -51,7 +54,8 @@ impl<T: Drop, A: Allocator> Table<T, A> {
     #[tactic(auto, unfolding(crate::specs::Kept::of))]
     pub fn with_room(&self, alloc: A, more: usize) -> Result<Self, AllocError>
         ensures items { (realm : ℕ) → IfOk result (λ table. of table realm ≡ []) }
-        ensures room { IfOk result (λ table. capacity self.now + more ≤ table.free + self.now.free) }
+        ensures room { IfOk result
+            (λ table. capacity self.now + more ≤ table.free + self.now.free) }
     {
         let count = self.entries.len().checked_add(more).ok_or(AllocError)?;
         Ok(Table {
@@ -94,7 +98,8 @@ impl<T: Drop, A: Allocator> Table<T, A> {
         requires { 0 < self.old.free }
         ensures added { of self.new realm ≡ of self.old realm ++ item ∷ [] }
         ensures others { (other : ℕ) → other ≢ realm → of self.new other ≡ of self.old other }
-        ensures places { (place : ℕ) (there : Item) → places self.old place ≡ Some there → places self.new place ≡ Some there }
+        ensures places { (place : ℕ) (there : Item) → places self.old place ≡ Some there →
+            places self.new place ≡ Some there }
         ensures free { self.new.free + 1 ≡ self.old.free }
         ensures room { capacity self.new ≡ capacity self.old }
     {
@@ -147,7 +152,8 @@ impl<T: Drop, A: Allocator> Table<T, A> {
     /// Each item of a realm is visited, in the order made.
     #[tactic(auto, unfolding(crate::specs::Kept::of, crate::specs::Kept::places))]
     pub fn visit<N, V: Visit<T, N>>(&mut self, realm: usize, visitor: &V, notes: &mut N)
-        requires { MayVisit (V.may visitor.now) (V.noted visitor.now) notes.old (of self.old realm) }
+        requires { MayVisit (V.may visitor.now) (V.noted visitor.now) notes.old
+            (of self.old realm) }
         ensures items { of self.new realm ≡ map (V.left visitor.now) (of self.old realm) }
         ensures notes { notes.new ≡ notes_of (V.noted visitor.now) notes.old (of self.old realm) }
         ensures others { (other : ℕ) → other ≢ realm → of self.new other ≡ of self.old other }
@@ -163,7 +169,8 @@ impl<T: Drop, A: Allocator> Table<T, A> {
     pub fn remove(&mut self, place: usize) -> T
         requires { IsSome (places self.old place) }
         ensures taken { item_at self.old place ≡ Some result }
-        ensures left { (realm : ℕ) → of self.new realm ≡ taken_out (places self.old place) realm (of self.old realm) }
+        ensures left { (realm : ℕ) →
+            of self.new realm ≡ taken_out (places self.old place) realm (of self.old realm) }
         ensures free { self.new.free ≡ self.old.free + 1 }
         ensures room { capacity self.new ≡ capacity self.old }
     {
@@ -177,8 +184,10 @@ impl<T: Drop, A: Allocator> Table<T, A> {
         requires space { length (of self realm) ≤ vec_capacity left.old - vec_len left.old }
         ensures left { left.new.items ≡ left.old.items ++ of self realm }
         ensures own { of result realm ≡ of spare realm }
-        ensures others { (other : ℕ) → other ≢ realm → of result other ≡ of spare other ++ of self other }
-        ensures free { result.free + capacity self ≡ spare.free + self.free + length (of self realm) }
+        ensures others { (other : ℕ) → other ≢ realm →
+            of result other ≡ of spare other ++ of self other }
+        ensures free { result.free + capacity self ≡ spare.free + self.free
+            + length (of self realm) }
     {
         Table {
             entries: part(self.entries, realm, spare.entries, left),
@@ -195,11 +204,14 @@ fn part<T: Drop, A: Allocator>(
     left: &mut Vec<T>,
 ) -> Vec<Entry<T>, A>
     requires room { length entries.items ≤ vec_capacity spare - vec_len spare }
-    requires space { length (items_in entries.items realm) ≤ vec_capacity left.old - vec_len left.old }
+    requires space { length (items_in entries.items realm)
+        ≤ vec_capacity left.old - vec_len left.old }
     ensures left { left.new.items ≡ left.old.items ++ items_in entries.items realm }
     ensures own { items_in result.items realm ≡ items_in spare.items realm }
-    ensures others { (other : ℕ) → other ≢ realm → items_in result.items other ≡ items_in spare.items other ++ items_in entries.items other }
-    ensures count { length result.items + length (items_in entries.items realm) ≡ length spare.items + length entries.items }
+    ensures others { (other : ℕ) → other ≢ realm →
+        items_in result.items other ≡ items_in spare.items other ++ items_in entries.items other }
+    ensures count { length result.items + length (items_in entries.items realm) ≡ length spare.items
+        + length entries.items }
     ensures capacity { vec_capacity result ≡ vec_capacity spare }
 {
     for entry in entries {
@@ -221,7 +233,8 @@ fn count_in<T>(entries: &[Entry<T>], realm: usize) -> usize
 
 /// How many of the entries are a realm's, and pass.
 fn count_passing_in<T, Q: Test<T>>(entries: &[Entry<T>], realm: usize, query: &Q) -> usize
-    ensures { result ≡ count_by (λ entry. (entry.realm == realm) && Q.passes query.now entry.item) entries.now }
+    ensures { result
+        ≡ count_by (λ entry. (entry.realm == realm) && Q.passes query.now entry.item) entries.now }
 {
     entries
         .iter()
@@ -231,7 +244,8 @@ fn count_passing_in<T, Q: Test<T>>(entries: &[Entry<T>], realm: usize, query: &Q
 
 /// The place of the first entry of a realm that passes.
 fn find_in<T, Q: Test<T>>(entries: &[Entry<T>], realm: usize, query: &Q) -> Option<usize>
-    ensures { result ≡ position (λ entry. (entry.realm == realm) && Q.passes query.now entry.item) entries.now }
+    ensures { result
+        ≡ position (λ entry. (entry.realm == realm) && Q.passes query.now entry.item) entries.now }
 {
     entries
         .iter()
@@ -245,9 +259,11 @@ fn visit_in<T, N, V: Visit<T, N>>(
     visitor: &V,
     notes: &mut N,
 )
-    requires { MayVisit (V.may visitor.now) (V.noted visitor.now) notes.old (items_in entries.old realm) }
+    requires { MayVisit (V.may visitor.now) (V.noted visitor.now) notes.old
+        (items_in entries.old realm) }
     ensures visited { IsVisited (V.left visitor.now) realm entries.old entries.new }
-    ensures notes { notes.new ≡ notes_of (V.noted visitor.now) notes.old (items_in entries.old realm) }
+    ensures notes { notes.new
+        ≡ notes_of (V.noted visitor.now) notes.old (items_in entries.old realm) }
 {
     for entry in entries.iter_mut() {
         if entry.realm == realm {

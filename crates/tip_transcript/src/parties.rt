@@ -12,7 +12,8 @@ use tip_machine::Event;
 /// Prints the calls that an event brings with it.
 #[tactic(auto, using(crate::proofs::Showing::showing))]
 pub fn print_brought(printed: &mut String, realm: &str, event: &Event) -> Result<(), AllocError>
-    ensures { OnOk result (string_bytes printed.new ≡ string_bytes printed.old ++ shown_text realm.now (brought event.now)) }
+    ensures { OnOk result (string_bytes printed.new
+        ≡ string_bytes printed.old ++ shown_text realm.now (brought event.now)) }
 {
     match event {
         Event::Voted(party) | Event::Settled(party) => print_calls(printed, realm, party),
@@ -22,7 +23,8 @@ pub fn print_brought(printed: &mut String, realm: &str, event: &Event) -> Result
 
 /// Prints the new calls of a party.
 fn print_calls(printed: &mut String, realm: &str, party: &HeldParty) -> Result<(), AllocError>
-    ensures { OnOk result (string_bytes printed.new ≡ string_bytes printed.old ++ flat_map (member_text realm.now party.now.id) party.now.members) }
+    ensures { OnOk result (string_bytes printed.new ≡ string_bytes printed.old
+        ++ flat_map (member_text realm.now party.now.id) party.now.members) }
 {
     let party = party.party();
     let id = party.id().as_str();
@@ -39,7 +41,8 @@ fn print_call(
     id: &str,
     member: &Member,
 ) -> Result<(), AllocError>
-    ensures { OnOk result (string_bytes printed.new ≡ string_bytes printed.old ++ member_text realm.now id.now member.now) }
+    ensures { OnOk result (string_bytes printed.new
+        ≡ string_bytes printed.old ++ member_text realm.now id.now member.now) }
 {
     match member.call {
         Some(call) => {
@@ -65,7 +68,8 @@ fn call_word(call: Call) -> &'static str
 
 /// Prints that a party goes out.
 pub fn print_work(printed: &mut String, realm: &str, party: &HeldParty) -> Result<(), AllocError>
-    ensures { OnOk result (string_bytes printed.new ≡ string_bytes printed.old ++ work_text realm.now party.now.id party.now.errand) }
+    ensures { OnOk result (string_bytes printed.new
+        ≡ string_bytes printed.old ++ work_text realm.now party.now.id party.now.errand) }
 {
     let party = party.party();
     let word = errand_word(party.errand());
@@ -86,14 +90,16 @@ fn errand_word(errand: Errand) -> &'static str
 /// Prints the active members of a party that is let go.
 #[tactic(auto, using(crate::proofs::Showing::showing))]
 pub fn print_drops(printed: &mut String, realm: &str, party: &HeldParty) -> Result<(), AllocError>
-    ensures { OnOk result (string_bytes printed.new ≡ string_bytes printed.old ++ shown_text realm.now (drops_of party.now)) }
+    ensures { OnOk result (string_bytes printed.new
+        ≡ string_bytes printed.old ++ shown_text realm.now (drops_of party.now)) }
 {
     print_left(printed, realm, party)
 }
 
 /// The same, member by member.
 fn print_left(printed: &mut String, realm: &str, party: &HeldParty) -> Result<(), AllocError>
-    ensures { OnOk result (string_bytes printed.new ≡ string_bytes printed.old ++ flat_map (left_text realm.now party.now.id) party.now.members) }
+    ensures { OnOk result (string_bytes printed.new ≡ string_bytes printed.old
+        ++ flat_map (left_text realm.now party.now.id) party.now.members) }
 {
     let party = party.party();
     let id = party.id().as_str();
@@ -110,7 +116,8 @@ fn print_drop(
     id: &str,
     member: &Member,
 ) -> Result<(), AllocError>
-    ensures { OnOk result (string_bytes printed.new ≡ string_bytes printed.old ++ left_text realm.now id.now member.now) }
+    ensures { OnOk result (string_bytes printed.new
+        ≡ string_bytes printed.old ++ left_text realm.now id.now member.now) }
 {
     match member.standing.phase {
         Phase::Active => writeln!(printed, "{realm} call {id} {} drop", member.number),

@@ -26,7 +26,8 @@ pub fn print(
     happened: &Happened,
 ) -> Result<(), AllocError>
     ensures { (event : Event) → calls.now ≡ shown_text realm.now (brought event) →
-        OnOk result (string_bytes printed.new ≡ string_bytes printed.old ++ shown_text realm.now (outputs event happened.now.change happened.now.outcome happened.now.answer)) }
+        OnOk result (string_bytes printed.new ≡ string_bytes printed.old ++ shown_text realm.now
+        (outputs event happened.now.change happened.now.outcome happened.now.answer)) }
 {
     print_front(printed, realm.as_str(), &happened.answer)?;
     printed.push_str(calls)?;
@@ -38,7 +39,11 @@ pub fn print(
 /// Prints a refusal, and a connection that was opened.
 #[tactic(auto, using(crate::proofs::Showing::showing))]
 fn print_front(printed: &mut String, realm: &str, answer: &Answer) -> Result<(), AllocError>
-    ensures { OnOk result (string_bytes printed.new ≡ string_bytes printed.old ++ (shown_text realm.now (option_to_list (option_map Output.Refused answer.now.refusal)) ++ shown_text realm.now (option_to_list (option_map Output.Opened answer.now.opened)))) }
+    ensures { OnOk result (string_bytes printed.new ≡ string_bytes printed.old ++ (shown_text
+        realm.now
+        (option_to_list (option_map Output.Refused answer.now.refusal))
+        ++ shown_text realm.now
+        (option_to_list (option_map Output.Opened answer.now.opened)))) }
 {
     if let Some(why) = answer.refusal {
         print_refusal(printed, realm, why)?;
@@ -51,14 +56,16 @@ fn print_front(printed: &mut String, realm: &str, answer: &Answer) -> Result<(),
 
 /// Prints a refusal.
 pub fn print_refusal(printed: &mut String, realm: &str, why: Refusal) -> Result<(), AllocError>
-    ensures { OnOk result (string_bytes printed.new ≡ string_bytes printed.old ++ refusal_text realm.now why) }
+    ensures { OnOk result
+        (string_bytes printed.new ≡ string_bytes printed.old ++ refusal_text realm.now why) }
 {
     writeln!(printed, "{realm} refused {why}")
 }
 
 /// Prints that a realm was not declared.
 pub fn print_nowhere(printed: &mut String, realm: &str) -> Result<(), AllocError>
-    ensures { OnOk result (string_bytes printed.new ≡ string_bytes printed.old ++ nowhere_text realm.now) }
+    ensures { OnOk result
+        (string_bytes printed.new ≡ string_bytes printed.old ++ nowhere_text realm.now) }
 {
     print_refusal(printed, realm, Refusal::NoRealm)
 }
@@ -71,7 +78,9 @@ fn print_change(
     realm: &Realm,
     happened: &Happened,
 ) -> Result<(), AllocError>
-    ensures { OnOk result (string_bytes printed.new ≡ string_bytes printed.old ++ shown_text realm.now (option_to_list (option_map (λ c. Output.Changed c happened.now.outcome) happened.now.change))) }
+    ensures { OnOk result (string_bytes printed.new ≡ string_bytes printed.old ++ shown_text
+        realm.now (option_to_list (option_map
+        (λ c. Output.Changed c happened.now.outcome) happened.now.change))) }
 {
     match &happened.change {
         Some(change) => print_made(printed, alloc, realm, change, happened.outcome),
@@ -87,7 +96,8 @@ fn print_made(
     change: &Change,
     outcome: Outcome,
 ) -> Result<(), AllocError>
-    ensures { OnOk result (string_bytes printed.new ≡ string_bytes printed.old ++ change_text realm.now outcome change.now) }
+    ensures { OnOk result (string_bytes printed.new
+        ≡ string_bytes printed.old ++ change_text realm.now outcome change.now) }
 {
     match outcome {
         Outcome::Stored => print_stored(printed, alloc, realm, change),
@@ -103,7 +113,8 @@ fn print_stored(
     realm: &Realm,
     change: &Change,
 ) -> Result<(), AllocError>
-    ensures { OnOk result (string_bytes printed.new ≡ string_bytes printed.old ++ change_text realm.now Stored change.now) }
+    ensures { OnOk result (string_bytes printed.new
+        ≡ string_bytes printed.old ++ change_text realm.now Stored change.now) }
 {
     let name = realm.as_str();
     match change {
@@ -125,7 +136,8 @@ fn print_unstored(
     realm: &Realm,
     change: &Change,
 ) -> Result<(), AllocError>
-    ensures { OnOk result (string_bytes printed.new ≡ string_bytes printed.old ++ change_text realm.now Refused change.now) }
+    ensures { OnOk result (string_bytes printed.new
+        ≡ string_bytes printed.old ++ change_text realm.now Refused change.now) }
 {
     let name = realm.as_str();
     let id = id_changed(alloc, realm, change)?;
@@ -156,7 +168,8 @@ fn print_sent(
     realm: &Realm,
     all: &[Sent],
 ) -> Result<(), AllocError>
-    ensures { OnOk result (string_bytes printed.new ≡ string_bytes printed.old ++ flat_map (sent_text realm.now) all.now) }
+    ensures { OnOk result (string_bytes printed.new
+        ≡ string_bytes printed.old ++ flat_map (sent_text realm.now) all.now) }
 {
     for sent in all {
         print_one(printed, alloc, realm, sent)?;
@@ -171,7 +184,8 @@ fn print_one(
     realm: &Realm,
     sent: &Sent,
 ) -> Result<(), AllocError>
-    ensures { OnOk result (string_bytes printed.new ≡ string_bytes printed.old ++ sent_text realm.now sent.now) }
+    ensures { OnOk result
+        (string_bytes printed.new ≡ string_bytes printed.old ++ sent_text realm.now sent.now) }
 {
     let name = realm.as_str();
     let number = sent.connection;
@@ -191,7 +205,10 @@ fn print_one(
 /// Prints the party that goes out, and the one that is let go.
 #[tactic(auto, using(crate::proofs::Showing::showing))]
 fn print_parties(printed: &mut String, realm: &str, answer: &Answer) -> Result<(), AllocError>
-    ensures { OnOk result (string_bytes printed.new ≡ string_bytes printed.old ++ (shown_text realm.now (option_to_list (option_map (λ party. Output.Works party.id party.errand) answer.now.work)) ++ shown_text realm.now (option_map_or drops_of answer.now.spent []))) }
+    ensures { OnOk result (string_bytes printed.new ≡ string_bytes printed.old ++ (shown_text
+        realm.now (option_to_list (option_map
+        (λ party. Output.Works party.id party.errand) answer.now.work))
+        ++ shown_text realm.now (option_map_or drops_of answer.now.spent []))) }
 {
     if let Some(party) = &answer.work {
         print_work(printed, realm, party)?;
@@ -204,7 +221,8 @@ fn print_parties(printed: &mut String, realm: &str, answer: &Answer) -> Result<(
 
 /// Prints that no party of a realm is out.
 pub fn print_idle(printed: &mut String, realm: &str) -> Result<(), AllocError>
-    ensures { OnOk result (string_bytes printed.new ≡ string_bytes printed.old ++ idle_text realm.now) }
+    ensures { OnOk result
+        (string_bytes printed.new ≡ string_bytes printed.old ++ idle_text realm.now) }
 {
     writeln!(printed, "{realm} idle")
 }

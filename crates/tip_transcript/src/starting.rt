@@ -9,7 +9,8 @@ use tip_rows::Label;
 
 /// Prints the start of a realm in an epoch.
 pub fn print_start(printed: &mut String, realm: &str, epoch: u32) -> Result<(), AllocError>
-    ensures { OnOk result (string_bytes printed.new ≡ string_bytes printed.old ++ start_text realm.now epoch) }
+    ensures { OnOk result
+        (string_bytes printed.new ≡ string_bytes printed.old ++ start_text realm.now epoch) }
 {
     writeln!(printed, "{realm} epoch {epoch}")
 }
@@ -21,7 +22,8 @@ pub fn print_adopted(
     id: &Id,
     branches: &[(u8, Label)],
 ) -> Result<(), AllocError>
-    ensures { OnOk result (string_bytes printed.new ≡ string_bytes printed.old ++ adopted_text realm.now id.now branches.now) }
+    ensures { OnOk result (string_bytes printed.new
+        ≡ string_bytes printed.old ++ adopted_text realm.now id.now branches.now) }
 {
     match branches {
         [] => Ok(()),
@@ -35,7 +37,8 @@ pub fn print_adopted(
 
 /// Prints the numbers of further branches.
 fn print_more(printed: &mut String, branches: &[(u8, Label)]) -> Result<(), AllocError>
-    ensures { OnOk result (string_bytes printed.new ≡ string_bytes printed.old ++ flat_map number_text branches.now) }
+    ensures { OnOk result
+        (string_bytes printed.new ≡ string_bytes printed.old ++ flat_map number_text branches.now) }
 {
     for (number, _) in branches {
         write!(printed, ",{number}")?;

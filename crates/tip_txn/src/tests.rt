@@ -12,7 +12,8 @@ use tip_line::{Address, Id};
 
 /// An active transaction with one subordinate.
 fn begun(alloc: Global) -> Result<Txn, Fail>
-    ensures { IfOk result (λ txn. txn.parts ≡ local_party ∷ enlisted (codes "p.x") (Some (codes "p7")) ∷ []) }
+    ensures { IfOk result
+        (λ txn. txn.parts ≡ local_party ∷ enlisted (codes "p.x") (Some (codes "p7")) ∷ []) }
 {
     let mut txn = Txn::new(alloc);
     txn.reserve()?;

@@ -38,7 +38,12 @@ impl<A: Allocator> Model for Txn<A> {
 
     ghost Value = { Transaction };
 
-    ghost view = { λ t. record { phase = t.phase; parts = t.local ∷ t.others.items; spare = vec_capacity t.others - vec_len t.others } };
+    ghost view = { λ t. record {
+      phase = t.phase;
+      parts = t.local
+          ∷ t.others.items;
+      spare = vec_capacity t.others - vec_len t.others;
+    } };
 }
 
 impl<A: Allocator> Txn<A> {
@@ -83,10 +88,16 @@ impl<A: Allocator> Txn<A> {
     pub fn enlist(&mut self, address: Address, id: Option<Id>) -> Result<Part, EnlistFault>
         requires { 0 < self.old.spare }
         ensures not_active { (result ≡ Err NotActive) ↔ (self.old.phase ≢ Active) }
-        ensures twice { (result ≡ Err Twice) ↔ ((self.old.phase ≡ Active) × IsTrue (is_enlisted self.old.parts address id)) }
-        ensures ok { OnOk result ((self.old.phase ≡ Active) × (is_enlisted self.old.parts address id ≡ false)) }
+        ensures twice { (result ≡ Err Twice) ↔
+            ((self.old.phase ≡ Active) × IsTrue (is_enlisted self.old.parts address id)) }
+        ensures ok { OnOk result
+            ((self.old.phase ≡ Active) × (is_enlisted self.old.parts address id ≡ false)) }
         ensures part { IfOk result (λ part. part ≡ length self.old.parts) }
-        ensures enlisted { OnOk result (self.new ≡ record self.old { parts = self.old.parts ++ enlisted address id ∷ []; spare = self.old.spare - 1 }) }
+        ensures enlisted { OnOk result (self.new ≡ record self.old {
+          parts = self.old.parts
+              ++ enlisted address id ∷ [];
+          spare = self.old.spare - 1;
+        }) }
         ensures err { OnErr result (self.new ≡ self.old) }
     {
         if self.phase != Phase::Active {
@@ -122,7 +133,8 @@ impl<A: Allocator> Txn<A> {
     /// A part's answer, in place of an earlier one.
     pub fn answer(&mut self, part: Part, answer: Ballot)
         requires { part < length self.old.parts }
-        ensures { self.new ≡ record self.old { parts = changed_at part (answered answer) self.old.parts } }
+        ensures { self.new
+            ≡ record self.old { parts = changed_at part (answered answer) self.old.parts } }
     {
         match part.place() {
             0 => self.local.answer = Some(answer),
@@ -166,7 +178,8 @@ impl<A: Allocator> Txn<A> {
     /// A part has acknowledged the commit.
     pub fn acked(&mut self, part: Part)
         requires { part < length self.old.parts }
-        ensures { self.new ≡ record self.old { parts = changed_at part acknowledged self.old.parts } }
+        ensures { self.new
+            ≡ record self.old { parts = changed_at part acknowledged self.old.parts } }
     {
         match part.place() {
             0 => self.local.acknowledged = true,
@@ -314,7 +327,8 @@ fn answering(answer: Ballot) -> Participant
 
 /// A part that said yes.
 fn willing(address: Option<Address>, id: Option<Id>) -> Participant
-    ensures { result ≡ record { address = address; id = id; answer = Some Ballot.Yes; acknowledged = false } }
+    ensures { result
+        ≡ record { address = address; id = id; answer = Some Ballot.Yes; acknowledged = false } }
 {
     Participant {
         address,

@@ -14,7 +14,8 @@ pub struct WriteFault;
 /// Writes a text; where that fails, a front of it was written.
 pub fn write_front<W: Write>(output: &mut W, text: &[u8]) -> Result<(), WriteFault>
     ensures ok { OnOk result (Appends (W.contents output.old) (W.contents output.new) text.now) }
-    ensures err { OnErr result (IsFrontOf text.now (W.contents output.old) (W.contents output.new)) }
+    ensures err { OnErr result
+        (IsFrontOf text.now (W.contents output.old) (W.contents output.new)) }
 {
     let mut rest = text;
     for _ in 0..u64::MAX {
@@ -31,7 +32,8 @@ pub fn write_front<W: Write>(output: &mut W, text: &[u8]) -> Result<(), WriteFau
 #[tactic(auto, using(crate::proofs::Appending::appends_nothing))]
 fn write_some<W: Write>(output: &mut W, text: &[u8]) -> Result<usize, WriteFault>
     ensures bound { IfOk result (λ len. len ≤ length text.now) }
-    ensures ok { IfOk result (λ len. Appends (W.contents output.old) (W.contents output.new) (take len text.now)) }
+    ensures ok { IfOk result
+        (λ len. Appends (W.contents output.old) (W.contents output.new) (take len text.now)) }
     ensures err { OnErr result (Appends (W.contents output.old) (W.contents output.new) []) }
 {
     match output.write(text) {

@@ -65,7 +65,9 @@ impl Ending {
 
     /// Whether both leave the same, octet by octet.
     pub fn is_as(&self, other: &Ending) -> bool
-        ensures { (result ≡ true) ↔ ((self.now.output.items ≡ other.now.output.items) × (self.now.status ≡ other.now.status) × (string_bytes self.now.fault ≡ string_bytes other.now.fault)) }
+        ensures { (result ≡ true) ↔ ((self.now.output.items ≡ other.now.output.items)
+            × (self.now.status ≡ other.now.status)
+            × (string_bytes self.now.fault ≡ string_bytes other.now.fault)) }
     {
         self.output == other.output && self.status == other.status && self.fault == other.fault
     }
