@@ -127,6 +127,3 @@ fn main(rt: HostRuntime) -> io::Result<()> {
     )?;
     output.flush()
 }
-
-#[cfg(test)]
-mod tests;

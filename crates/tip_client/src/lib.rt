@@ -6,8 +6,6 @@ mod client;
 mod fault;
 mod hearing;
 mod saying;
-#[cfg(test)]
-mod tests;
 
 pub use client::play_lines;
 pub use fault::ClientFault;

@@ -4,8 +4,6 @@
 pub mod laws;
 mod state;
 mod table;
-#[cfg(test)]
-mod tests;
 
 pub use state::{Admit, Side, State, Turn};
 pub use table::{admit, admit_named, after, after_named};

@@ -12,8 +12,6 @@ pub mod laws;
 mod pass;
 mod plain;
 mod sheet;
-#[cfg(test)]
-mod tests;
 
 pub use auditing::{AuditFault, Reported, audit};
 pub use fitting::fits;

@@ -5,8 +5,6 @@ mod items;
 pub mod laws;
 mod table;
 mod test;
-#[cfg(test)]
-mod tests;
 mod visit;
 
 pub use items::Items;

@@ -4,8 +4,6 @@
 mod answer;
 pub mod laws;
 mod part;
-#[cfg(test)]
-mod tests;
 mod txn;
 
 pub use answer::{Ballot, Decision, Phase};

@@ -3,12 +3,11 @@
 ghost use Rattle.std.specs.Prelude.{◌≡◌, true, IfOk};
 ghost use Rattle.tip_client.specs.Answers.{has_response};
 
-use crate::answer::may_answer;
-use crate::{ClientFault, play_lines};
 use std::alloc::Global;
 use std::io::{self, Error, ErrorKind, Read, Write};
 use std::test::Fail;
-use tip_line::{Command, CommandName, Id, Response, ResponseName, Word};
+use tip_client::{ClientFault, play_lines};
+use tip_line::{Command, Id, Response, Word};
 
 const SAID: &[u8] = b"IDENTIFY 3 3 - -\r\nBEGIN\r\n";
 
@@ -109,26 +108,6 @@ fn a_transaction_is_begun_however_its_lines_are_cut(rt: HostRuntime) -> Result<(
 }
 
 #[test]
-fn what_may_not_come_is_unexpected(rt: HostRuntime) -> Result<(), Fail> {
-    let second: [&[u8]; 6] = [
-        b"IDENTIFIED 3\nPULLED\n",
-        b"IDENTIFIED 3\nNEEDTLS\n",
-        b"IDENTIFIED 3\nBEGIN\n",
-        b"IDENTIFIED 3\nBEGUN\n",
-        b"IDENTIFIED 3\nbegun x\n",
-        b"IDENTIFIED 3\nBEGUN \x7f\n",
-    ];
-    for octets in second {
-        let mut output = Vec::new(rt.alloc());
-        let mut input = octets;
-        let end = begin(rt.alloc(), &mut input, &mut output)?;
-        assert_eq!(rt; end.err(), Some(ClientFault::Unexpected));
-        assert_eq!(rt; output.as_slice(), SAID);
-    }
-    Ok(())
-}
-
-#[test]
 fn input_that_ends_and_input_that_fails_are_told_apart(rt: HostRuntime) -> Result<(), Fail> {
     for (octets, said) in [
         (b"".as_slice(), 18),
@@ -185,56 +164,4 @@ fn want_of_memory_leaves_a_front(rt: HostRuntime) -> Result<(), Fail> {
     assert!(rt; matches!(end, Ok(_) | Err(ClientFault::Memory)));
     assert!(rt; SAID.starts_with(output.as_slice()));
     Ok(())
-}
-
-/// As many responses as RFC 2371 gives a command, without those that begin TLS or multiplexing, and with ERROR.
-#[test]
-fn each_command_has_its_responses(rt: HostRuntime) {
-    let commands = [
-        (CommandName::Identify, 3),
-        (CommandName::Begin, 3),
-        (CommandName::Push, 4),
-        (CommandName::Pull, 3),
-        (CommandName::Prepare, 4),
-        (CommandName::Commit, 3),
-        (CommandName::Abort, 2),
-        (CommandName::Query, 3),
-        (CommandName::Reconnect, 3),
-        (CommandName::Multiplex, 2),
-        (CommandName::Tls, 2),
-        (CommandName::Error, 0),
-    ];
-    let responses = [
-        ResponseName::Identified,
-        ResponseName::NeedTls,
-        ResponseName::Begun,
-        ResponseName::NotBegun,
-        ResponseName::Pushed,
-        ResponseName::AlreadyPushed,
-        ResponseName::NotPushed,
-        ResponseName::Pulled,
-        ResponseName::NotPulled,
-        ResponseName::Prepared,
-        ResponseName::ReadOnly,
-        ResponseName::Committed,
-        ResponseName::Aborted,
-        ResponseName::QueriedExists,
-        ResponseName::QueriedNotFound,
-        ResponseName::Reconnected,
-        ResponseName::NotReconnected,
-        ResponseName::CantMultiplex,
-        ResponseName::Multiplexing,
-        ResponseName::CantTls,
-        ResponseName::Tlsing,
-        ResponseName::Error,
-    ];
-    for (command, wanted) in commands {
-        let mut count = 0u32;
-        for response in responses {
-            if may_answer(command, response) {
-                count = count.saturating_add(1);
-            }
-        }
-        assert_eq!(rt; count, wanted, "{}", command.as_str());
-    }
 }

@@ -1,21 +1,26 @@
-//! Two realms, a renewal and three passes. What is expected follows from the definitions in `specs/Audit.antt`.
+//! An audit of two realms, a renewal and three passes. What is expected follows from the definitions of `tip_journal`,
+//! `specs/Audit.antt`: each entry stands in one pass, once, and each pass's in order.
 ghost use Rattle.std.specs.Prelude.{◌≡◌};
 
-use crate::{AuditFault, Journals, Noted, Pass, Plain, Reported, audit, fits};
 use std::alloc::{AllocError, Global};
 use std::test::Fail;
+use tip_journal::{AuditFault, Journals, Noted, Pass, Plain, Reported, audit};
 
-impl Plain for u16 {
-    fn is(&self, other: &u16) -> bool {
-        *self == *other
+/// What is entered.
+#[derive(Clone, Copy, Debug, PartialEq, Eq)]
+struct Number(u16);
+
+impl Plain for Number {
+    fn is(&self, other: &Number) -> bool {
+        self.0 == other.0
     }
 }
 
-type Book = Journals<u8, u16>;
+type Book = Journals<u8, Number>;
 
 /// A realm's epoch, its entry's number and the entry.
 fn note(
-    pass: &mut Pass<u16>,
+    pass: &mut Pass<Number>,
     realm: usize,
     epoch: u32,
     number: u32,
@@ -26,13 +31,18 @@ fn note(
         realm,
         epoch,
         number,
-        entry,
+        entry: Number(entry),
     });
     Ok(())
 }
 
 /// An entry of a realm's current journal, and of a pass.
-fn step(book: &mut Book, pass: &mut Pass<u16>, realm: usize, entry: u16) -> Result<(), AllocError> {
+fn step(
+    book: &mut Book,
+    pass: &mut Pass<Number>,
+    realm: usize,
+    entry: u16,
+) -> Result<(), AllocError> {
     let Some(journal) = book.current(realm) else {
         return Ok(());
     };
@@ -41,7 +51,7 @@ fn step(book: &mut Book, pass: &mut Pass<u16>, realm: usize, entry: u16) -> Resu
         return Ok(());
     }
     book.reserve(realm)?;
-    let number = book.add(realm, entry);
+    let number = book.add(realm, Number(entry));
     note(pass, realm, epoch, number, entry)
 }
 
@@ -54,7 +64,7 @@ fn renew(alloc: Global, book: &mut Book, realm: usize, epoch: u32) -> Result<(),
 }
 
 /// Realm 0 in the epochs 3 and 5, with 3 and 1 entries, realm 1 in the epoch 2, with 2 entries.
-fn day(alloc: Global, book: &mut Book) -> Result<[Pass<u16>; 3], AllocError> {
+fn day(alloc: Global, book: &mut Book) -> Result<[Pass<Number>; 3], AllocError> {
     let mut first = Pass::new(alloc);
     let mut second = Pass::new(alloc);
     let mut third = Pass::new(alloc);
@@ -135,45 +145,5 @@ fn another_entry_shows(rt: HostRuntime) -> Result<(), Fail> {
         audit(alloc, &book, &[backwards]).err(),
         Some(AuditFault::PassMismatch)
     );
-    Ok(())
-}
-
-#[test]
-fn an_entry_of_no_journal_shows(rt: HostRuntime) -> Result<(), Fail> {
-    let alloc = rt.alloc();
-    let mut book = Book::new(alloc);
-    book.declare(alloc, 3, 7)?;
-    let mut elsewhere = Pass::new(alloc);
-    note(&mut elsewhere, 1, 3, 1, 11)?;
-    let mut before = Pass::new(alloc);
-    note(&mut before, 0, 2, 1, 11)?;
-    assert_eq!(rt;
-        audit(alloc, &book, &[elsewhere]).err(),
-        Some(AuditFault::PassMismatch)
-    );
-    assert_eq!(rt;
-        audit(alloc, &book, &[before]).err(),
-        Some(AuditFault::PassMismatch)
-    );
-    Ok(())
-}
-
-#[test]
-fn a_pass_of_another_book_does_not_fit(rt: HostRuntime) -> Result<(), Fail> {
-    let alloc = rt.alloc();
-    let mut book = Book::new(alloc);
-    let passes = day(alloc, &mut book)?;
-    let mut foreign = Pass::new(alloc);
-    note(&mut foreign, 0, 3, 9, 1)?;
-    assert!(rt; fits(&book, &passes[0], 0));
-    assert!(rt; fits(&book, &passes[1], 1));
-    assert!(rt; fits(&book, &passes[2], 0));
-    assert!(rt;
-        fits(&book, &foreign, 0),
-        "its entry is of an epoch that has ended"
-    );
-    assert!(rt; fits(&book, &foreign, 2), "there is no such realm");
-    note(&mut foreign, 0, 5, 1, 15)?;
-    assert!(rt; !fits(&book, &foreign, 0));
     Ok(())
 }
