@@ -1,9 +1,8 @@
 //! Callers of `tip_branch` in another crate: parties and fresh boxes as plain data in an enum, in a struct,
-//! in a table with an invariant and behind a lock; a branch that counts its calls; and the tests of what no clause of it says.
+//! in a table with an invariant and behind a lock; and the tests of what no clause of it says.
 #![tactic(auto)]
 
 mod place;
-pub mod probe;
 mod table;
 #[cfg(test)]
 mod tests;

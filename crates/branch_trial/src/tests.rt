@@ -1,8 +1,7 @@
-//! What no clause says: dropped parties, boxes that are handed back, and each plan's answers.
+//! What no clause says: dropped parties, boxes that are handed back, and whose branches are told.
 
-use crate::probe::{Counters, Probe};
+use counting_branch::{Counters, Probe};
 use std::alloc::Global;
-use std::fmt::Display;
 use std::sync::{Arc, Mutex};
 use std::test::Fail;
 use std::thread;
@@ -18,12 +17,6 @@ fn make_realm(alloc: Global) -> Result<Realm, Fail> {
 
 fn make_id(alloc: Global) -> Result<Id, Fail> {
     Ok(Id::new(alloc, b"north-1-1-1")?)
-}
-
-/// Whether it is printed so.
-fn has_text<T: Display>(alloc: Global, value: &T, expected: &str) -> Result<bool, Fail> {
-    let text = format!(in alloc; "{value}")?;
-    Ok(text.as_str() == expected)
 }
 
 #[test]
@@ -50,51 +43,6 @@ fn a_dropped_party_aborts_its_active_member_alone(rt: HostRuntime) -> Result<(),
     Ok(())
 }
 
-#[test]
-fn numbers_of_members_rise_from_one_to_eight(rt: HostRuntime) {
-    assert!(rt; are_numbers(&[]));
-    assert!(rt; are_numbers(&[1, 2, 8]));
-    assert!(rt; !are_numbers(&[0, 1]));
-    assert!(rt; !are_numbers(&[2, 2]));
-    assert!(rt; !are_numbers(&[3, 1]));
-    assert!(rt; !are_numbers(&[9]));
-}
-
-#[test]
-fn a_branch_that_voted_is_not_fresh(rt: HostRuntime) -> Result<(), Fail> {
-    let alloc = rt.alloc();
-    let counters = Arc::new(alloc, Counters::new())?;
-    let mut boxes: Vec<Box<dyn Branch + Send>> = Vec::new(alloc);
-    boxes.push(Box::new(alloc, Probe::new(Plan::No, 0, Phase::Active, &counters)?)?)?;
-    boxes.push(Box::new(alloc, Probe::new(Plan::Yes, 0, Phase::Ready, &counters)?)?)?;
-    match Fresh::of(boxes) {
-        Ok(_) => assert!(rt; false),
-        Err(fault) => {
-            assert!(rt; has_text(alloc, &fault, "a branch is not active")?);
-            assert_eq!(rt; fault.boxes.len(), 2);
-            assert_eq!(rt; fault.boxes[0].plan(), Plan::No);
-            assert_eq!(rt; fault.boxes[1].plan(), Plan::Yes);
-        }
-    }
-    Ok(())
-}
-
-#[test]
-fn a_fresh_branch_is_not_prepared(rt: HostRuntime) -> Result<(), Fail> {
-    let alloc = rt.alloc();
-    let counters = Arc::new(alloc, Counters::new())?;
-    let mut boxes: Vec<Box<dyn Branch + Send>> = Vec::new(alloc);
-    boxes.push(Box::new(alloc, Probe::new(Plan::Yes, 0, Phase::Active, &counters)?)?)?;
-    match Prepared::of(boxes) {
-        Ok(_) => assert!(rt; false),
-        Err(fault) => {
-            assert!(rt; has_text(alloc, &fault, "a branch is not ready")?);
-            assert_eq!(rt; fault.boxes.len(), 1);
-        }
-    }
-    Ok(())
-}
-
 /// A party of these branches, numbered from 1.
 fn make_party(alloc: Global, boxes: Vec<Box<dyn Branch + Send>>) -> Result<Party, Fail> {
     let fresh = Fresh::of(boxes)?;
@@ -105,43 +53,6 @@ fn make_party(alloc: Global, boxes: Vec<Box<dyn Branch + Send>>) -> Result<Party
         held.take_party(room, make_realm(alloc)?, 1, make_id(alloc)?)
             .into_party(),
     )
-}
-
-#[test]
-fn each_plan_answers_as_it_promises(rt: HostRuntime) -> Result<(), Fail> {
-    let alloc = rt.alloc();
-    let counters = Arc::new(alloc, Counters::new())?;
-    for (plan, vote, first, second) in [
-        (Plan::Yes, Vote::Yes, Some(Settled::Done), None),
-        (Plan::No, Vote::No, None, None),
-        (Plan::ReadOnly, Vote::ReadOnly, None, None),
-        (
-            Plan::Late,
-            Vote::Yes,
-            Some(Settled::Later),
-            Some(Settled::Done),
-        ),
-        (Plan::Open, Vote::Yes, Some(Settled::Done), None),
-    ] {
-        let mut boxes: Vec<Box<dyn Branch + Send>> = Vec::new(alloc);
-        boxes.push(Box::new(alloc, Probe::new(plan, 0, Phase::Active, &counters)?)?)?;
-        let mut party = make_party(alloc, boxes)?;
-        party.give(Errand::Vote);
-        assert_eq!(rt; party.vote_all(), vote);
-        assert_eq!(rt; party.errand(), Errand::Idle);
-        assert_eq!(rt; party.vote_of(1), Some(vote));
-        assert_eq!(rt; party.call_of(1), Some(Call::Vote(vote)));
-        party.give(Errand::Commit);
-        assert_eq!(rt; party.call_of(1), None);
-        assert_eq!(rt; party.settle(), first.unwrap_or(Settled::Done));
-        assert_eq!(rt; party.call_of(1), first.map(Call::Commit));
-        party.give(Errand::Commit);
-        assert_eq!(rt; party.settle(), Settled::Done);
-        assert_eq!(rt; party.call_of(1), second.map(Call::Commit));
-        assert_eq!(rt; party.phase_of(1), Some(Phase::Ended));
-    }
-    assert_eq!(rt; counters.aborts(), 0);
-    Ok(())
 }
 
 #[test]
@@ -167,37 +78,6 @@ fn nobody_is_asked_after_a_no(rt: HostRuntime) -> Result<(), Fail> {
     let boxes = party.spend();
     assert_eq!(rt; counters.aborts(), 2);
     assert_eq!(rt; boxes.len(), 3);
-    Ok(())
-}
-
-#[test]
-fn transactions_take_boxes_in_order(rt: HostRuntime) -> Result<(), Fail> {
-    let alloc = rt.alloc();
-    let counters = Arc::new(alloc, Counters::new())?;
-    let mut boxes: Vec<Box<dyn Branch + Send>> = Vec::new(alloc);
-    for plan in [Plan::Yes, Plan::No, Plan::Late] {
-        boxes.push(Box::new(alloc, Probe::new(plan, 0, Phase::Active, &counters)?)?)?;
-    }
-    let fresh = Fresh::of(boxes)?;
-    let mut held = HeldFresh::of(fresh.into_lot(alloc).map_err(|_| "no memory")?);
-    assert!(rt; held.len() == 3);
-    let room = PartyRoom::new(alloc, 2)?;
-    let first = held.take_party(room, make_realm(alloc)?, 1, make_id(alloc)?);
-    let members = first.party().members();
-    assert_eq!(rt; members.len(), 2);
-    assert_eq!(rt;
-        (members[0].number, members[0].standing.badge.plan),
-        (1, Plan::Yes)
-    );
-    assert_eq!(rt;
-        (members[1].number, members[1].standing.badge.plan),
-        (2, Plan::No)
-    );
-    let left = held.into_lot();
-    assert!(rt; left.len() == 1);
-    let boxes = left.into_boxes();
-    assert_eq!(rt; boxes.len(), 1);
-    assert_eq!(rt; boxes[0].plan(), Plan::Late);
     Ok(())
 }
 
@@ -351,37 +231,6 @@ fn each_fresh_box_is_told_what_its_mark_is_noted_for(rt: HostRuntime) -> Result<
     }
     for own in counters.iter() {
         assert_eq!(rt; own.counted(), (1, 1, 0));
-    }
-    Ok(())
-}
-
-#[test]
-fn each_prepared_box_is_told_what_its_mark_is_noted_for(rt: HostRuntime) -> Result<(), Fail> {
-    let alloc = rt.alloc();
-    let mut counters = Vec::new(alloc);
-    let prepared = Prepared::of(make_unlike(alloc, Phase::Ready, &mut counters)?)?;
-    let held = HeldPrepared::of(prepared.into_lot(alloc).map_err(|_| "no memory")?);
-    let numbers = [2, 3, 5];
-    assert_eq!(rt; numbers.len(), held.len());
-    assert!(rt; are_numbers(&numbers));
-    let mut party = held
-        .into_party(make_realm(alloc)?, 2, make_id(alloc)?, &numbers)
-        .into_party();
-    for (member, (plan, mark)) in party.members().iter().zip(UNLIKE) {
-        assert_eq!(rt; member.standing.badge, Badge { plan, mark });
-    }
-    party.give(Errand::Commit);
-    assert_eq!(rt; party.settle(), Settled::Later);
-    assert_eq!(rt; party.phase_of(2), Some(Phase::Ended));
-    assert_eq!(rt; party.phase_of(3), Some(Phase::Ready));
-    party.give(Errand::Abort);
-    assert_eq!(rt; party.settle(), Settled::Done);
-    for (own, counted) in counters.iter().zip([(0, 1, 0), (0, 1, 1), (0, 1, 0)]) {
-        assert_eq!(rt; own.counted(), counted);
-    }
-    drop(party);
-    for (own, aborts) in counters.iter().zip([0, 1, 0]) {
-        assert_eq!(rt; own.counted(), (0, 1, aborts));
     }
     Ok(())
 }

@@ -145,7 +145,7 @@ fn halt_of<S: RowLog + Drop>(
 /// Whether a party goes out on this errand.
 fn goes_out(shown: &Shown, errand: Errand) -> bool {
     match &shown.work {
-        Some(noted) => noted.errand == errand,
+        Some(noted) => noted.errand() == errand,
         None => false,
     }
 }
@@ -153,7 +153,7 @@ fn goes_out(shown: &Shown, errand: Errand) -> bool {
 /// The call with which a party of one branch came back.
 fn call_of(shown: &Shown) -> Option<Call> {
     match &shown.back {
-        Some(noted) => noted.members.first()?.call,
+        Some(noted) => noted.members().first()?.call,
         None => None,
     }
 }

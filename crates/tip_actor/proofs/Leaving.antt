@@ -4,7 +4,7 @@ use Rattle.std.specs.List.{flat_map}
 use Rattle.std.proofs.lemmas.Grind.{flat_map-append}
 use Rattle.std.proofs.lemmas.List.Concat.{flat_map-cons}
 use Rattle.tip_branch.specs.Notes.{PartyNotes}
-use Rattle.tip_rules.specs.Works.{HeldTransaction}
+use Rattle.tip_outlook.specs.Searches.{HeldTransaction}
 use Rattle.tip_machine.specs.Moves.{drops_at, drops_here}
 use Rattle.tip_machine.specs.Outputs.{Output, drops_of}
 use Rattle.tip_machine.specs.Types.{PartyPlace, Transaction, seen}

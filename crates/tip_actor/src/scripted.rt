@@ -4,7 +4,7 @@ ghost use Rattle.tip_branch.specs.Members.{untold};
 ghost use Rattle.tip_branch.specs.Standings.{nothing};
 ghost use Rattle.tip_branch.specs.declared.branch.Phase.TheVariants.{Active};
 
-use tip_branch::{Badge, Branch, Phase, Plan, Settled, Standing, Told, Vote};
+use tip_branch::{Badge, Branch, Phase, Plan, Settled, Standing, Vote};
 
 /// A branch that does what its plan promises.
 #[derive(Drop)]
@@ -19,15 +19,7 @@ impl Scripted {
         ensures { result.standing ≡ untold phase (record { plan = plan; mark = 0 }) }
     {
         Scripted {
-            standing: Standing {
-                badge: Badge { plan, mark: 0 },
-                phase,
-                told: Told {
-                    asked: false,
-                    aborted: false,
-                    commits: 0,
-                },
-            },
+            standing: Standing::untold(Badge { plan, mark: 0 }, phase),
         }
     }
 }
@@ -37,18 +29,7 @@ impl Branch for Scripted {
 
     fn vote(&mut self) -> Vote {
         let vote = self.standing.badge.plan.vote().unwrap_or(Vote::Yes);
-        self.standing = Standing {
-            badge: self.standing.badge,
-            phase: match vote {
-                Vote::Yes => Phase::Ready,
-                Vote::No | Vote::ReadOnly => Phase::Ended,
-            },
-            told: Told {
-                asked: true,
-                aborted: self.standing.told.aborted,
-                commits: self.standing.told.commits,
-            },
-        };
+        self.standing = self.standing.asked(vote);
         vote
     }
 
@@ -56,35 +37,12 @@ impl Branch for Scripted {
         let commits = self.standing.told.commits;
         let plan = self.standing.badge.plan;
         let settled = plan.answer(commits).unwrap_or(Settled::Done);
-        self.standing = Standing {
-            badge: self.standing.badge,
-            phase: match settled {
-                Settled::Done => Phase::Ended,
-                Settled::Later => Phase::Ready,
-            },
-            told: Told {
-                asked: self.standing.told.asked,
-                aborted: self.standing.told.aborted,
-                commits: if commits == u64::MAX {
-                    commits
-                } else {
-                    commits + 1
-                },
-            },
-        };
+        self.standing = self.standing.committed(settled);
         settled
     }
 
     fn abort(&mut self) {
-        self.standing = Standing {
-            badge: self.standing.badge,
-            phase: Phase::Ended,
-            told: Told {
-                asked: self.standing.told.asked,
-                aborted: true,
-                commits: self.standing.told.commits,
-            },
-        };
+        self.standing = self.standing.aborted();
     }
 
     fn phase(&self) -> Phase {

@@ -2,7 +2,8 @@
 
 ghost use Rattle.std.specs.Prelude.{◌≡◌, ◌≢◌};
 ghost use Rattle.tip_branch.specs.Plans.{planned_vote, planned_answer};
-ghost use Rattle.tip_branch.specs.Standings.{IsVoted, IsCommitted, aborted};
+ghost use Rattle.tip_branch.specs.Members.{untold};
+ghost use Rattle.tip_branch.specs.Standings.{IsVoted, IsCommitted, aborted, asked, committed, phase_after_commit, phase_after_vote};
 ghost use Rattle.tip_branch.specs.Votes.{answer_of};
 ghost use Rattle.tip_branch.specs.declared.branch.Phase.TheVariants.{Active, Ready, Ended};
 
@@ -27,6 +28,16 @@ impl Vote {
             Vote::ReadOnly => Ballot::ReadOnly,
         }
     }
+
+    /// The phase of a branch that voted so.
+    fn phase(self) -> Phase
+        ensures { result ≡ phase_after_vote self }
+    {
+        match self {
+            Vote::Yes => Phase::Ready,
+            Vote::No | Vote::ReadOnly => Phase::Ended,
+        }
+    }
 }
 
 /// What a branch answers to a commit.
@@ -35,6 +46,18 @@ pub enum Settled {
     Done,
     /// It stays ready, and is to be told again.
     Later,
+}
+
+impl Settled {
+    /// The phase of a branch that answered so.
+    fn phase(self) -> Phase
+        ensures { result ≡ phase_after_commit self }
+    {
+        match self {
+            Settled::Done => Phase::Ended,
+            Settled::Later => Phase::Ready,
+        }
+    }
 }
 
 /// How far a branch has come.
@@ -106,6 +129,49 @@ pub struct Standing {
     pub badge: Badge,
     pub phase: Phase,
     pub told: Told,
+}
+
+impl Standing {
+    /// A branch that is known so, in this phase, which was told nothing yet.
+    pub fn untold(badge: Badge, phase: Phase) -> Standing
+        ensures { result ≡ untold phase badge }
+    {
+        let told = Told {
+            asked: false,
+            aborted: false,
+            commits: 0,
+        };
+        Standing { badge, phase, told }
+    }
+
+    /// The branch once it was asked and voted.
+    pub fn asked(mut self, vote: Vote) -> Standing
+        ensures { result ≡ asked self vote }
+    {
+        self.phase = vote.phase();
+        self.told.asked = true;
+        self
+    }
+
+    /// The branch once it was told to commit and answered.
+    pub fn committed(mut self, answer: Settled) -> Standing
+        ensures { result ≡ committed self answer }
+    {
+        self.phase = answer.phase();
+        if self.told.commits < u64::MAX {
+            self.told.commits += 1;
+        }
+        self
+    }
+
+    /// The branch once it was told to abort.
+    pub fn aborted(mut self) -> Standing
+        ensures { result ≡ aborted self }
+    {
+        self.phase = Phase::Ended;
+        self.told.aborted = true;
+        self
+    }
 }
 
 /// One resource manager's part of a transaction.

@@ -58,14 +58,6 @@ impl HeldFresh {
         }
     }
 
-    /// No boxes, of the kind of these, which takes no memory.
-    pub fn empty_like(&self, alloc: Global) -> HeldFresh
-        requires { Always }
-        ensures { result ≡ [] }
-    {
-        HeldFresh::none(alloc)
-    }
-
     /// How many boxes there are.
     pub fn len(&self) -> usize
         ensures { result ≡ length self.now }

@@ -2,7 +2,7 @@
 
 ghost use Rattle.std.specs.Prelude.{◌≡◌};
 
-use crate::branch::{Badge, Phase, Plan, Settled, Standing, Told, Vote};
+use crate::branch::{Badge, Phase, Plan, Settled, Standing, Vote};
 use tip_txn::Ballot;
 
 /// What a party is to do while its transaction's lock is free.
@@ -48,14 +48,9 @@ impl Member {
     pub(crate) fn new(number: u8, badge: Badge, phase: Phase) -> Member
         ensures { result ≡ new_member number badge phase }
     {
-        let told = Told {
-            asked: false,
-            aborted: false,
-            commits: 0,
-        };
         Member {
             number,
-            standing: Standing { badge, phase, told },
+            standing: Standing::untold(badge, phase),
             vote: None,
             call: None,
         }
@@ -65,11 +60,7 @@ impl Member {
     pub(crate) fn voting(mut self, vote: Vote) -> Member
         ensures { result ≡ voting self vote }
     {
-        self.standing.phase = match vote {
-            Vote::Yes => Phase::Ready,
-            Vote::No | Vote::ReadOnly => Phase::Ended,
-        };
-        self.standing.told.asked = true;
+        self.standing = self.standing.asked(vote);
         self.vote = Some(vote);
         self.call = Some(Call::Vote(vote));
         self
@@ -79,13 +70,7 @@ impl Member {
     pub(crate) fn committing(mut self, answer: Settled) -> Member
         ensures { result ≡ committing self answer }
     {
-        self.standing.phase = match answer {
-            Settled::Done => Phase::Ended,
-            Settled::Later => Phase::Ready,
-        };
-        if self.standing.told.commits < u64::MAX {
-            self.standing.told.commits += 1;
-        }
+        self.standing = self.standing.committed(answer);
         self.call = Some(Call::Commit(answer));
         self
     }
@@ -94,8 +79,7 @@ impl Member {
     pub(crate) fn aborting(mut self) -> Member
         ensures { result ≡ aborting self }
     {
-        self.standing.phase = Phase::Ended;
-        self.standing.told.aborted = true;
+        self.standing = self.standing.aborted();
         self.call = Some(Call::Abort);
         self
     }

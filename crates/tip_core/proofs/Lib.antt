@@ -1,5 +1,4 @@
 pub mod Stepping
 pub mod TakingUp
 pub mod Renewals
-pub mod Isolated
 pub mod Naming

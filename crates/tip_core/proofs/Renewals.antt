@@ -14,7 +14,8 @@ use Rattle.tip_machine.specs.Types.{seen}
 use Rattle.tip_machine.specs.declared.head.Head.{Head}
 use Rattle.tip_core.specs.Hosted.{HaveNames, realm}
 use Rattle.tip_core.specs.Recovering.{reopened_all}
-use Rattle.tip_rules.specs.Works.{HaveCounts, HeldTransaction, Realms, state_in}
+use Rattle.tip_outlook.specs.Searches.{HeldTransaction}
+use Rattle.tip_rules.specs.Works.{HaveCounts, Realms, state_in}
 use Rattle.tip_core.proofs.Stepping.{hosted, inside, past, there}
 
 -- rows that are taken up by a realm with nothing but what was declared of it

@@ -11,7 +11,6 @@ use Rattle.std.proofs.lemmas.List.Elements.{All-head, All-nil, All-tail}
 use Rattle.tip_machine.specs.Counts.{HasCounts, IsBelow}
 use Rattle.tip_machine.specs.Heads.{starting}
 use Rattle.tip_machine.specs.Order.{in_turn, ordered}
-use Rattle.tip_machine.specs.Runs.{unstored_outcome}
 use Rattle.tip_machine.specs.States.{Attempt, State, started}
 use Rattle.tip_machine.specs.Steps.{attempt, chosen, entered, fits, frozen, is_open, nowhere, returned, step}
 use Rattle.tip_machine.specs.Types.{Answer, Connection, Event, seen}
@@ -24,12 +23,12 @@ use Rattle.tip_machine.specs.declared.head.Start.{Start}
 use Rattle.tip_machine.proofs.Counting.{counts_stay}
 use Rattle.tip_machine.proofs.Identifiers.{none_numbered}
 use Rattle.tip_table.specs.Kept.{of}
-use Rattle.tip_rules.proofs.Turning.{in_turn_of_state}
+use Rattle.tip_outlook.proofs.Turning.{in_turn_of_state}
 use Rattle.tip_core.specs.Hosted.{HasEpoch, Hosted, IsRoomFor, Steps, realm}
 use Rattle.tip_rules.specs.Makings.{Made}
 use Rattle.tip_rules.specs.Needs.{Granted, HasNeeds, Suits, happened}
-use Rattle.tip_rules.specs.Turns.{noted, turn_in}
-use Rattle.tip_rules.specs.declared.turns.Turn.{Turn}
+use Rattle.tip_outlook.specs.Turns.{noted, turn_in}
+use Rattle.tip_outlook.specs.declared.turns.Turn.{Turn}
 use Rattle.tip_rules.specs.Works.{Does, HaveCounts, Realms, no_head, state_in, working}
 
 -- what the tables stand for, with room to note so many turns
@@ -157,30 +156,6 @@ module _ (old new : Realms) (heads : new.heads ≡ old.heads) (same : (place : �
 
   pub still_counted : HaveCounts old → HaveCounts new
   still_counted counts place lt = subst HasCounts (sym (same place)) (counts place (subst (λ (hs : List Head). place < length hs) (ap (λ h. h.items) heads) lt))
-
--- Where no rows are stored
-
-pub unstored_fits : (change : Option Change) → fits change (unstored_outcome change) ≡ true
-unstored_fits None = refl
-unstored_fits (Some change) = refl
-
--- what is refused is as what has no outcome
-refused_alike : (attempt : Attempt) → chosen attempt Refused ≡ chosen attempt NoChange
-refused_alike (Attempt.Done work) = refl
-refused_alike (Attempt.Asks change stored refused) = refl
-
-unstored_alike : (state : State) (event : Event) (change : Option Change) → step state event (unstored_outcome change) ≡ step state event NoChange
-unstored_alike state event None = refl
-unstored_alike state event (Some change) = ap (λ work. cond (is_open state) (ordered state work) (frozen event state)) (refused_alike (attempt event (entered state)))
-
-pub unstored_steps : (old new : Hosted) (place : ℕ) (event : Event) (change : Option Change) (answer : Answer) → Steps old new place event (unstored_outcome change) answer → Steps old new place event NoChange answer
-unstored_steps old new place event change answer steps = record {
-  own = λ state here. let went = steps.own state here in (went.0 ∙ ap (λ w. w.answer) (unstored_alike state event change), went.1 ∙ ap (λ w. Some w.state) (unstored_alike state event change));
-  others = steps.others;
-  absent = steps.absent;
-}
-
-pub ruleset unstored = (unstored_fits, unstored_steps)
 
 -- Realms at their start
 

@@ -11,7 +11,8 @@ use Rattle.tip_machine.specs.declared.head.Head.{Head}
 use Rattle.tip_recovery.specs.Adopting.{AreOf, Unfinished, loaded}
 use Rattle.tip_core.specs.Hosted.{HaveNames}
 use Rattle.tip_core.specs.Recovering.{reopened_all}
-use Rattle.tip_rules.specs.Works.{HaveCounts, HeldTransaction, Realms}
+use Rattle.tip_outlook.specs.Searches.{HeldTransaction}
+use Rattle.tip_rules.specs.Works.{HaveCounts, Realms}
 use Rattle.tip_core.proofs.Stepping.{hosted}
 
 -- One row more

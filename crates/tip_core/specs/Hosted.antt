@@ -10,7 +10,7 @@ use Rattle.tip_machine.specs.declared.head.Start.{Start}
 use Rattle.tip_machine.specs.declared.event.Outcome.{Outcome}
 use Rattle.tip_machine.specs.declared.event.Seat.{Seat}
 use Rattle.tip_rules.specs.Needs.{Granted, Suits}
-use Rattle.tip_rules.specs.Works.{HeldTransaction}
+use Rattle.tip_outlook.specs.Searches.{HeldTransaction}
 
 -- all realms in shared tables; clauses speak of them by `realm` and `room_in`
 pub record Hosted : Type 0 where

@@ -1,4 +1,3 @@
 pub mod Hosted
 pub mod Recovering
 pub mod Renewing
-pub mod Isolation

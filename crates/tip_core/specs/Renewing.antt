@@ -2,7 +2,7 @@
 use Rattle.std.specs.Prelude.{◌≡◌, ◌+◌, ◌-◌, ◌≤◌, ℕ, [], length, vec_capacity, vec_len}
 use Rattle.tip_table.specs.Kept.{Kept, capacity, of}
 use Rattle.tip_machine.specs.Types.{Connection}
-use Rattle.tip_rules.specs.Works.{HeldTransaction}
+use Rattle.tip_outlook.specs.Searches.{HeldTransaction}
 use Rattle.tip_core.specs.declared.renewing.Left as lefts
 use Rattle.tip_core.specs.declared.renewing.Parting as partings
 

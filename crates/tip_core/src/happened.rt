@@ -16,15 +16,6 @@ pub struct Happened<A = Answer> {
 }
 
 impl Happened<Answer> {
-    /// The answer alone.
-    pub fn into_answer(self) -> Answer
-        requires { Always }
-        ensures { result ≡ self.answer }
-    {
-        let Happened { answer, .. } = self;
-        answer
-    }
-
     /// The party that goes out, if one does.
     pub fn into_work(self) -> Option<HeldParty>
         requires { Always }

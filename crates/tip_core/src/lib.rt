@@ -8,7 +8,7 @@ mod renewing;
 mod starts;
 
 pub use happened::Happened;
-pub use machine::{Core, Run};
+pub use machine::Core;
 pub use renewing::{Left, Parting};
 pub use starts::{StartFault, Starts};
 pub use tip_rules::Room;

@@ -1,5 +1,5 @@
 //! The machines of all realms.
-ghost use Rattle.std.specs.Prelude.{◌≡◌, ◌≢◌, ℕ, ◌+◌, ◌≤◌, ◌<◌, [], None, Some, true, IfOk, IsOk, OnOk, map, take, length, slice_get, option_map};
+ghost use Rattle.std.specs.Prelude.{◌≡◌, ◌≢◌, ℕ, ◌+◌, ◌≤◌, ◌<◌, [], None, Some, true, IfOk, OnOk, map, length, slice_get, option_map};
 ghost use Rattle.tip_branch.specs.Always.{Always};
 ghost use Rattle.tip_machine.specs.Heads.{starting};
 ghost use Rattle.tip_machine.specs.Moves.{risen};
@@ -11,7 +11,6 @@ ghost use Rattle.tip_recovery.specs.Adopting.{are_adopted, loaded};
 ghost use Rattle.tip_rows.specs.Logs.{last_epoch};
 ghost use Rattle.tip_table.specs.Kept.{of};
 ghost use Rattle.tip_core.specs.Hosted.{realm as realm_at, room_in, may_take_in, must_wait_in, HaveNames, IsRoomFor, Steps};
-ghost use Rattle.tip_core.specs.Isolation.{IsIsolated};
 ghost use Rattle.tip_core.specs.Recovering.{IsOf, taking_up};
 ghost use Rattle.tip_core.specs.Renewing.{HasRoom};
 
@@ -22,19 +21,11 @@ use crate::starts::Starts;
 use std::alloc::{AllocError, Global};
 use std::marker::Model;
 use tip_line::{Realm, Refusal};
-use tip_machine::{Answer, Connection, Event, Head, InRealm, Outcome, Seat, Start, Transaction};
+use tip_machine::{Connection, Event, Head, Outcome, Seat, Start, Transaction};
+use tip_outlook::Turns;
 use tip_recovery::Recovery;
-use tip_rules::{Realms, Room, Turns};
+use tip_rules::{Realms, Room};
 use tip_table::{Items, Table};
-
-/// What a list of events came to.
-#[derive(Drop)]
-pub struct Run {
-    /// The answers to the first events, in order.
-    pub answers: Vec<InRealm<Answer>>,
-    /// `Err` where memory ended before all were answered. What was not answered has not happened.
-    pub end: Result<(), AllocError>,
-}
 
 /// All realms of the process, each by its place in the order of declaration.
 #[derive(Drop)]
@@ -60,8 +51,7 @@ impl Model for Core {
       heads = c.realms.heads.items;
       connections = c.realms.connections;
       transactions = c.realms.transactions;
-      turns
-          = c.turns.capacity;
+      turns = c.turns.capacity;
     }) };
 }
 
@@ -239,41 +229,6 @@ impl Core {
         ensures { result ≡ must_wait_in seat (realm_at self.now realm) }
     {
         realm < self.realms.heads.len() && self.realms.must_wait(realm, seat)
-    }
-
-    /// Events of all realms, one after another; no rows are stored. Each realm answers as if it were alone.
-    pub fn run(&mut self, alloc: Global, events: Vec<InRealm<Event>>) -> Run
-        requires { Always }
-        ensures isolated { IsIsolated self.old (take (length result.answers.items) events.items)
-            result.answers.items self.new }
-        ensures all { IsOk result.end → length result.answers.items ≡ length events.items }
-    {
-        let mut answers = Vec::new(alloc);
-        let end = self.answer_all(alloc, events, &mut answers);
-        Run { answers, end }
-    }
-
-    /// The same, into a list that is empty at first.
-    fn answer_all(
-        &mut self,
-        alloc: Global,
-        events: Vec<InRealm<Event>>,
-        answers: &mut Vec<InRealm<Answer>>,
-    ) -> Result<(), AllocError>
-        requires { answers.old.items ≡ [] }
-        ensures isolated { IsIsolated self.old (take (length answers.new.items) events.items)
-            answers.new.items self.new }
-        ensures all { OnOk result (length answers.new.items ≡ length events.items) }
-    {
-        for event in events {
-            let InRealm { realm, item } = event;
-            answers.reserve(1)?;
-            let room = self.room(alloc, realm, &item)?;
-            let outcome = room.unstored();
-            let item = self.apply(realm, item, room, outcome).into_answer();
-            answers.push_reserved(InRealm { realm, item });
-        }
-        Ok(())
     }
 }
 

@@ -2,8 +2,8 @@
 ghost use Rattle.std.specs.Prelude.{◌≡◌, ◌↔◌, IfOk, IsTrue};
 
 use crate::badges::Badges;
-use crate::party_note::PartyNote;
 use std::alloc::{AllocError, Global};
+use tip_branch::PartyNote;
 use tip_journal::Plain;
 use tip_machine::{Event, Outcome};
 

@@ -8,8 +8,8 @@ ghost use Rattle.tip_machine.specs.Outputs.{drops_of};
 ghost use Rattle.tip_machine.specs.States.{State};
 
 use crate::desk::Desk;
-use crate::party_note::PartyNote;
 use std::alloc::{AllocError, Global};
+use tip_branch::PartyNote;
 use tip_core::Core;
 use tip_machine::PartyPlace;
 use tip_rows::RowLog;

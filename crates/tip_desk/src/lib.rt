@@ -10,7 +10,6 @@ mod leaving;
 mod noting;
 mod opening;
 mod outboxes;
-mod party_note;
 mod renewing;
 mod reply;
 
@@ -18,5 +17,4 @@ pub use badges::Badges;
 pub use desk::{Desk, OpenFault};
 pub use entry::Entry;
 pub use opening::{OpenedRow, Opening};
-pub use party_note::PartyNote;
 pub use reply::Reply;

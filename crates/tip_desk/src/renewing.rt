@@ -26,7 +26,7 @@ use std::mem::replace;
 use tip_core::Left;
 use tip_host::RenewFault;
 use tip_journal::Journals;
-use tip_machine::Head;
+use tip_machine::next_epoch;
 use tip_recovery::Recovery;
 use tip_rows::RowLog;
 use tip_table::Table;
@@ -138,30 +138,7 @@ impl<S: RowLog + Drop> Desk<S> {
         if self.host.is_stopped {
             return None;
         }
-        next_in(self.host.core.heads(), realm)
-    }
-}
-
-/// The epoch after a realm's own; None behind the last.
-fn next_in(heads: &[Head], realm: usize) -> Option<u32>
-    ensures { result ≡ option_and_then
-        (λ head. if head.epoch == last_epoch then None else Some (head.epoch + 1))
-        (slice_get heads.now realm) }
-{
-    match heads.get(realm) {
-        Some(head) => epoch_after(head.epoch),
-        None => None,
-    }
-}
-
-/// The epoch after this one, if it is not the last.
-fn epoch_after(epoch: u32) -> Option<u32>
-    ensures { result ≡ (if epoch == last_epoch then None else Some (epoch + 1)) }
-{
-    if epoch == u32::MAX {
-        None
-    } else {
-        Some(epoch + 1)
+        next_epoch(self.host.core.heads(), realm)
     }
 }
 

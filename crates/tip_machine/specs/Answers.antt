@@ -1,5 +1,5 @@
 -- What a realm says.
-use Rattle.std.specs.Prelude.{ℕ, ◌==◌, ◌&&◌, Bool, true, false, List, [], Option, Some, None}
+use Rattle.std.specs.Prelude.{ℕ, Bool, true, false, List, [], Option, Some, None}
 use Rattle.tip_line.specs.Ids.{id_of}
 use Rattle.tip_line.specs.Response.{name_of}
 use Rattle.tip_line.specs.declared.command.Command.{Command}
@@ -81,12 +81,3 @@ key_in Close = None
 -- an answer with nothing in it
 abbrev pub silence : Answer
 silence = record { refusal = None; opened = None; sent = []; work = None; spent = None; unused = None; entry = None }
-
-abbrev pub is_close : Item → Bool
-is_close (Say said) = false
-is_close (Ask asked) = false
-is_close Close = true
-
--- does this close the connection of that number?
-abbrev pub is_closing : ℕ → Sent → Bool
-is_closing number sent = (sent.connection == number) && is_close sent.item

@@ -25,4 +25,3 @@ pub mod Honest
 pub mod Agreement
 pub mod Invariants
 pub mod Examples
-pub mod Runs

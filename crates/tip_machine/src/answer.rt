@@ -1,7 +1,6 @@
 //! What a realm answers.
 ghost use Rattle.std.specs.Prelude.{◌≡◌, IfOk};
-ghost use Rattle.std.specs.List.{list_any};
-ghost use Rattle.tip_machine.specs.Answers.{command_of, identifier, is_closing, response_name, response_of};
+ghost use Rattle.tip_machine.specs.Answers.{command_of, identifier, response_name, response_of};
 
 use crate::event::Seat;
 use std::alloc::{AllocError, Global};
@@ -180,15 +179,6 @@ pub struct Sent {
     pub item: Item,
 }
 
-impl Sent {
-    /// Whether it closes the connection of this number.
-    fn closes(&self, connection: u32) -> bool
-        ensures { result ≡ is_closing connection self.now }
-    {
-        self.connection == connection && matches!(self.item, Item::Close)
-    }
-}
-
 /// What one event sends out, in order. It is seen as a list.
 #[derive(Debug, Drop)]
 pub struct SentLines {
@@ -243,16 +233,4 @@ pub struct Answer<B = HeldFresh, P = HeldParty> {
     pub unused: Option<B>,
     /// The number of the event's entry in the realm's journal, from 1.
     pub entry: Option<u32>,
-}
-
-impl Answer<HeldFresh, HeldParty> {
-    /// Whether it closes the connection of this number.
-    pub fn closes(&self, connection: u32) -> bool
-        ensures { result ≡ list_any (is_closing connection) self.now.sent }
-    {
-        self.sent
-            .as_slice()
-            .iter()
-            .any(|sent| sent.closes(connection))
-    }
 }

@@ -117,11 +117,3 @@ pub enum Outcome {
     /// The rows are as before.
     Refused,
 }
-
-/// An item of one of many realms.
-#[derive(Debug, Drop)]
-pub struct InRealm<T> {
-    /// The realm's place in the order of declaration.
-    pub realm: usize,
-    pub item: T,
-}

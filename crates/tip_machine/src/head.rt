@@ -1,6 +1,8 @@
 //! What is declared of a realm, and its counts.
-ghost use Rattle.std.specs.Prelude.{◌≡◌};
+ghost use Rattle.std.specs.Prelude.{◌≡◌, ◌+◌, ◌==◌, None, Some, if◌then◌else◌, slice_get};
+ghost use Rattle.std.specs.Option.{option_and_then};
 ghost use Rattle.tip_machine.specs.Heads.{are_allowed, starting};
+ghost use Rattle.tip_rows.specs.Logs.{last_epoch};
 
 use tip_line::{Address, Realm};
 use tip_rows::Branches;
@@ -78,5 +80,28 @@ impl Head {
             given: 0,
             entries: 0,
         }
+    }
+}
+
+/// The epoch in which the realm at a place would start again; None behind the last, and where no realm is there.
+pub fn next_epoch(heads: &[Head], place: usize) -> Option<u32>
+    ensures { result ≡ option_and_then
+        (λ head. if head.epoch == last_epoch then None else Some (head.epoch + 1))
+        (slice_get heads.now place) }
+{
+    match heads.get(place) {
+        Some(head) => epoch_after(head.epoch),
+        None => None,
+    }
+}
+
+/// The epoch after this one, if it is not the last.
+fn epoch_after(epoch: u32) -> Option<u32>
+    ensures { result ≡ (if epoch == last_epoch then None else Some (epoch + 1)) }
+{
+    if epoch == u32::MAX {
+        None
+    } else {
+        Some(epoch + 1)
     }
 }

@@ -33,10 +33,10 @@ use Rattle.tip_rules.proofs.Outcomes.{key_is}
 use Rattle.tip_rules.proofs.Responses.{gone_idle, gone_key, gone_lines_as, goes_on}
 use Rattle.tip_rules.proofs.Superiors.{IsAlike, advanced-alike, alike_after, gone_alike}
 use Rattle.tip_rules.proofs.Works.{nothing, then}
-use Rattle.tip_rules.specs.Noting.{querying}
-use Rattle.tip_rules.specs.Wanting.{forgotten}
+use Rattle.tip_outlook.specs.Noting.{querying}
+use Rattle.tip_outlook.specs.Wanting.{forgotten}
 use Rattle.tip_rules.specs.Works.{Does, Held, work_of}
-use Rattle.tip_rules.specs.declared.noting.Note.TheVariants as note
+use Rattle.tip_outlook.specs.declared.noting.Note.TheVariants as note
 
 -- Closing
 

@@ -32,7 +32,8 @@ use Rattle.tip_txn.specs.Transactions.{fresh}
 use Rattle.tip_rules.specs.Makings.{Made}
 use Rattle.tip_rules.specs.Rooms.{room_for, TransactionRoom}
 use Rattle.tip_rules.proofs.Losing.{same_room}
-use Rattle.tip_rules.specs.Works.{beginning, CanMake, Does, Held, HeldTransaction, MayMake, key_where_room, make_where_room, no_head, peer_of, work_of}
+use Rattle.tip_outlook.specs.Searches.{HeldTransaction}
+use Rattle.tip_rules.specs.Works.{beginning, CanMake, Does, Held, MayMake, key_where_room, make_where_room, no_head, peer_of, work_of}
 use Rattle.tip_rules.proofs.Works.{changed_at, nothing, then}
 
 -- Room

@@ -28,7 +28,8 @@ use Rattle.tip_machine.specs.Steps.{chosen}
 use Rattle.tip_machine.specs.Transactions.{as_answer, has_ready, is_committed, is_done, noting, party_answer, refuses, standing_at}
 use Rattle.tip_machine.specs.Types.{PartyPlace, Transaction}
 use Rattle.tip_machine.specs.declared.transaction.PartyPlace.TheVariants.{Here, Out, Spent}
-use Rattle.tip_rules.specs.Works.{Does, Held, HeldTransaction, is_aborting, is_committing, is_keyed, IsIdle, is_voting, lines_for, lines_of, MayDispatch, party_at, party_here, work_of}
+use Rattle.tip_outlook.specs.Searches.{HeldTransaction, is_keyed}
+use Rattle.tip_rules.specs.Works.{Does, Held, is_aborting, is_committing, is_voting, IsIdle, lines_for, lines_of, MayDispatch, party_at, party_here, work_of}
 use Rattle.tip_rules.proofs.Losing.{same_room}
 use Rattle.tip_rules.proofs.Outcomes.{key_is}
 use Rattle.tip_rules.proofs.Proceeding.{dispatch_none, dispatch_some, quiet_dispatch}

@@ -68,11 +68,11 @@ use Rattle.tip_machine.specs.declared.transaction.PartyPlace.TheVariants.{Here, 
 use Rattle.tip_rules.proofs.Outcomes.{acknowledged_all}
 use Rattle.tip_rules.proofs.Proceeding.{dispatch_some}
 use Rattle.tip_rules.proofs.Responses.{hears_identified, hears_nothing, hears_part, hears_pull, hears_query, hears_to_ask, hears_to_reach, noting_nobody, noting_part_of}
-use Rattle.tip_rules.specs.Noting.{awaits_of, exists_of, identifying, note_of, noted, noting_as, part_of, pulled_of, pulling, querying, responding, version_of}
-use Rattle.tip_rules.specs.declared.noting.Awaits.{Awaits}
-use Rattle.tip_rules.specs.declared.noting.Awaits.TheVariants as awaits
-use Rattle.tip_rules.specs.Wanting.{abort_for, abort_wanted, agreed_change, answer_wanted, asked, away, command_wanted, commit_for, commit_wanted, concluded, finished, foreseen, forgotten, hears_responses, is_admitted, is_over, line_wanted, of_superior, outlook, owed_then, pair_at, pairs_of, prepare_for, prepare_wanted, presume_wanted, promised_of, query_wanted, response_wanted, resume_wanted, resumed_at, said_wanted, settled_wanted, vote_wanted, wanted_noting, wanted_of_part, wished, wished_in}
-use Rattle.tip_rules.specs.declared.noting.Note.{Note}
+use Rattle.tip_outlook.specs.Noting.{awaits_of, exists_of, identifying, note_of, noted, noting_as, part_of, pulled_of, pulling, querying, responding, version_of}
+use Rattle.tip_outlook.specs.declared.noting.Awaits.{Awaits}
+use Rattle.tip_outlook.specs.declared.noting.Awaits.TheVariants as awaits
+use Rattle.tip_outlook.specs.Wanting.{abort_for, abort_wanted, agreed_change, answer_wanted, asked, away, command_wanted, commit_for, commit_wanted, concluded, finished, foreseen, forgotten, hears_responses, is_admitted, is_over, line_wanted, of_superior, outlook, owed_then, pair_at, pairs_of, prepare_for, prepare_wanted, presume_wanted, promised_of, query_wanted, response_wanted, resume_wanted, resumed_at, said_wanted, settled_wanted, vote_wanted, wanted_noting, wanted_of_part, wished, wished_in}
+use Rattle.tip_outlook.specs.declared.noting.Note.{Note}
 
 -- The rows
 

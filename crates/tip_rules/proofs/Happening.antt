@@ -38,7 +38,8 @@ use Rattle.tip_rules.specs.Growing.{CanGrow}
 use Rattle.tip_rules.specs.Needs.{HasNeeds, IsReady, begins, begins_on, happened, joined, lines_needed, peer_needed, room_on, transactions_for, ours_needed, word_needed}
 use Rattle.tip_rules.specs.Pursuing.{word_for}
 use Rattle.tip_rules.specs.Rooms.{room_for}
-use Rattle.tip_rules.specs.Works.{CanMake, Does, Held, is_named, MayMake, lines_as, lines_at, lines_queried, work_of}
+use Rattle.tip_outlook.specs.Searches.{is_named}
+use Rattle.tip_rules.specs.Works.{CanMake, Does, Held, MayMake, lines_as, lines_at, lines_queried, work_of}
 
 -- As its primary we hear ERROR alone
 

@@ -26,7 +26,8 @@ use Rattle.tip_machine.specs.declared.connection.Role.TheVariants.{Subordinate}
 use Rattle.tip_rules.proofs.Outcomes.{key_is}
 use Rattle.tip_rules.proofs.Works.{altered, nothing, standing_key, then}
 use Rattle.tip_rules.specs.Growing.{joined_as, joining_part, may_join}
-use Rattle.tip_rules.specs.Works.{Does, Held, HeldTransaction, is_keyed, peer_of, work_of}
+use Rattle.tip_outlook.specs.Searches.{HeldTransaction, is_keyed}
+use Rattle.tip_rules.specs.Works.{Does, Held, peer_of, work_of}
 
 -- What a transaction answers that a part would join
 

@@ -9,8 +9,7 @@ pub mod Beginnings
 pub mod Commanding
 pub mod Coming
 pub mod Foreseeing
-pub mod Outlooks
-pub mod Subordinates
+pub mod Ahead
 pub mod Responses
 pub mod Asking
 pub mod Dials
@@ -19,7 +18,6 @@ pub mod Purposes
 pub mod Aims
 pub mod Needing
 pub mod Happening
-pub mod Turning
 pub mod Joining
 pub mod Lending
 pub mod Superiors

@@ -27,7 +27,8 @@ use Rattle.tip_machine.proofs.Walks.{found-number}
 use Rattle.tip_rules.specs.Growing.{CanGrow}
 use Rattle.tip_rules.specs.Needs.{MayJoin, begins_on, joined_by, room_needed, room_on}
 use Rattle.tip_rules.specs.Rooms.{TransactionRoom, room_for}
-use Rattle.tip_rules.specs.Works.{Held, HeldTransaction, is_keyed, is_named, key_queried, lines_as, lines_at, lines_for, lines_of, peer_of, work_of}
+use Rattle.tip_outlook.specs.Searches.{HeldTransaction, is_keyed, is_named}
+use Rattle.tip_rules.specs.Works.{Held, key_queried, lines_as, lines_at, lines_for, lines_of, peer_of, work_of}
 
 pub lines_there : (held : Held) (number place : ℕ) (item : Connection) → StandsAt held.connections held.realm (has_number number) place → item_at held.connections place ≡ Some item → (lines : ℕ) → lines ≡ lines_as item.role (work_of held).state → lines ≡ lines_at number (work_of held).state
 lines_there held number place item here is lines same = same ∙ sym (ap (λ o. option_map_or (λ c. lines_as c.role (work_of held).state) o 0) (standing_number held number place item here is))

@@ -13,7 +13,8 @@ use Rattle.tip_machine.specs.Requests.{added, hand_back, lost, opened}
 use Rattle.tip_machine.specs.States.{Work, connection_of, has_place, seated}
 use Rattle.tip_machine.specs.Types.{Connection, seen}
 use Rattle.tip_machine.specs.declared.event.Seat.{Seat}
-use Rattle.tip_rules.specs.Works.{beginning, counting, Does, Held, HeldTransaction, joining, realm_of, showing, work_of}
+use Rattle.tip_outlook.specs.Searches.{HeldTransaction}
+use Rattle.tip_rules.specs.Works.{beginning, counting, Does, Held, joining, realm_of, showing, work_of}
 use Rattle.tip_rules.proofs.Works.{then}
 
 -- the first that passes is found

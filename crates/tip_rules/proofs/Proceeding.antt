@@ -15,7 +15,8 @@ use Rattle.tip_machine.specs.States.{Work, transaction_of}
 use Rattle.tip_machine.specs.Transactions.{has_ready, is_spent}
 use Rattle.tip_machine.specs.Types.{PartyPlace, Transaction, seen}
 use Rattle.tip_machine.specs.declared.transaction.PartyPlace.TheVariants.{Here, Out, Spent}
-use Rattle.tip_rules.specs.Works.{Does, Held, HeldTransaction, work_of}
+use Rattle.tip_outlook.specs.Searches.{HeldTransaction}
+use Rattle.tip_rules.specs.Works.{Does, Held, work_of}
 use Rattle.tip_rules.proofs.Works.{may_entered, may_reacted, nothing, then}
 
 pub on_none : (key : Key) (rule : Transaction → Work → Work) (w : Work) → transaction_of key w.state ≡ None → on_key key rule w ≡ w

@@ -38,8 +38,9 @@ use Rattle.tip_rules.proofs.Responses.{goes_on}
 use Rattle.tip_rules.proofs.Works.{then}
 use Rattle.tip_rules.specs.Makings.{Made}
 use Rattle.tip_rules.specs.Pursuing.{asked_for, key_of, superior_in, superior_of, word_at, word_for}
-use Rattle.tip_rules.specs.Works.{Does, Held, is_keyed, work_of}
-use Rattle.tip_rules.specs.declared.noting.Note.TheVariants as note
+use Rattle.tip_outlook.specs.Searches.{is_keyed}
+use Rattle.tip_rules.specs.Works.{Does, Held, work_of}
+use Rattle.tip_outlook.specs.declared.noting.Note.TheVariants as note
 
 -- What it says
 

@@ -41,13 +41,13 @@ use Rattle.tip_machine.specs.declared.event.Heard.TheVariants.{Response}
 use Rattle.tip_machine.specs.declared.event.Outcome.{Outcome}
 use Rattle.tip_rules.proofs.Losing.{same_room, still_idle}
 use Rattle.tip_rules.proofs.Works.{may_idle, nothing, then, unaltered}
-use Rattle.tip_rules.specs.Noting.{awaits_of, exists_of, identifying, note_of, noted, noting_as, part_of, pulled_of, pulling, querying, responding, version_of}
-use Rattle.tip_rules.specs.declared.noting.Awaits.{Awaits}
-use Rattle.tip_rules.specs.declared.noting.Awaits.TheVariants as awaits
+use Rattle.tip_outlook.specs.Noting.{awaits_of, exists_of, identifying, note_of, noted, noting_as, part_of, pulled_of, pulling, querying, responding, version_of}
+use Rattle.tip_outlook.specs.declared.noting.Awaits.{Awaits}
+use Rattle.tip_outlook.specs.declared.noting.Awaits.TheVariants as awaits
 use Rattle.tip_rules.specs.Pursuing.{aimed_at, asked_for}
 use Rattle.tip_rules.specs.Works.{Does, Held, IsIdle, key_queried, lines_as, lines_at, lines_for, lines_queried, work_of}
-use Rattle.tip_rules.specs.declared.noting.Note.{Note}
-use Rattle.tip_rules.specs.declared.noting.Note.TheVariants as note
+use Rattle.tip_outlook.specs.declared.noting.Note.{Note}
+use Rattle.tip_outlook.specs.declared.noting.Note.TheVariants as note
 
 -- What a response is to
 

@@ -32,7 +32,8 @@ use Rattle.tip_machine.specs.declared.answer.Item.TheVariants.{Say}
 use Rattle.tip_machine.specs.declared.answer.Said.{Said}
 use Rattle.tip_machine.specs.declared.connection.Role.{Role}
 use Rattle.tip_rules.specs.Makings.{Made}
-use Rattle.tip_rules.specs.Works.{Does, is_keyed, Held, HeldTransaction, IsIdle, lines_for, MayDispatch, realm_of, work_of}
+use Rattle.tip_outlook.specs.Searches.{is_keyed, HeldTransaction}
+use Rattle.tip_rules.specs.Works.{Does, Held, IsIdle, lines_for, MayDispatch, realm_of, work_of}
 
 -- Steps in a row
 
@@ -276,12 +277,6 @@ module _ (reaction : Reaction) (key : Key) where
 pub gone_part : {A : Type 0} (found : Option (Bor A)) (there : Option A) → option_copied found ≡ there → is_some found ≡ false → there ≡ None
 gone_part None there same is = sym same
 gone_part (Some part) there same is = absurd (cc)
-
--- where there is no such part, none is changed
-pub no_part : (part : ℕ) (change : Participant → Participant) (parts : List Participant) → slice_get parts part ≡ None → changed_at_part part change parts ≡ parts
-no_part part change [] none = refl
-no_part zero change (p ∷ parts) none = absurd (cc)
-no_part (suc part) change (p ∷ parts) none = ap (λ ps. p ∷ ps) (no_part part change parts none)
 
 pub any_found : {T : Type 0} (test : T → Bool) (items : List T) → list_any test items ≡ is_some (find test items)
 any_found test [] = refl

@@ -8,7 +8,7 @@ use Rattle.tip_machine.specs.Transactions.{enlisting, is_active}
 use Rattle.tip_machine.specs.Types.{Transaction}
 use Rattle.tip_machine.specs.declared.connection.Role.{Role}
 use Rattle.tip_machine.specs.declared.connection.Role.TheVariants.{Subordinate, Superior}
-use Rattle.tip_rules.specs.Works.{HeldTransaction, is_named}
+use Rattle.tip_outlook.specs.Searches.{HeldTransaction, is_named}
 
 -- the transaction of this identifier, in a realm of that name, has room for one part more
 abbrev pub CanGrow : List ℕ → List ℕ → List HeldTransaction → Type 0

@@ -1,11 +1,7 @@
 pub mod Rooms
 pub mod Makings
-pub mod Turns
 pub mod Works
 pub mod Growing
 pub mod Reacting
-pub mod Noting
-pub mod Deciding
 pub mod Pursuing
-pub mod Wanting
 pub mod Needs

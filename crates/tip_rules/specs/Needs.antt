@@ -17,7 +17,8 @@ use Rattle.tip_machine.specs.declared.event.Outcome.{Outcome}
 use Rattle.tip_rules.specs.Growing.{CanGrow}
 use Rattle.tip_rules.specs.Pursuing.{word_at}
 use Rattle.tip_rules.specs.Rooms.{TransactionRoom, room_for}
-use Rattle.tip_rules.specs.Works.{Held, HeldTransaction, IsIdle, MayMake, lines_at, lines_of, lines_queried, peer_of, work_of}
+use Rattle.tip_outlook.specs.Searches.{HeldTransaction}
+use Rattle.tip_rules.specs.Works.{Held, IsIdle, MayMake, lines_at, lines_of, lines_queried, peer_of, work_of}
 
 -- how many lines and closings an answer may have: one for each connection on the transaction, and two on the event's own; the
 -- transaction that the connection asks for may be another

@@ -9,7 +9,7 @@ use Rattle.tip_machine.specs.Commands.{make}
 use Rattle.tip_machine.specs.Connections.{is_on}
 use Rattle.tip_machine.specs.Counts.{HasCounts}
 use Rattle.tip_machine.specs.States.{State, Work, connection_of, has_room, transaction_of}
-use Rattle.tip_machine.specs.Transactions.{has_id, has_key, is_known, next_key}
+use Rattle.tip_machine.specs.Transactions.{next_key}
 use Rattle.tip_machine.specs.Types.{Answer, Connection, PartyPlace, Transaction, seen}
 use Rattle.tip_machine.specs.declared.head.Head.{Head}
 use Rattle.tip_machine.specs.declared.connection.Awaited.{Awaited}
@@ -19,27 +19,16 @@ use Rattle.tip_machine.specs.declared.connection.Role.TheVariants.{Superior, Sub
 use Rattle.tip_machine.specs.declared.transaction.Origin.{Origin}
 use Rattle.tip_machine.specs.declared.transaction.Origin.TheVariants as origin
 use Rattle.tip_machine.specs.declared.transaction.PartyPlace.TheVariants.{Here, Out, Spent}
-use Rattle.tip_machine.specs.declared.transaction.Transaction as transaction
 use Rattle.tip_machine.specs.declared.event.Outcome.{Outcome}
 use Rattle.tip_machine.specs.declared.event.Seat.{Seat}
+use Rattle.tip_outlook.specs.Searches.{HeldTransaction}
 use Rattle.tip_rules.specs.Makings.{Made}
 use Rattle.tip_rules.specs.Rooms.{room_for}
 use Rattle.tip_rules.specs.declared.realms.Realms as realms
 use Rattle.tip_rules.specs.declared.work.Work as declared
 
-abbrev pub HeldTransaction : Type 0
-HeldTransaction = transaction.Transaction PartyNotes
-
 abbrev pub Held : Type 0
 Held = declared.Work Connection HeldTransaction Made
-
--- is this the transaction of that key?
-abbrev pub is_keyed : Key → HeldTransaction → Bool
-is_keyed key transaction = has_key key (seen transaction)
-
--- is this the transaction of that identifier, in a realm of that name?
-abbrev pub is_named : List ℕ → List ℕ → HeldTransaction → Bool
-is_named realm id transaction = has_id realm id (seen transaction)
 
 -- stands where there is no realm
 abbrev pub no_head : Head
@@ -52,10 +41,6 @@ no_head = record {
   given = 0;
   entries = 0;
 }
-
--- was this transaction pushed or pulled from that manager under that identifier, and has it no outcome yet?
-abbrev pub is_pushed : Option (List ℕ) → List ℕ → HeldTransaction → Bool
-is_pushed peer superior transaction = is_known peer superior (seen transaction)
 
 -- one realm
 abbrev pub realm_of : ℕ → Held → State

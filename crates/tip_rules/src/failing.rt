@@ -6,7 +6,8 @@ ghost use Rattle.tip_machine.specs.Connections.{has_number};
 ghost use Rattle.tip_machine.specs.Failing.{closed, fail, lost_unanswered, missed, part_lost, superior_lost, wrong};
 ghost use Rattle.tip_machine.specs.States.{connection_of, transaction_of};
 ghost use Rattle.tip_machine.specs.Types.{Connection as AConnection, Transaction as ATransaction};
-ghost use Rattle.tip_rules.specs.Works.{Does, is_keyed, IsIdle, lines_as, lines_at, lines_for, work_of};
+ghost use Rattle.tip_outlook.specs.Searches.{is_keyed};
+ghost use Rattle.tip_rules.specs.Works.{Does, IsIdle, lines_as, lines_at, lines_for, work_of};
 
 use crate::making::Making;
 use crate::work::{Work, has_answered};

@@ -6,14 +6,15 @@ ghost use Rattle.tip_machine.specs.Commands.{exists};
 ghost use Rattle.tip_machine.specs.Requests.{owner};
 ghost use Rattle.tip_machine.specs.States.{identified_by, transaction_of};
 ghost use Rattle.tip_machine.specs.Transactions.{is_known};
-ghost use Rattle.tip_rules.specs.Works.{is_keyed, is_named, work_of};
+ghost use Rattle.tip_outlook.specs.Searches.{is_keyed, is_named};
+ghost use Rattle.tip_rules.specs.Works.{work_of};
 
 use crate::making::Making;
-use crate::query::{Known, Named};
 use crate::work::Work;
 use tip_branch::HeldParty;
 use tip_line::{Address, Id, Realm};
 use tip_machine::{Connection, Transaction};
+use tip_outlook::{Known, Named};
 use tip_rows::Key;
 
 impl Work<Connection, Transaction, Making> {

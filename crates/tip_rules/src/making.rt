@@ -4,15 +4,15 @@ ghost use Rattle.tip_branch.specs.Always.{Always};
 ghost use Rattle.tip_machine.specs.Answers.{silence};
 ghost use Rattle.tip_machine.specs.Order.{in_turn};
 ghost use Rattle.tip_machine.specs.Steps.{returned};
-ghost use Rattle.tip_rules.specs.Turns.{turn_in};
+ghost use Rattle.tip_outlook.specs.Turns.{turn_in};
 
 use crate::transaction_room::TransactionRoom;
-use crate::turns::Turns;
 use std::alloc::{AllocError, Global};
 use std::marker::Model;
 use tip_branch::{HeldFresh, HeldParty};
 use tip_line::{Address, Id, Refusal};
 use tip_machine::{Answer, Event, Item, Seat, Sent, SentLines};
+use tip_outlook::Turns;
 
 /// Copies of words, for what is made of them.
 #[derive(Debug, Drop)]

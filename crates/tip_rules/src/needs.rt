@@ -12,7 +12,6 @@ ghost use Rattle.tip_rules.specs.Pursuing.{named_in, named_of, superior_in, supe
 ghost use Rattle.tip_rules.specs.Works.{key_queried, lines_as, lines_at, lines_for, lines_of, lines_queried, peer_of, work_of};
 
 use crate::making::{Making, Words};
-use crate::query::{Numbered, OnKey};
 use crate::reaching::subordinate_of;
 use crate::room::Room;
 use crate::transaction_room::TransactionRoom;
@@ -21,6 +20,7 @@ use std::alloc::{AllocError, Global};
 use tip_branch::HeldParty;
 use tip_line::{Address, Command, Id};
 use tip_machine::{Awaited, Change, Connection, Event, Heard, Origin, Purpose, Role, Transaction};
+use tip_outlook::{Numbered, OnKey};
 use tip_rows::Key;
 
 impl Work<Connection, Transaction, Making> {

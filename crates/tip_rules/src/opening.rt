@@ -11,11 +11,11 @@ ghost use Rattle.tip_machine.specs.Steps.{entered, is_open};
 ghost use Rattle.tip_rules.specs.Works.{connected, counting, Does, IsIdle, joining, lines_at, showing, work_of};
 
 use crate::making::Making;
-use crate::query::Numbered;
 use crate::work::Work;
 use tip_branch::HeldFresh;
 use tip_line::Refusal;
 use tip_machine::{Connection, Head, Seat, Transaction};
+use tip_outlook::Numbered;
 use tip_table::Table;
 
 impl Work<Connection, Transaction, Making> {

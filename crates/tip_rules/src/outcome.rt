@@ -10,15 +10,16 @@ ghost use Rattle.tip_machine.specs.Steps.{chosen};
 ghost use Rattle.tip_machine.specs.Transactions.{decision_of, is_done};
 ghost use Rattle.tip_machine.specs.Types.{seen, Transaction as ATransaction};
 ghost use Rattle.tip_machine.specs.declared.event.Change.{Change};
-ghost use Rattle.tip_rules.specs.Works.{Does, has_superior, is_keyed, IsIdle, lines_for, MayDispatch, work_of};
+ghost use Rattle.tip_outlook.specs.Searches.{is_keyed};
+ghost use Rattle.tip_rules.specs.Works.{Does, has_superior, IsIdle, lines_for, MayDispatch, work_of};
 
 use crate::making::Making;
-use crate::query::SuperiorOf;
 use crate::reaction::Reaction;
-use crate::work::{Work, is_spent};
+use crate::work::Work;
 use tip_branch::Errand;
 use tip_line::CommandName;
 use tip_machine::{Connection, Origin, Outcome, PartyPlace, Transaction};
+use tip_outlook::{SuperiorOf, is_spent};
 use tip_rows::Key;
 use tip_txn::{Decision, Phase};
 

@@ -12,16 +12,15 @@ ghost use Rattle.tip_machine.specs.States.{Attempt, connection_of, transaction_o
 ghost use Rattle.tip_machine.specs.Steps.{chosen};
 ghost use Rattle.tip_machine.specs.Types.{Connection as AConnection};
 ghost use Rattle.tip_machine.specs.declared.event.Change.{Change};
-ghost use Rattle.tip_rules.specs.Noting.{exists_of, querying};
+ghost use Rattle.tip_outlook.specs.Noting.{exists_of, querying};
 ghost use Rattle.tip_rules.specs.Works.{Does, IsIdle, lines_as, lines_at, lines_for, work_of};
 
 use crate::making::Making;
-use crate::noting::{ends, exists_of};
-use crate::query::SuperiorOf;
 use crate::reconnecting::is_prepared;
 use crate::work::Work;
 use tip_line::{CommandName, Response, ResponseName};
 use tip_machine::{Connection, Item, Outcome, Role, Transaction};
+use tip_outlook::{SuperiorOf, ends, exists_of};
 use tip_rows::Key;
 
 impl Work<Connection, Transaction, Making> {

@@ -11,15 +11,15 @@ ghost use Rattle.tip_machine.specs.Steps.{chosen};
 ghost use Rattle.tip_machine.specs.Transactions.{is_decided_at};
 ghost use Rattle.tip_machine.specs.Types.{Connection as AConnection, Transaction as ATransaction};
 ghost use Rattle.tip_machine.specs.declared.connection.Purpose.TheVariants.{Query as ToQuery};
-ghost use Rattle.tip_rules.specs.Noting.{identifying, version_of};
+ghost use Rattle.tip_outlook.specs.Noting.{identifying, version_of};
 ghost use Rattle.tip_rules.specs.Pursuing.{asked_for, key_of, superior_of, word_at};
 ghost use Rattle.tip_rules.specs.Works.{Does, IsIdle, lines_as, lines_at, work_of};
 
 use crate::making::Making;
-use crate::noting::{ends, version_of};
 use crate::work::Work;
 use tip_line::{Address, CommandName, Id, Response, ResponseName};
 use tip_machine::{Asked, Awaited, Connection, Origin, Purpose, Role, Transaction};
+use tip_outlook::{ends, version_of};
 use tip_rows::Key;
 
 impl Work<Connection, Transaction, Making> {

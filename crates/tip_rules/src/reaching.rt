@@ -13,17 +13,16 @@ ghost use Rattle.tip_machine.specs.Steps.{chosen};
 ghost use Rattle.tip_machine.specs.Transactions.{subordinate_of, willing_from};
 ghost use Rattle.tip_machine.specs.Types.{seen, Connection as AConnection};
 ghost use Rattle.tip_machine.specs.declared.connection.Purpose.TheVariants.{Reconnect as ToReach};
-ghost use Rattle.tip_rules.specs.Noting.{identifying, version_of};
+ghost use Rattle.tip_outlook.specs.Noting.{identifying, version_of};
 ghost use Rattle.tip_rules.specs.Pursuing.{aim_in, aimed_at, named_of, owed_in, word_at};
 ghost use Rattle.tip_rules.specs.Works.{Does, IsIdle, lines_as, lines_at, work_of};
 
 use crate::making::Making;
-use crate::noting::{ends, version_of};
-use crate::query::PartOf;
-use crate::returning::{is_committed, is_yes};
+use crate::returning::is_committed;
 use crate::work::Work;
 use tip_line::{Address, CommandName, Response, ResponseName};
 use tip_machine::{Asked, Awaited, Connection, Purpose, Role, Transaction};
+use tip_outlook::{PartOf, ends, is_yes, version_of};
 use tip_rows::Key;
 use tip_txn::{Part, Participant};
 

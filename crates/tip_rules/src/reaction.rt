@@ -9,6 +9,7 @@ use crate::making::Making;
 use tip_conn::State;
 use tip_line::CommandName;
 use tip_machine::{Asked, Awaited, Connection, Item, Role, Said};
+use tip_outlook::is_on;
 use tip_rows::Key;
 use tip_table::Visit;
 
@@ -160,25 +161,4 @@ impl Progress {
             making.tell(connection.number, Item::Ask(demand.asked(self.key)));
         }
     }
-}
-
-/// Whether a connection of this role is on the transaction of that key.
-pub fn is_on(role: Option<Role>, key: Key) -> bool
-    ensures { result ≡ names key role }
-{
-    match role {
-        Some(role) => is_of(role, key),
-        None => false,
-    }
-}
-
-/// Whether a role is one on the transaction of that key.
-fn is_of(role: Role, key: Key) -> bool
-    ensures { result ≡ names key (Some role) }
-{
-    let of = match role {
-        Role::Superior(of) => of,
-        Role::Subordinate { key: of, part: _ } => of,
-    };
-    of == key
 }

@@ -13,10 +13,10 @@ ghost use Rattle.tip_machine.specs.declared.answer.Item.TheVariants.{Close};
 ghost use Rattle.tip_rules.specs.Works.{Does, work_of};
 
 use crate::making::Making;
-use crate::query::{Numbered, SuperiorOf};
 use crate::work::Work;
 use tip_line::{CommandName, Id};
 use tip_machine::{Connection, Item, Role, Said, Transaction};
+use tip_outlook::{Numbered, SuperiorOf};
 use tip_rows::Key;
 use tip_txn::Phase;
 

@@ -14,15 +14,15 @@ ghost use Rattle.tip_machine.specs.Steps.{chosen};
 ghost use Rattle.tip_machine.specs.Transactions.{noting};
 ghost use Rattle.tip_machine.specs.Types.{Connection as AConnection};
 ghost use Rattle.tip_machine.specs.declared.event.Heard.TheVariants.{Response as AResponse};
-ghost use Rattle.tip_rules.specs.Noting.{identifying, note_of, noted, noting_as, pulled_of, pulling, responding, version_of};
+ghost use Rattle.tip_outlook.specs.Noting.{identifying, note_of, noted, noting_as, pulled_of, pulling, responding, version_of};
 ghost use Rattle.tip_rules.specs.Pursuing.{word_at};
 ghost use Rattle.tip_rules.specs.Works.{Does, IsIdle, lines_as, lines_at, lines_queried, work_of};
 
 use crate::making::Making;
-use crate::noting::{Awaits, Note, ends, pulled_of, version_of};
 use crate::work::Work;
 use tip_line::{CommandName, Response, ResponseName};
 use tip_machine::{Connection, Role, Transaction};
+use tip_outlook::{Awaits, Note, ends, pulled_of, version_of};
 use tip_rows::Key;
 use tip_txn::Part;
 

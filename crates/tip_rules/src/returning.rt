@@ -12,7 +12,8 @@ ghost use Rattle.tip_machine.specs.Types.{Transaction as ATransaction};
 ghost use Rattle.tip_machine.specs.Steps.{chosen};
 ghost use Rattle.tip_machine.specs.Transactions.{has_ready, is_committed, noting, party_answer, refuses, standing_at};
 ghost use Rattle.tip_machine.specs.declared.transaction.PartyPlace.TheVariants.{Here, Spent};
-ghost use Rattle.tip_rules.specs.Works.{Does, is_aborting, is_committing, is_keyed, is_voting, IsIdle, lines_for, lines_of, party_here, work_of};
+ghost use Rattle.tip_outlook.specs.Searches.{is_keyed};
+ghost use Rattle.tip_rules.specs.Works.{Does, is_aborting, is_committing, is_voting, IsIdle, lines_for, lines_of, party_here, work_of};
 
 use crate::making::Making;
 use crate::outcome::is_done;
@@ -21,6 +22,7 @@ use std::mem;
 use tip_branch::{Errand, HeldParty, Member};
 use tip_line::{Id, Refusal};
 use tip_machine::{Connection, PartyPlace, Transaction};
+use tip_outlook::{is_yes, refuses};
 use tip_rows::Key;
 use tip_txn::{Ballot, Part, Phase};
 
@@ -236,20 +238,6 @@ fn agree(members: &[Member]) -> bool
     ensures { result ≡ list_any (λ member. is_yes (ballot member)) members.now }
 {
     members.iter().any(|member| is_yes(member.ballot()))
-}
-
-/// Whether an answer refuses.
-pub(crate) fn refuses(answer: Option<Ballot>) -> bool
-    ensures { result ≡ refuses answer }
-{
-    matches!(answer, Some(Ballot::No | Ballot::Lost))
-}
-
-/// Whether an answer is a yes.
-pub(crate) fn is_yes(answer: Option<Ballot>) -> bool
-    ensures { result ≡ is_yes answer }
-{
-    answer == Some(Ballot::Yes)
 }
 
 /// Whether a party is out for its votes.

@@ -2,7 +2,6 @@
 ghost use Rattle.std.specs.Prelude.{◌≡◌, None, IfOk, ◌≤◌};
 ghost use Rattle.std.specs.Option.{option_copied};
 ghost use Rattle.tip_branch.specs.Always.{Always};
-ghost use Rattle.tip_machine.specs.Runs.{unstored_outcome};
 
 use crate::making::{Making, Words};
 use crate::transaction_room::TransactionRoom;
@@ -80,16 +79,6 @@ impl Room {
         ensures { option_copied result ≡ self.now.change }
     {
         self.change.as_ref()
-    }
-
-    /// The outcome where no rows are stored: a change that is wanted is refused.
-    pub fn unstored(&self) -> Outcome
-        ensures { result ≡ unstored_outcome self.now.change }
-    {
-        match self.change {
-            Some(_) => Outcome::Refused,
-            None => Outcome::NoChange,
-        }
     }
 
     /// The answer to be made, with its room, and the change.

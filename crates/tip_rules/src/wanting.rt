@@ -17,15 +17,13 @@ ghost use Rattle.tip_machine.specs.Transactions.{noting, standing_at};
 ghost use Rattle.tip_machine.specs.Types.{seen, Transaction as ATransaction};
 ghost use Rattle.tip_machine.specs.declared.transaction.PartyPlace.TheVariants.{Here, Spent};
 ghost use Rattle.tip_machine.specs.declared.event.Event.TheVariants.{Line, Resume, Settled, Voted};
-ghost use Rattle.tip_rules.specs.Noting.{exists_of, note_of, part_of};
-ghost use Rattle.tip_rules.specs.Wanting.{abort_for, answer_wanted, asked, command_wanted, foreseen, forgotten, hears_responses, is_admitted, line_wanted, of_superior, outlook, owed_then, query_wanted, response_wanted, resume_wanted, wanted_noting, wanted_of_part, wished};
-ghost use Rattle.tip_rules.specs.Works.{is_keyed, work_of};
+ghost use Rattle.tip_outlook.specs.Noting.{exists_of, note_of, part_of};
+ghost use Rattle.tip_outlook.specs.Wanting.{abort_for, answer_wanted, asked, command_wanted, foreseen, forgotten, hears_responses, is_admitted, line_wanted, of_superior, outlook, owed_then, query_wanted, response_wanted, resume_wanted, wanted_noting, wanted_of_part, wished};
+ghost use Rattle.tip_outlook.specs.Searches.{is_keyed};
+ghost use Rattle.tip_rules.specs.Works.{work_of};
 
 use crate::commands::superior_role;
 use crate::making::Making;
-use crate::noting::{Awaits, Note, exists_of};
-use crate::outlook::Outlook;
-use crate::query::{SuperiorOf, asks_for};
 use crate::reconnecting::is_prepared;
 use crate::returning::{answer_of, is_aborting, is_committed, is_committing, is_voting};
 use crate::work::{Work, has_ready};
@@ -34,6 +32,7 @@ use tip_branch::{HeldParty, Member};
 use tip_conn::{Admit, Side, State, Turn, admit, after_named};
 use tip_line::{Command, CommandName, Id, Response, ResponseName};
 use tip_machine::{Change, Connection, Event, Heard, PartyPlace, Role, Seat, Transaction};
+use tip_outlook::{Awaits, Note, Outlook, SuperiorOf, asks_for, exists_of};
 use tip_rows::Key;
 use tip_txn::{Ballot, Part, Phase};
 
@@ -181,7 +180,7 @@ impl Work<Connection, Transaction, Making> {
     }
 
     /// What will be owed to a transaction's superior, once this command came on the connection of a number.
-    #[tactic(auto, using(crate::proofs::Outlooks::owed_later))]
+    #[tactic(auto, using(crate::proofs::Ahead::owed_later))]
     fn owed_then(&self, command: CommandName, number: u32, key: Key) -> Option<CommandName>
         ensures { result ≡ owed_then command number key (work_of self.now).state }
     {
@@ -355,7 +354,7 @@ impl Work<Connection, Transaction, Making> {
     }
 
     /// What a vote wants: the row that all agree on.
-    #[tactic(auto, using(crate::proofs::Outlooks::voting_ahead))]
+    #[tactic(auto, using(crate::proofs::Ahead::voting_ahead))]
     fn wanted_by_vote(&self, alloc: Global, party: &HeldParty) -> Result<Option<Change>, AllocError>
         requires { self.now.realm < length self.now.heads.items }
         ensures { IfOk result
@@ -391,7 +390,7 @@ impl Work<Connection, Transaction, Making> {
     }
 
     /// What a party wants that was told the outcome: that the row is removed, where all have acknowledged.
-    #[tactic(auto, using(crate::proofs::Outlooks::settling_ahead))]
+    #[tactic(auto, using(crate::proofs::Ahead::settling_ahead))]
     fn wanted_by_settled(
         &self,
         alloc: Global,

@@ -12,15 +12,16 @@ ghost use Rattle.tip_rules.specs.Reacting.{reaction_of};
 ghost use Rattle.tip_machine.specs.States.{transaction_of};
 ghost use Rattle.tip_machine.specs.Transactions.{has_ready, is_spent, noting, standing_at};
 ghost use Rattle.tip_machine.specs.Types.{seen};
-ghost use Rattle.tip_rules.specs.Works.{Does, is_keyed, lines_for, MayDispatch, party_here, work_of};
+ghost use Rattle.tip_outlook.specs.Searches.{is_keyed};
+ghost use Rattle.tip_rules.specs.Works.{Does, lines_for, MayDispatch, party_here, work_of};
 
 use crate::making::Making;
-use crate::query::{Keyed, OnKey};
 use crate::reaction::{Progress, Reaction};
 use std::mem;
 use tip_branch::{Errand, HeldParty, Member};
 use tip_line::Id;
 use tip_machine::{Connection, Head, Item, Outcome, PartyPlace, Transaction};
+use tip_outlook::{Keyed, OnKey};
 use tip_rows::Key;
 use tip_table::Table;
 use tip_txn::{Ballot, Part, Phase, Txn};
@@ -234,13 +235,6 @@ pub(crate) fn has_ready(party: &HeldParty) -> bool
     ensures { result ≡ has_ready party.now }
 {
     party.party().members().iter().any(Member::is_ready)
-}
-
-/// Whether a party is done, and let go.
-pub(crate) fn is_spent(place: &PartyPlace) -> bool
-    ensures { result ≡ is_spent place.now }
-{
-    matches!(place, PartyPlace::Spent)
 }
 
 /// A part gives its answer, where there is such a part.

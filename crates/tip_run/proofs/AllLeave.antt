@@ -13,10 +13,8 @@ use Rattle.tip_machine.specs.States.{State}
 use Rattle.tip_machine.specs.declared.head.Head.{Head}
 use Rattle.tip_table.specs.Kept.{of}
 use Rattle.tip_run.proofs.Calling.{shown_on, shown_one}
-use Rattle.tip_run.proofs.Leaving.{drops_shown}
 use Rattle.tip_run.specs.Runs.{AreOfRealms, Running}
-use Rattle.tip_run.specs.Showing.{notes_of, outputs_of, shown_at}
-use Rattle.tip_run.specs.declared.noted.Noted.{Noted}
+use Rattle.tip_run.specs.Showing.{outputs_of, shown_at}
 use Rattle.tip_run.specs.declared.shown.Shown.{Shown}
 
 -- what the realm at a place lets go
@@ -70,13 +68,13 @@ none_of None none = refl
 none_of (Some state) none = absurd (none-some state.head (sym none))
 
 -- what a realm that is there lets go: the parties that are out, and then those that are here
-pub left_there : {S : Type 0} (running : Running S) (heads : List Head) (place : ℕ) (one : Shown) (out left : List Noted) → slice_get heads place ≡ option_map (λ (state : State). state.head) (realm running.host.core place) → place < length heads → outputs_of one ≡ flat_map (λ noted. drops_of (notes_of noted)) left → map notes_of out ≡ of running.out place →
-    ((state : State) → realm running.host.core place ≡ Some state → flat_map drops_of (map notes_of left) ≡ flat_map drops_of (map notes_of out) ++ drops_here state) → outputs_of one ≡ leaves running place
+pub left_there : {S : Type 0} (running : Running S) (heads : List Head) (place : ℕ) (one : Shown) (out left : List PartyNotes) → slice_get heads place ≡ option_map (λ (state : State). state.head) (realm running.host.core place) → place < length heads → outputs_of one ≡ flat_map drops_of left → out ≡ of running.out place →
+    ((state : State) → realm running.host.core place ≡ Some state → flat_map drops_of left ≡ flat_map drops_of out ++ drops_here state) → outputs_of one ≡ leaves running place
 left_there running heads place one out left same less shows are is = by (realm running.host.core place) refl where
   by : (found : Option State) → realm running.host.core place ≡ found → outputs_of one ≡ leaves running place
   by None none = absurd (within heads place less (same ∙ ap (option_map (λ (state : State). state.head)) none))
   by (Some state) there =
-      shows ∙ drops_shown left (map notes_of left) refl ∙ is state there
+      shows ∙ is state there
       ∙ ap (λ l. flat_map drops_of l ++ drops_here state) are
       ∙ ap (λ f. flat_map drops_of (of running.out place) ++ drops_in f) (sym there)
 

@@ -21,8 +21,7 @@ use Rattle.tip_rows.specs.Logs.{Log}
 use Rattle.tip_table.specs.Kept.{Kept, of}
 use Rattle.tip_run.proofs.Leaving.{spent_shown}
 use Rattle.tip_run.specs.Runs.{AreOfRealms, Comes, Happens, Loses, Running}
-use Rattle.tip_run.specs.Showing.{notes_of, outputs_of}
-use Rattle.tip_run.specs.declared.noted.Noted.{Noted}
+use Rattle.tip_run.specs.Showing.{outputs_of}
 use Rattle.tip_run.specs.declared.shown.Shown.{Shown}
 
 -- a realm that is not there was not there before
@@ -113,7 +112,7 @@ module _ {S : Type 0} (stands may_leave : S → Log → Type 0) (is_true : S →
   }
 
 -- the oldest party is let go
-pub has_lost : {S : Type 0} (old new : Around S) (place : ℕ) (found : Option PartyNotes) (one : Shown) (copies : List Noted) → is_some found ≡ true → new.core ≡ old.core → new.store ≡ old.store → IfSome found (λ party. old.out place ≡ party ∷ new.out place) → ((other : ℕ) → other ≢ place → new.out other ≡ old.out other) → one.realm ≡ place → outputs_of one ≡ flat_map (λ noted. drops_of (notes_of noted)) copies → map notes_of copies ≡ option_to_list found → Loses old new place (old.out place) (Some one)
+pub has_lost : {S : Type 0} (old new : Around S) (place : ℕ) (found : Option PartyNotes) (one : Shown) (copies : List PartyNotes) → is_some found ≡ true → new.core ≡ old.core → new.store ≡ old.store → IfSome found (λ party. old.out place ≡ party ∷ new.out place) → ((other : ℕ) → other ≢ place → new.out other ≡ old.out other) → one.realm ≡ place → outputs_of one ≡ flat_map drops_of copies → copies ≡ option_to_list found → Loses old new place (old.out place) (Some one)
 has_lost old new place None one copies some core store was others realm_is shows same = absurd (true≢false (sym some))
 has_lost old new place (Some party) one copies some core store was others realm_is shows same =
     subst (λ out. Loses old new place out (Some one)) (sym was) (record { core = core; store = store; was = was; others = others }, realm_is, shows ∙ spent_shown copies (Some party) same)

@@ -1,9 +1,9 @@
 //! A host that is run by a list of moves: each realm makes an honest run of its own machine, and agreement holds of it.
 #![tactic(auto)]
 
+mod copies;
 mod halt;
 mod moves;
-mod noted;
 mod restarting;
 mod run;
 mod running;
@@ -11,6 +11,5 @@ mod shown;
 
 pub use halt::{Halt, RunFault};
 pub use moves::Move;
-pub use noted::Noted;
 pub use running::Running;
 pub use shown::Shown;

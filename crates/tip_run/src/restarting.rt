@@ -10,14 +10,13 @@ ghost use Rattle.tip_machine.specs.States.{State};
 ghost use Rattle.tip_table.specs.Kept.{of};
 ghost use Rattle.tip_run.specs.Halts.{IsWhyNotRenewed, IsWhyNotRestarted};
 ghost use Rattle.tip_run.specs.Runs.{Renews, Restarts, around};
-ghost use Rattle.tip_run.specs.Showing.{notes_of, shown_at};
+ghost use Rattle.tip_run.specs.Showing.{shown_at};
 
 use crate::halt::RunFault;
-use crate::noted::Noted;
 use crate::running::Running;
 use crate::shown::Shown;
 use std::alloc::{AllocError, Global};
-use tip_branch::HeldPrepared;
+use tip_branch::{HeldPrepared, PartyNote};
 use tip_core::Core;
 use tip_machine::PartyPlace;
 use tip_rows::RowLog;
@@ -99,12 +98,17 @@ impl<S: RowLog + Drop> Running<S> {
     }
 
     /// Notes the parties that are out of a realm.
-    fn note_out(&self, alloc: Global, realm: usize, left: &mut Vec<Noted>) -> Result<(), AllocError>
+    fn note_out(
+        &self,
+        alloc: Global,
+        realm: usize,
+        left: &mut Vec<PartyNote>,
+    ) -> Result<(), AllocError>
         ensures { OnOk result
-            (map notes_of left.new.items ≡ map notes_of left.old.items ++ of self.now.out realm) }
+            (left.new.items ≡ left.old.items ++ of self.now.out realm) }
     {
         for party in self.out.items(realm) {
-            left.push(Noted::of(alloc, party)?)?;
+            left.push(PartyNote::of(alloc, party)?)?;
         }
         Ok(())
     }
@@ -115,15 +119,15 @@ fn note_here(
     alloc: Global,
     core: &Core,
     realm: usize,
-    left: &mut Vec<Noted>,
+    left: &mut Vec<PartyNote>,
 ) -> Result<(), AllocError>
     ensures { (state : State) → realm_at core.now realm ≡ Some state →
-        OnOk result (flat_map drops_of (map notes_of left.new.items)
-        ≡ flat_map drops_of (map notes_of left.old.items) ++ drops_here state) }
+        OnOk result (flat_map drops_of left.new.items
+        ≡ flat_map drops_of left.old.items ++ drops_here state) }
 {
     for transaction in core.transactions(realm) {
         if let PartyPlace::Here(party) = &transaction.place {
-            left.push(Noted::of(alloc, party)?)?;
+            left.push(PartyNote::of(alloc, party)?)?;
         }
     }
     Ok(())

@@ -6,8 +6,8 @@ ghost use Rattle.tip_table.specs.Kept.{of};
 ghost use Rattle.tip_run.specs.Halts.{IsWhyNotBack, IsWhyNotHappened, IsWhyNotLost, IsWhyNotStepped};
 ghost use Rattle.tip_run.specs.Runs.{Comes, Goes, Happens, Loses, around};
 
+use crate::copies::{brought, copies_of};
 use crate::halt::RunFault;
-use crate::noted::Noted;
 use crate::shown::Shown;
 use std::alloc::Global;
 use std::marker::Model;
@@ -121,7 +121,7 @@ impl<S: RowLog + Drop> Running<S> {
         if party.is_none() {
             return Ok(None);
         }
-        let left = Noted::all_of(alloc, &party)?;
+        let left = copies_of(alloc, &party)?;
         Ok(Some(Shown::leaving(alloc, realm, left)))
     }
 
@@ -132,7 +132,7 @@ impl<S: RowLog + Drop> Running<S> {
         ensures why { IfErr result (IsWhyNotHappened self.old.host.is_stopped) }
         ensures stopped { self.new.host.is_stopped ≡ self.old.host.is_stopped }
     {
-        let back = Noted::brought(alloc, &event)?;
+        let back = brought(alloc, &event)?;
         self.out.reserve()?;
         let happened = match self.host.step(alloc, realm, event) {
             Ok(happened) => happened,

@@ -4,11 +4,11 @@ ghost use Rattle.std.specs.List.{flat_map};
 ghost use Rattle.std.specs.Option.{option_map_or};
 ghost use Rattle.tip_machine.specs.Outputs.{brought, calls_of, drops_of, outputs};
 ghost use Rattle.tip_machine.specs.Types.{Event};
-ghost use Rattle.tip_run.specs.Showing.{notes_of, outputs_of};
+ghost use Rattle.tip_run.specs.Showing.{outputs_of};
 
-use crate::noted::Noted;
+use crate::copies::{copies_of, copy_of};
 use std::alloc::{AllocError, Global};
-use tip_branch::HeldParty;
+use tip_branch::{HeldParty, PartyNote};
 use tip_core::Happened;
 use tip_line::Refusal;
 use tip_machine::{Answer, Change, Outcome, Seat, SentLines};
@@ -23,7 +23,7 @@ pub struct Shown {
     /// A connection that was made.
     pub opened: Option<Seat>,
     /// The party that came back, with the calls that were made on its branches.
-    pub back: Option<Noted>,
+    pub back: Option<PartyNote>,
     /// The change of the realm's stored rows that was wanted.
     pub change: Option<Change>,
     /// What became of the change.
@@ -31,9 +31,9 @@ pub struct Shown {
     /// Lines and closings.
     pub sent: SentLines,
     /// The party that went out.
-    pub work: Option<Noted>,
+    pub work: Option<PartyNote>,
     /// Parties that were let go: their active branches were rolled back.
-    pub left: Vec<Noted>,
+    pub left: Vec<PartyNote>,
 }
 
 impl Shown {
@@ -41,13 +41,13 @@ impl Shown {
     pub(crate) fn of(
         alloc: Global,
         realm: usize,
-        back: Option<Noted>,
+        back: Option<PartyNote>,
         happened: Happened,
     ) -> Result<(Shown, Option<HeldParty>), AllocError>
         ensures work { IfOk result (λ shown. shown.1 ≡ happened.answer.work) }
         ensures realm { IfOk result (λ shown. shown.0.realm ≡ realm) }
         ensures shows { (event : Event) →
-            option_map_or (λ noted. calls_of (notes_of noted)) back [] ≡ brought event →
+            option_map_or calls_of back [] ≡ brought event →
             IfOk result (λ shown. outputs_of shown.0
             ≡ outputs event happened.change happened.outcome happened.answer) }
     {
@@ -72,17 +72,17 @@ impl Shown {
             change,
             outcome,
             sent,
-            work: Noted::of_any(alloc, &work)?,
-            left: Noted::all_of(alloc, &spent)?,
+            work: copy_of(alloc, &work)?,
+            left: copies_of(alloc, &spent)?,
         };
         Ok((shown, work))
     }
 
     /// A party of a realm was let go, and nothing else is shown.
-    pub(crate) fn leaving(alloc: Global, realm: usize, left: Vec<Noted>) -> Shown
+    pub(crate) fn leaving(alloc: Global, realm: usize, left: Vec<PartyNote>) -> Shown
         ensures realm { result.realm ≡ realm }
         ensures shows { outputs_of result
-            ≡ flat_map (λ noted. drops_of (notes_of noted)) left.items }
+            ≡ flat_map drops_of left.items }
     {
         Shown {
             realm,

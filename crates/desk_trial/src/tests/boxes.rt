@@ -1,7 +1,7 @@
 //! Boxes for connections and rows. Who makes them takes nothing that holds others: such a function would get no proof.
 ghost use Rattle.tip_branch.specs.Always.{Always};
 
-use branch_trial::probe::{Counters, Probe};
+use counting_branch::{Counters, Probe};
 use std::alloc::Global;
 use std::sync::Arc;
 use std::test::Fail;

@@ -4,7 +4,7 @@ ghost use Rattle.tip_branch.specs.Always.{Always};
 use super::boxes::{open, open_counted};
 use super::desks::{FIRST, opened};
 use super::serving::Serving;
-use branch_trial::probe::Counters;
+use counting_branch::Counters;
 use std::alloc::Global;
 use std::process::Abort;
 use std::sync::Arc;

@@ -3,9 +3,9 @@ use Rattle.tip_machine.specs.Order.{in_turn}
 use Rattle.tip_core.proofs.Naming.{still_named}
 use Rattle.tip_core.proofs.Stepping.{counted, hosted, needs, nowhere_steps, steps, there, turned_down}
 use Rattle.tip_core.specs.Hosted.{IsRoomFor}
-use Rattle.tip_rules.specs.Turns.{turn_in}
+use Rattle.tip_outlook.specs.Turns.{turn_in}
 use Rattle.tip_rules.specs.Works.{state_in}
-use Rattle.tip_rules.specs.declared.turns.Turn.{Turn}
+use Rattle.tip_outlook.specs.declared.turns.Turn.{Turn}
 use Rattle.tip_core.proofs.machine.Core.apply.Goals as goal
 
 pub returns-then-realm-len-clause-steps : goal.returns-then-realm-len-clause-steps

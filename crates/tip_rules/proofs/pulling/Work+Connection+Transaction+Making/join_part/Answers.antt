@@ -5,7 +5,8 @@ use Rattle.tip_machine.specs.States.{identified_by}
 use Rattle.tip_machine.specs.Types.{seen}
 use Rattle.tip_machine.specs.declared.connection.Role.TheVariants.{Subordinate}
 use Rattle.tip_rules.specs.Growing.{joined_as, joining_part}
-use Rattle.tip_rules.specs.Works.{Does, is_named, work_of}
+use Rattle.tip_outlook.specs.Searches.{is_named}
+use Rattle.tip_rules.specs.Works.{Does, work_of}
 use Rattle.tip_rules.proofs.Joining.{joins_as, joins_not, may_never, may_there, not_joins, part_joins}
 use Rattle.tip_rules.proofs.pulling.Work+Connection+Transaction+Making.join_part.Goals as goal
 

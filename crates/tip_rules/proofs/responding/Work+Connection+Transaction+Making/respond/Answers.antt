@@ -2,7 +2,7 @@ use Rattle.std.proofs.Common.{◌≡◌, ap, sym, ◌∙◌}
 use Rattle.std.proofs.lemmas.Option.{same_Some}
 use Rattle.tip_machine.specs.Types.{Connection}
 use Rattle.tip_rules.proofs.Responses.{answered_identified, answered_nothing, answered_part, answered_pull, answered_query, answered_to_ask, answered_to_reach}
-use Rattle.tip_rules.specs.Noting.{awaits_of}
+use Rattle.tip_outlook.specs.Noting.{awaits_of}
 use Rattle.tip_rules.proofs.responding.Work+Connection+Transaction+Making.respond.Goals as goal
 
 pub returns-in-OfPart : goal.returns-in-OfPart

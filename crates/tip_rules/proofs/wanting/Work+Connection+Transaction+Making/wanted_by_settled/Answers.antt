@@ -2,7 +2,7 @@ use Rattle.std.proofs.Common.{◌∙◌, ap, sym}
 use Rattle.std.proofs.lemmas.Result.{IfOk-weaker}
 use Rattle.tip_branch.specs.Notes.{PartyNotes}
 use Rattle.tip_machine.specs.Types.{seen}
-use Rattle.tip_rules.proofs.Outlooks.{back_aborted, back_spent, back_waiting}
+use Rattle.tip_rules.proofs.Ahead.{back_aborted, back_spent, back_waiting}
 use Rattle.tip_rules.specs.Works.{work_of}
 use Rattle.tip_rules.proofs.wanting.Work+Connection+Transaction+Making.wanted_by_settled.Goals as goal
 

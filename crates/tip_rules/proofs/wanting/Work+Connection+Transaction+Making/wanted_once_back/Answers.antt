@@ -5,7 +5,7 @@ use Rattle.tip_line.specs.declared.command.CommandName.{CommandName}
 use Rattle.tip_machine.specs.Types.{Transaction, seen}
 use Rattle.tip_machine.specs.Transactions.{standing_at}
 use Rattle.tip_machine.specs.declared.transaction.PartyPlace.TheVariants.{Here}
-use Rattle.tip_rules.specs.Wanting.{Outlook, outlook, wished}
+use Rattle.tip_outlook.specs.Wanting.{Outlook, outlook, wished}
 use Rattle.tip_rules.proofs.wanting.Work+Connection+Transaction+Making.wanted_once_back.Goals as goal
 
 pub returns : goal.returns

@@ -6,7 +6,7 @@ use Rattle.tip_machine.specs.Types.{Transaction, seen}
 use Rattle.tip_machine.specs.Transactions.{noting, standing_at}
 use Rattle.tip_txn.specs.Parts.{answered}
 use Rattle.tip_machine.specs.declared.transaction.PartyPlace.TheVariants.{Here}
-use Rattle.tip_rules.specs.Wanting.{Outlook, outlook, wished}
+use Rattle.tip_outlook.specs.Wanting.{Outlook, outlook, wished}
 use Rattle.tip_rules.proofs.wanting.Work+Connection+Transaction+Making.wanted_once_voted.Goals as goal
 
 pub returns : goal.returns

@@ -6,7 +6,6 @@ use Rattle.tip_machine.specs.States.{State}
 use Rattle.tip_table.specs.Kept.{of}
 use Rattle.tip_run.proofs.AllLeave.{all_left, left_there, leaves, none_left, one_more}
 use Rattle.tip_run.specs.Runs.{AreOfRealms, Running}
-use Rattle.tip_run.specs.Showing.{notes_of}
 use Rattle.tip_run.proofs.running.Running.all_leave.Goals as goal
 
 pub loop-realm-init : goal.loop-realm-init
@@ -20,7 +19,7 @@ loop-realm-preserved g c =
       left = rw (c.in_ok-push.ensures.items) (one_more (leaves c.args.self.now) here c.loop-realm.shown.items c.leaving.result c.loop-realm.invariant.left c.leaving.ensures.realm
           (left_there c.args.self.now heads here c.leaving.result c.note_out.new.left.items c.note_here.new.left.items
           (subst (λ (r : Running g.row.S.Denot). slice_get heads here ≡ option_map (λ (state : State). state.head) (realm r.host.core here)) c.self.view_is (c.heads-realm-end.ensures here)) c.loop-realm-test.true c.leaving.ensures.shows
-          (subst (λ l. map notes_of c.note_out.new.left.items ≡ map notes_of l ++ of c.args.self.now.out here) c.new-left.ensures.items c.in_ok-note_out.ensures)
+          (subst (λ l. c.note_out.new.left.items ≡ l ++ of c.args.self.now.out here) c.new-left.ensures.items c.in_ok-note_out.ensures)
           (λ state there. c.in_ok-note_here.ensures state (subst (λ (r : Running g.row.S.Denot). realm r.host.core here ≡ Some state) (sym c.self.view_is) there))));
       within = omega (arith, c.loop-realm-test.true);
     }

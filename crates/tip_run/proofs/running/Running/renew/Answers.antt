@@ -6,10 +6,8 @@ use Rattle.std.proofs.lemmas.Option.{same_Some}
 use Rattle.tip_core.specs.Hosted.{realm}
 use Rattle.tip_machine.specs.Moves.{drops_here}
 use Rattle.tip_machine.specs.Outputs.{drops_of}
-use Rattle.tip_run.proofs.Leaving.{drops_shown}
 use Rattle.tip_run.proofs.Starts.{has_renewed, reads}
 use Rattle.tip_run.specs.Runs.{around}
-use Rattle.tip_run.specs.Showing.{notes_of}
 use Rattle.tip_run.proofs.running.Running.renew.Goals as goal
 
 pub returns-clause-renews : goal.returns-clause-renews
@@ -26,8 +24,8 @@ returns-clause-renews g c = rw (← c.self.view_is) (has_renewed g.S.RowLog.stan
     c.in_default.ensures.names
     (λ other. refl)
     c.leaving.ensures.realm
-    (λ state there. c.leaving.ensures.shows ∙ drops_shown c.note_here.new.left.items (map notes_of c.note_here.new.left.items) refl ∙ c.in_ok-note_here.ensures state there
-    ∙ ap (λ l. flat_map drops_of (map notes_of l) ++ drops_here state) c.new-left.ensures.items))
+    (λ state there. c.leaving.ensures.shows ∙ c.in_ok-note_here.ensures state there
+    ∙ ap (λ l. flat_map drops_of l ++ drops_here state) c.new-left.ensures.items))
 
 pub returns-in-Err-clause-why : goal.returns-in-Err-clause-why
 returns-in-Err-clause-why g c = rw (← c.self.view_is) (c.doubts.new.self.store, λ none. same_Some _ _ (ap result_err (c.in-Err.ensures.absent none)), λ log state stood there truth. inl (c.in-Err.ensures.reason log state stood there truth))

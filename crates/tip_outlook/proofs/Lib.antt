@@ -1,0 +1,4 @@
+pub mod Turning
+pub mod Outlooks
+pub mod Subordinates
+pub mod Naming

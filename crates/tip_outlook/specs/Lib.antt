@@ -1,0 +1,5 @@
+pub mod Searches
+pub mod Turns
+pub mod Noting
+pub mod Deciding
+pub mod Wanting

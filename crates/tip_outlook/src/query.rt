@@ -1,0 +1,197 @@
+//! What is looked for in the tables.
+ghost use Rattle.std.specs.Prelude.{◌≡◌, ◌==◌, ◌&&◌, Some};
+ghost use Rattle.std.specs.Str.{bytes_eq};
+ghost use Rattle.tip_machine.specs.Answers.{identifier};
+ghost use Rattle.tip_machine.specs.Connections.{asks_for, has_number, is_on, is_part_of, is_superior_of, names, reaches};
+ghost use Rattle.tip_machine.specs.Transactions.{comes_from, is_undecided};
+ghost use Rattle.tip_outlook.specs.Searches.{is_keyed, is_named, is_pushed};
+
+use tip_line::{Address, Id, IdParts, Realm};
+use tip_machine::{Connection, Origin, Role, Transaction};
+use tip_rows::Key;
+use tip_table::Test;
+use tip_txn::{Part, Phase};
+
+/// The connection of a number.
+#[derive(Clone, Copy, Debug)]
+pub struct Numbered {
+    pub number: u32,
+}
+
+impl Test<Connection> for Numbered {
+    ghost passes = { λ query connection. has_number query.number connection };
+
+    fn passes(&self, connection: &Connection) -> bool {
+        connection.number == self.number
+    }
+}
+
+/// The transaction of a key.
+#[derive(Clone, Copy, Debug)]
+pub struct Keyed {
+    pub key: Key,
+}
+
+impl Test<Transaction> for Keyed {
+    ghost passes = { λ query transaction. is_keyed query.key transaction };
+
+    fn passes(&self, transaction: &Transaction) -> bool {
+        transaction.key == self.key
+    }
+}
+
+/// A connection that is on the transaction of a key.
+#[derive(Clone, Copy, Debug)]
+pub struct OnKey {
+    pub key: Key,
+}
+
+impl Test<Connection> for OnKey {
+    ghost passes = { λ query connection. is_on query.key connection };
+
+    fn passes(&self, connection: &Connection) -> bool {
+        is_on(connection.role, self.key)
+    }
+}
+
+/// The connection of the superior of a transaction.
+#[derive(Clone, Copy, Debug)]
+pub struct SuperiorOf {
+    pub key: Key,
+}
+
+impl Test<Connection> for SuperiorOf {
+    ghost passes = { λ query connection. is_superior_of query.key connection };
+
+    fn passes(&self, connection: &Connection) -> bool {
+        asks_for(connection.role, self.key)
+    }
+}
+
+/// Whether a connection of this role is the one of the superior of that transaction.
+pub fn asks_for(role: Option<Role>, key: Key) -> bool
+    ensures { result ≡ asks_for key role }
+{
+    role == Some(Role::Superior(key))
+}
+
+/// The connection of a part of a transaction.
+#[derive(Clone, Copy, Debug)]
+pub struct PartOf {
+    pub key: Key,
+    pub part: Part,
+}
+
+impl Test<Connection> for PartOf {
+    ghost passes = { λ query connection. is_part_of query.key query.part connection };
+
+    fn passes(&self, connection: &Connection) -> bool {
+        reaches(connection.role, self.key, self.part)
+    }
+}
+
+/// Whether a connection of this role is the one of that part.
+fn reaches(role: Option<Role>, key: Key, part: Part) -> bool
+    ensures { result ≡ reaches key part role }
+{
+    role == Some(Role::Subordinate { key, part })
+}
+
+/// The transaction of an identifier, in a realm of this name.
+#[derive(Clone, Copy, Debug)]
+pub struct Named<'a> {
+    pub realm: &'a Realm,
+    pub id: &'a Id,
+}
+
+impl Test<Transaction> for Named<'_> {
+    ghost passes = { λ query transaction. is_named query.realm.now query.id.now transaction };
+
+    fn passes(&self, transaction: &Transaction) -> bool {
+        is_of(self.realm, self.id, transaction.key)
+    }
+}
+
+/// A transaction that was pushed or pulled from the manager at an address, under this identifier, and has no outcome yet.
+#[derive(Clone, Copy, Debug)]
+pub struct Known<'a> {
+    pub peer: &'a Option<Address>,
+    pub superior: &'a Id,
+}
+
+impl Test<Transaction> for Known<'_> {
+    ghost passes = { λ query transaction. is_pushed query.peer.now query.superior.now transaction };
+
+    fn passes(&self, transaction: &Transaction) -> bool {
+        is_undecided(transaction.txn.phase())
+            && comes_from(&transaction.origin, self.peer, self.superior)
+    }
+}
+
+/// Whether a transaction has no outcome yet.
+fn is_undecided(phase: Phase) -> bool
+    ensures { result ≡ is_undecided phase }
+{
+    matches!(phase, Phase::Active | Phase::Asking | Phase::Prepared)
+}
+
+/// Whether a transaction has this superior, at the address of a peer that said one.
+fn comes_from(origin: &Origin, peer: &Option<Address>, superior: &Id) -> bool
+    ensures { result ≡ comes_from peer.now superior.now origin.now }
+{
+    match (origin, peer) {
+        (
+            Origin::Subordinate {
+                address: Some(address),
+                superior: id,
+            },
+            Some(peer),
+        ) => address == peer && superior == id,
+        _ => false,
+    }
+}
+
+/// Whether an identifier is that of a realm's transaction. It is taken apart, so that none is spelled.
+#[tactic(auto, using(crate::proofs::Naming::naming))]
+fn is_of(realm: &Realm, id: &Id, key: Key) -> bool
+    ensures { result ≡ bytes_eq id.now (identifier realm.now key) }
+{
+    let name = realm.as_str();
+    match id.parts() {
+        Some(parts) => is_made_of(parts, name, key),
+        None => false,
+    }
+}
+
+/// Whether an identifier was made of a realm's name and a key.
+fn is_made_of(parts: IdParts, realm: &str, key: Key) -> bool
+    ensures { result ≡ (bytes_eq parts.entry.realm.now realm.now
+        && (parts.entry.epoch == key.epoch && (parts.entry.connection == key.connection
+        && (parts.entry.number == key.number)))) }
+{
+    parts.realm == realm
+        && parts.epoch == key.epoch()
+        && parts.connection == key.connection()
+        && parts.number == key.number()
+}
+
+/// Whether a connection of this role is on the transaction of that key.
+pub fn is_on(role: Option<Role>, key: Key) -> bool
+    ensures { result ≡ names key role }
+{
+    match role {
+        Some(role) => is_role_on(role, key),
+        None => false,
+    }
+}
+
+/// Whether a role is one on the transaction of that key.
+fn is_role_on(role: Role, key: Key) -> bool
+    ensures { result ≡ names key (Some role) }
+{
+    let of = match role {
+        Role::Superior(of) => of,
+        Role::Subordinate { key: of, part: _ } => of,
+    };
+    of == key
+}
