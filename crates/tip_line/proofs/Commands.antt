@@ -1,42 +1,38 @@
 -- What is read of a text is the command that it is, and each refusal comes where it is said to.
 use Rattle.std.proofs.Common.{◌≡◌, ◌≢◌, ◌⊎◌, inl, inr, ℕ, ◌<◌, ◌≤◌, List, [], ◌∷◌, length, Option, Some, None, Result, Ok, Err, IsOk, IfOk, IfErr, Bool, true, false, refl, sym, ap, ◌∙◌, subst, arith, lit<}
-use Rattle.std.specs.Option.{ok_or}
+use Rattle.std.specs.List.{find}
 use Rattle.std.specs.Str.{bytes_eq}
-use Rattle.std.proofs.lemmas.Slice.Eq.{bytes_eq-Decides}
-use Rattle.tip_line.specs.Texts.{is_plain, has_short_words, IsClean, words_in, ◌>>=◌, Gives}
+use Rattle.tip_line.specs.Named.{head_of}
+use Rattle.tip_line.specs.Texts.{is_plain, has_short_words, IsClean, ◌>>=◌, Gives}
 use Rattle.tip_line.specs.Version.{version_of}
 use Rattle.tip_line.specs.Words.{words_of}
-use Rattle.tip_line.specs.Command.{spelled, parameters_of, name_of, peer_of, HasParameters, IsCommand, HasBadVersion, Refuses, names, named, identify_from, command_from, command_in, command_of}
+use Rattle.tip_line.specs.Command.{spelled, parameters_of, name_of, peer_of, HasParameters, IsCommand, HasBadVersion, Refuses, names, identify_from, command_from, command_of}
 use Rattle.tip_line.specs.declared.command.CommandName.{CommandName}
 use Rattle.tip_line.specs.declared.command.CommandName.TheVariants as name
 use Rattle.tip_line.specs.declared.command.Command.{Command}
 use Rattle.tip_line.specs.declared.command.Command.TheVariants.{Identify, Begin, Push, Pull, Prepare, Commit, Abort, Query, Reconnect, Multiplex, Tls, Error}
 use Rattle.tip_line.specs.declared.fault.ParseFault.{ParseFault}
 use Rattle.tip_line.specs.declared.fault.ParseFault.TheVariants as fault
-use Rattle.tip_line.proofs.Texts.{find_passes, clean_words, unplain_words, long_words, gives_ok, gives_err}
+use Rattle.tip_line.proofs.Heads.{IsHead, head_read, head_unknown, is_head, refused_words}
+use Rattle.tip_line.proofs.Texts.{unplain_words, long_words, gives_ok, gives_err}
 
-pub reading : (text : List ℕ) (words : List (List ℕ)) → words_in text ≡ Ok words → command_of text ≡ command_in words
+pub reading : (text : List ℕ) (head : Result (CommandName × List (List ℕ)) ParseFault) → head_of spelled names text ≡ head → command_of text ≡ (head >>= (λ h. command_from h.0 h.1))
 unfolding command_of
-reading text words e = ap (λ r. r >>= command_in) e
+reading text head e = ap (λ r. r >>= (λ h. command_from h.0 h.1)) e
 
-named-spelled : (n : CommandName) → named (spelled n) ≡ Some n
-unfolding named
-named-spelled name.Identify = refl
-named-spelled name.Begin = refl
-named-spelled name.Push = refl
-named-spelled name.Pull = refl
-named-spelled name.Prepare = refl
-named-spelled name.Commit = refl
-named-spelled name.Abort = refl
-named-spelled name.Query = refl
-named-spelled name.Reconnect = refl
-named-spelled name.Multiplex = refl
-named-spelled name.Tls = refl
-named-spelled name.Error = refl
-
-spelled-named : (word : List ℕ) (n : CommandName) → named word ≡ Some n → word ≡ spelled n
-unfolding named
-spelled-named word n e = sym ((bytes_eq-Decides (spelled n) word).0 (find_passes (λ m. bytes_eq (spelled m) word) names n e))
+finds : (n : CommandName) → find (λ m. bytes_eq (spelled m) (spelled n)) names ≡ Some n
+finds name.Identify = refl
+finds name.Begin = refl
+finds name.Push = refl
+finds name.Pull = refl
+finds name.Prepare = refl
+finds name.Commit = refl
+finds name.Abort = refl
+finds name.Query = refl
+finds name.Reconnect = refl
+finds name.Multiplex = refl
+finds name.Tls = refl
+finds name.Error = refl
 
 -- what a text is, by what is read of it
 abbrev Verdict : List ℕ → Result Command ParseFault → Type 0
@@ -86,44 +82,17 @@ name_verdict text name.Multiplex (a ∷ others) clean words = said text (a ∷ o
 name_verdict text name.Tls others clean words = said text others Tls clean words tt
 name_verdict text name.Error others clean words = said text others Error clean words tt
 
-with_name : (word : List ℕ) (n : CommandName) (others : List (List ℕ)) → named word ≡ Some n → command_in (word ∷ others) ≡ command_from n others
-unfolding command_in
-with_name word n others e = ap (λ m. ok_or m fault.Unknown >>= (λ name. command_from name others)) e
-
-without_name : (word : List ℕ) (others : List (List ℕ)) → named word ≡ None → command_in (word ∷ others) ≡ Err fault.Unknown
-unfolding command_in
-without_name word others e = ap (λ m. ok_or m fault.Unknown >>= (λ name. command_from name others)) e
-
-no_name : (word : List ℕ) (others : List (List ℕ)) → named word ≡ None → (n : CommandName) (behind : List (List ℕ)) → word ∷ others ≢ spelled n ∷ behind
-no_name word others none n behind e =
-    let same : word ≡ spelled n = cc in
-    let none_is : None ≡ Some n = sym none ∙ ap named same ∙ named-spelled n in
-    cc
-
-word_verdict : (text word : List ℕ) (others : List (List ℕ)) (n : Option CommandName) → named word ≡ n → IsClean text → words_of text ≡ word ∷ others → Verdict text (command_in (word ∷ others))
-word_verdict text word others (Some n) e clean words =
-    subst (Verdict text) (sym (with_name word n others e)) (name_verdict text n others clean (words ∙ ap (λ w. w ∷ others) (spelled-named word n e)))
-word_verdict text word others None e clean words =
-    subst (Verdict text) (sym (without_name word others e)) (clean, λ n behind same. no_name word others e n behind (sym words ∙ same))
-
-words_verdict : (text : List ℕ) (words : List (List ℕ)) → IsClean text → words_of text ≡ words → Verdict text (command_in words)
-unfolding command_in
-words_verdict text [] clean e = (clean, λ n behind same. let none : [] ≡ spelled n ∷ behind = sym e ∙ same in cc)
-words_verdict text (word ∷ others) clean e = word_verdict text word others (named word) refl clean e
-
-refused_words : (text : List ℕ) (f : ParseFault) → words_in text ≡ Err f → command_of text ≡ Err f
-unfolding command_of
-refused_words text f e = ap (λ r. r >>= command_in) e
-
-text_verdict : (text : List ℕ) (plain short : Bool) → is_plain text ≡ plain → has_short_words text ≡ short → Verdict text (command_of text)
-text_verdict text false short p s = subst (Verdict text) (sym (refused_words text fault.Octet (unplain_words text p))) p
-text_verdict text true false p s = subst (Verdict text) (sym (refused_words text fault.TooLong (long_words text p s))) (p, s)
-text_verdict text true true p s =
-    let clean : IsClean text = record { plain = p; short = s } in
-    subst (Verdict text) (sym (reading text (words_of text) (clean_words text clean))) (words_verdict text (words_of text) clean refl)
+head_verdict : (text : List ℕ) (head : Result (CommandName × List (List ℕ)) ParseFault) → IsHead spelled names finds text head → Verdict text (head >>= (λ h. command_from h.0 h.1))
+head_verdict text (Ok head) is = name_verdict text head.0 head.1 is.0 is.1
+head_verdict text (Err fault.Octet) is = is
+head_verdict text (Err fault.TooLong) is = is
+head_verdict text (Err fault.Unknown) is = is
+head_verdict text (Err fault.Missing) is = absurd is
+head_verdict text (Err fault.Number) is = absurd is
+head_verdict text (Err fault.Memory) is = absurd is
 
 verdict : (text : List ℕ) → Verdict text (command_of text)
-verdict text = text_verdict text (is_plain text) (has_short_words text) refl refl
+verdict text = subst (Verdict text) (sym (reading text (head_of spelled names text) refl)) (head_verdict text (head_of spelled names text) (is_head spelled names finds text))
 
 -- a command's name and parameters are read as that command
 parameters_read : (others : List (List ℕ)) (command : Command) → HasParameters others command → command_from (name_of command) others ≡ Ok command
@@ -142,21 +111,12 @@ parameters_read others Tls h = refl
 parameters_read others Error h = refl
 
 named_read : (text : List ℕ) (n : CommandName) (others : List (List ℕ)) → IsClean text → words_of text ≡ spelled n ∷ others → command_of text ≡ command_from n others
-named_read text n others clean words = reading text (words_of text) (clean_words text clean) ∙ ap command_in words ∙ with_name (spelled n) n others (named-spelled n)
+named_read text n others clean words = reading text (Ok (n, others)) (head_read spelled names finds text n others clean words)
 
 command_read : (text : List ℕ) (command : Command) → IsCommand text command → command_of text ≡ Ok command
 command_read text command is = named_read text (name_of command) is.others is.clean is.words ∙ parameters_read is.others command is.parameters
 
 -- a refusal that is due is what is read
-
-unknown_word : (word : List ℕ) (others : List (List ℕ)) (n : Option CommandName) → named word ≡ n → ((n : CommandName) (behind : List (List ℕ)) → word ∷ others ≢ spelled n ∷ behind) → command_in (word ∷ others) ≡ Err fault.Unknown
-unknown_word word others (Some n) e other = absurd (other n others (ap (λ w. w ∷ others) (spelled-named word n e)))
-unknown_word word others None e other = without_name word others e
-
-unknown_read : (text : List ℕ) (words : List (List ℕ)) → words_of text ≡ words → ((n : CommandName) (behind : List (List ℕ)) → words_of text ≢ spelled n ∷ behind) → command_in words ≡ Err fault.Unknown
-unfolding command_in
-unknown_read text [] e other = refl
-unknown_read text (word ∷ others) e other = unknown_word word others (named word) refl (λ n behind same. other n behind (e ∙ same))
 
 few_identify : (others : List (List ℕ)) → length others < 4 → identify_from others ≡ Err fault.Missing
 unfolding identify_from
@@ -206,9 +166,9 @@ unfolding command_from
 identify_is others = refl
 
 refusal_read : (text : List ℕ) (f : ParseFault) → f ≢ fault.Memory → Refuses text f → command_of text ≡ Err f
-refusal_read text fault.Octet counts p = refused_words text fault.Octet (unplain_words text p)
-refusal_read text fault.TooLong counts p = refused_words text fault.TooLong (long_words text p.0 p.1)
-refusal_read text fault.Unknown counts p = reading text (words_of text) (clean_words text p.0) ∙ unknown_read text (words_of text) refl p.1
+refusal_read text fault.Octet counts p = reading text (Err fault.Octet) (refused_words spelled names text fault.Octet (unplain_words text p))
+refusal_read text fault.TooLong counts p = reading text (Err fault.TooLong) (refused_words spelled names text fault.TooLong (long_words text p.0 p.1))
+refusal_read text fault.Unknown counts p = reading text (Err fault.Unknown) (head_unknown spelled names finds text p.0 p.1)
 refusal_read text fault.Missing counts p = named_read text p.1 p.2 p.0 p.3 ∙ few_read p.1 p.2 p.4
 refusal_read text fault.Number counts p = named_read text name.Identify p.1 p.0 p.2 ∙ identify_is p.1 ∙ bad_version p.1 p.3 p.4
 refusal_read text fault.Memory counts p = absurd (counts refl)

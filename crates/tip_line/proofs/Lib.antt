@@ -3,8 +3,9 @@ pub mod ReadingLemmas
 pub mod WordLemmas
 pub mod NumberLemmas
 pub mod TextLemmas
-pub mod Commands
 pub mod Texts
+pub mod Heads
+pub mod Commands
 pub mod Responses
 pub mod IdLemmas
 pub mod ReadingLaws

@@ -1,52 +1,48 @@
 -- What is read of a text is the response that it is, and each refusal comes where it is said to.
 use Rattle.std.proofs.Common.{◌≡◌, ◌≢◌, ◌⊎◌, ℕ, ◌<◌, List, [], ◌∷◌, length, Option, Some, None, Result, Ok, Err, IsOk, IfOk, IfErr, Bool, true, false, refl, sym, ap, ◌∙◌, subst, arith, lit<}
-use Rattle.std.specs.Option.{ok_or}
+use Rattle.std.specs.List.{find}
 use Rattle.std.specs.Str.{bytes_eq}
-use Rattle.std.proofs.lemmas.Slice.Eq.{bytes_eq-Decides}
-use Rattle.tip_line.specs.Texts.{is_plain, has_short_words, IsClean, words_in, ◌>>=◌, Gives}
+use Rattle.tip_line.specs.Named.{head_of}
+use Rattle.tip_line.specs.Texts.{is_plain, has_short_words, IsClean, ◌>>=◌, Gives}
 use Rattle.tip_line.specs.Version.{version_of}
 use Rattle.tip_line.specs.Words.{words_of}
-use Rattle.tip_line.specs.Response.{spelled, parameters_of, name_of, HasParameters, IsResponse, Refuses, names, named, identified_in, response_from, response_in, response_of}
+use Rattle.tip_line.specs.Response.{spelled, parameters_of, name_of, HasParameters, IsResponse, Refuses, names, identified_in, response_from, response_of}
 use Rattle.tip_line.specs.declared.response.ResponseName.{ResponseName}
 use Rattle.tip_line.specs.declared.response.ResponseName.TheVariants as name
 use Rattle.tip_line.specs.declared.response.Response.{Response}
 use Rattle.tip_line.specs.declared.response.Response.TheVariants.{Identified, NeedTls, Begun, NotBegun, Pushed, AlreadyPushed, NotPushed, Pulled, NotPulled, Prepared, ReadOnly, Committed, Aborted, QueriedExists, QueriedNotFound, Reconnected, NotReconnected, CantMultiplex, Multiplexing, CantTls, Tlsing, Error}
 use Rattle.tip_line.specs.declared.fault.ParseFault.{ParseFault}
 use Rattle.tip_line.specs.declared.fault.ParseFault.TheVariants as fault
-use Rattle.tip_line.proofs.Texts.{find_passes, clean_words, unplain_words, long_words, gives_ok, gives_err}
+use Rattle.tip_line.proofs.Heads.{IsHead, head_read, head_unknown, is_head, refused_words}
+use Rattle.tip_line.proofs.Texts.{unplain_words, long_words, gives_ok, gives_err}
 
-pub reading : (text : List ℕ) (words : List (List ℕ)) → words_in text ≡ Ok words → response_of text ≡ response_in words
+pub reading : (text : List ℕ) (head : Result (ResponseName × List (List ℕ)) ParseFault) → head_of spelled names text ≡ head → response_of text ≡ (head >>= (λ h. response_from h.0 h.1))
 unfolding response_of
-reading text words e = ap (λ r. r >>= response_in) e
+reading text head e = ap (λ r. r >>= (λ h. response_from h.0 h.1)) e
 
-named-spelled : (n : ResponseName) → named (spelled n) ≡ Some n
-unfolding named
-named-spelled name.Identified = refl
-named-spelled name.NeedTls = refl
-named-spelled name.Begun = refl
-named-spelled name.NotBegun = refl
-named-spelled name.Pushed = refl
-named-spelled name.AlreadyPushed = refl
-named-spelled name.NotPushed = refl
-named-spelled name.Pulled = refl
-named-spelled name.NotPulled = refl
-named-spelled name.Prepared = refl
-named-spelled name.ReadOnly = refl
-named-spelled name.Committed = refl
-named-spelled name.Aborted = refl
-named-spelled name.QueriedExists = refl
-named-spelled name.QueriedNotFound = refl
-named-spelled name.Reconnected = refl
-named-spelled name.NotReconnected = refl
-named-spelled name.CantMultiplex = refl
-named-spelled name.Multiplexing = refl
-named-spelled name.CantTls = refl
-named-spelled name.Tlsing = refl
-named-spelled name.Error = refl
-
-spelled-named : (word : List ℕ) (n : ResponseName) → named word ≡ Some n → word ≡ spelled n
-unfolding named
-spelled-named word n e = sym ((bytes_eq-Decides (spelled n) word).0 (find_passes (λ m. bytes_eq (spelled m) word) names n e))
+finds : (n : ResponseName) → find (λ m. bytes_eq (spelled m) (spelled n)) names ≡ Some n
+finds name.Identified = refl
+finds name.NeedTls = refl
+finds name.Begun = refl
+finds name.NotBegun = refl
+finds name.Pushed = refl
+finds name.AlreadyPushed = refl
+finds name.NotPushed = refl
+finds name.Pulled = refl
+finds name.NotPulled = refl
+finds name.Prepared = refl
+finds name.ReadOnly = refl
+finds name.Committed = refl
+finds name.Aborted = refl
+finds name.QueriedExists = refl
+finds name.QueriedNotFound = refl
+finds name.Reconnected = refl
+finds name.NotReconnected = refl
+finds name.CantMultiplex = refl
+finds name.Multiplexing = refl
+finds name.CantTls = refl
+finds name.Tlsing = refl
+finds name.Error = refl
 
 -- what a text is, by what is read of it
 abbrev Verdict : List ℕ → Result Response ParseFault → Type 0
@@ -93,44 +89,17 @@ name_verdict text name.CantTls others clean words = said text others CantTls cle
 name_verdict text name.Tlsing others clean words = said text others Tlsing clean words tt
 name_verdict text name.Error others clean words = said text others Error clean words tt
 
-with_name : (word : List ℕ) (n : ResponseName) (others : List (List ℕ)) → named word ≡ Some n → response_in (word ∷ others) ≡ response_from n others
-unfolding response_in
-with_name word n others e = ap (λ m. ok_or m fault.Unknown >>= (λ name. response_from name others)) e
-
-without_name : (word : List ℕ) (others : List (List ℕ)) → named word ≡ None → response_in (word ∷ others) ≡ Err fault.Unknown
-unfolding response_in
-without_name word others e = ap (λ m. ok_or m fault.Unknown >>= (λ name. response_from name others)) e
-
-no_name : (word : List ℕ) (others : List (List ℕ)) → named word ≡ None → (n : ResponseName) (behind : List (List ℕ)) → word ∷ others ≢ spelled n ∷ behind
-no_name word others none n behind e =
-    let same : word ≡ spelled n = cc in
-    let none_is : None ≡ Some n = sym none ∙ ap named same ∙ named-spelled n in
-    cc
-
-word_verdict : (text word : List ℕ) (others : List (List ℕ)) (n : Option ResponseName) → named word ≡ n → IsClean text → words_of text ≡ word ∷ others → Verdict text (response_in (word ∷ others))
-word_verdict text word others (Some n) e clean words =
-    subst (Verdict text) (sym (with_name word n others e)) (name_verdict text n others clean (words ∙ ap (λ w. w ∷ others) (spelled-named word n e)))
-word_verdict text word others None e clean words =
-    subst (Verdict text) (sym (without_name word others e)) (clean, λ n behind same. no_name word others e n behind (sym words ∙ same))
-
-words_verdict : (text : List ℕ) (words : List (List ℕ)) → IsClean text → words_of text ≡ words → Verdict text (response_in words)
-unfolding response_in
-words_verdict text [] clean e = (clean, λ n behind same. let none : [] ≡ spelled n ∷ behind = sym e ∙ same in cc)
-words_verdict text (word ∷ others) clean e = word_verdict text word others (named word) refl clean e
-
-refused_words : (text : List ℕ) (f : ParseFault) → words_in text ≡ Err f → response_of text ≡ Err f
-unfolding response_of
-refused_words text f e = ap (λ r. r >>= response_in) e
-
-text_verdict : (text : List ℕ) (plain short : Bool) → is_plain text ≡ plain → has_short_words text ≡ short → Verdict text (response_of text)
-text_verdict text false short p s = subst (Verdict text) (sym (refused_words text fault.Octet (unplain_words text p))) p
-text_verdict text true false p s = subst (Verdict text) (sym (refused_words text fault.TooLong (long_words text p s))) (p, s)
-text_verdict text true true p s =
-    let clean : IsClean text = record { plain = p; short = s } in
-    subst (Verdict text) (sym (reading text (words_of text) (clean_words text clean))) (words_verdict text (words_of text) clean refl)
+head_verdict : (text : List ℕ) (head : Result (ResponseName × List (List ℕ)) ParseFault) → IsHead spelled names finds text head → Verdict text (head >>= (λ h. response_from h.0 h.1))
+head_verdict text (Ok head) is = name_verdict text head.0 head.1 is.0 is.1
+head_verdict text (Err fault.Octet) is = is
+head_verdict text (Err fault.TooLong) is = is
+head_verdict text (Err fault.Unknown) is = is
+head_verdict text (Err fault.Missing) is = absurd is
+head_verdict text (Err fault.Number) is = absurd is
+head_verdict text (Err fault.Memory) is = absurd is
 
 verdict : (text : List ℕ) → Verdict text (response_of text)
-verdict text = text_verdict text (is_plain text) (has_short_words text) refl refl
+verdict text = subst (Verdict text) (sym (reading text (head_of spelled names text) refl)) (head_verdict text (head_of spelled names text) (is_head spelled names finds text))
 
 -- a response's name and parameters are read as that response
 parameters_read : (others : List (List ℕ)) (response : Response) → HasParameters others response → response_from (name_of response) others ≡ Ok response
@@ -159,21 +128,12 @@ parameters_read others Tlsing h = refl
 parameters_read others Error h = refl
 
 named_read : (text : List ℕ) (n : ResponseName) (others : List (List ℕ)) → IsClean text → words_of text ≡ spelled n ∷ others → response_of text ≡ response_from n others
-named_read text n others clean words = reading text (words_of text) (clean_words text clean) ∙ ap response_in words ∙ with_name (spelled n) n others (named-spelled n)
+named_read text n others clean words = reading text (Ok (n, others)) (head_read spelled names finds text n others clean words)
 
 response_read : (text : List ℕ) (response : Response) → IsResponse text response → response_of text ≡ Ok response
 response_read text response is = named_read text (name_of response) is.others is.clean is.words ∙ parameters_read is.others response is.parameters
 
 -- a refusal that is due is what is read
-
-unknown_word : (word : List ℕ) (others : List (List ℕ)) (n : Option ResponseName) → named word ≡ n → ((n : ResponseName) (behind : List (List ℕ)) → word ∷ others ≢ spelled n ∷ behind) → response_in (word ∷ others) ≡ Err fault.Unknown
-unknown_word word others (Some n) e other = absurd (other n others (ap (λ w. w ∷ others) (spelled-named word n e)))
-unknown_word word others None e other = without_name word others e
-
-unknown_read : (text : List ℕ) (words : List (List ℕ)) → words_of text ≡ words → ((n : ResponseName) (behind : List (List ℕ)) → words_of text ≢ spelled n ∷ behind) → response_in words ≡ Err fault.Unknown
-unfolding response_in
-unknown_read text [] e other = refl
-unknown_read text (word ∷ others) e other = unknown_word word others (named word) refl (λ n behind same. other n behind (e ∙ same))
 
 few_read : (n : ResponseName) (others : List (List ℕ)) → length others < parameters_of n → response_from n others ≡ Err fault.Missing
 unfolding response_from
@@ -209,9 +169,9 @@ unfolding response_from
 bad_version word others bad = rw bad
 
 refusal_read : (text : List ℕ) (f : ParseFault) → f ≢ fault.Memory → Refuses text f → response_of text ≡ Err f
-refusal_read text fault.Octet counts p = refused_words text fault.Octet (unplain_words text p)
-refusal_read text fault.TooLong counts p = refused_words text fault.TooLong (long_words text p.0 p.1)
-refusal_read text fault.Unknown counts p = reading text (words_of text) (clean_words text p.0) ∙ unknown_read text (words_of text) refl p.1
+refusal_read text fault.Octet counts p = reading text (Err fault.Octet) (refused_words spelled names text fault.Octet (unplain_words text p))
+refusal_read text fault.TooLong counts p = reading text (Err fault.TooLong) (refused_words spelled names text fault.TooLong (long_words text p.0 p.1))
+refusal_read text fault.Unknown counts p = reading text (Err fault.Unknown) (head_unknown spelled names finds text p.0 p.1)
 refusal_read text fault.Missing counts p = named_read text p.1 p.2 p.0 p.3 ∙ few_read p.1 p.2 p.4
 refusal_read text fault.Number counts p = named_read text name.Identified (p.1 ∷ p.2) p.0 p.3 ∙ bad_version p.1 p.2 p.4
 refusal_read text fault.Memory counts p = absurd (counts refl)

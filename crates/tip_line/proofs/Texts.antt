@@ -1,7 +1,7 @@
 -- The words of a text, or why there are none.
-use Rattle.std.proofs.Common.{◌≡◌, ℕ, List, [], ◌∷◌, Some, Result, Ok, Err, Bool, true, false, refl, sym, ap, ◌∙◌, ◌⊎◌, inl, inr, IsOk}
+use Rattle.std.proofs.Common.{◌≡◌, ◌≢◌, ℕ, List, [], ◌∷◌, Some, Result, Ok, Err, Bool, true, false, refl, sym, ap, subst, ◌∙◌, ◌⊎◌, inl, inr, IsErr, IsErrAnd, IsOk, MatchResult}
 use Rattle.std.specs.List.{find}
-use Rattle.tip_line.specs.Texts.{is_plain, has_short_words, IsClean, words_in, Gives}
+use Rattle.tip_line.specs.Texts.{is_plain, has_short_words, IsClean, IsUnclean, words_in, Fails, Gives}
 use Rattle.tip_line.specs.Words.{words_of}
 use Rattle.tip_line.specs.declared.fault.ParseFault.{ParseFault}
 use Rattle.tip_line.specs.declared.fault.ParseFault.TheVariants.{Octet, TooLong, Unknown, Missing, Number, Memory}
@@ -57,3 +57,28 @@ gives_err (Err TooLong) read f g e = sym g ∙ e
 gives_err (Err Unknown) read f g e = sym g ∙ e
 gives_err (Err Missing) read f g e = sym g ∙ e
 gives_err (Err Number) read f g e = sym g ∙ e
+
+fails_so : {A : Type 0} (f : ParseFault) (read : Result A ParseFault) → f ≢ Memory → read ≡ Err f → Fails f read
+fails_so Memory read counts e = absurd (counts refl)
+fails_so Octet read counts e = e
+fails_so TooLong read counts e = e
+fails_so Unknown read counts e = e
+fails_so Missing read counts e = e
+fails_so Number read counts e = e
+
+-- a refusal that is handed on
+pub gives_refused : {A : Type 0} (result : Result A ParseFault) (f : ParseFault) (read : Result A ParseFault) → IsErr result × IsErrAnd result (λ e. e ≡ f) → f ≢ Memory → read ≡ Err f → Gives result read
+gives_refused (Ok x) f read h counts e = absurd (cc)
+gives_refused (Err g) f read h counts e = subst (λ v. Fails v read) (sym h.1) (fails_so f read counts e)
+
+pub hands_on : {X : Type 0} (Q : X → Type 0) (P : ParseFault → Type 0) (result : Result X ParseFault) (f : ParseFault) → IsErr result × IsErrAnd result (λ e. e ≡ f) → P f → MatchResult result Q P
+hands_on Q P (Ok x) f h p = absurd (cc)
+hands_on Q P (Err g) f h p = subst P (sym h.1) p
+
+pub unclean_counts : (text : List ℕ) (f : ParseFault) → IsUnclean text f → f ≢ Memory
+unclean_counts text Memory is = absurd is
+unclean_counts text Octet is = λ e. absurd (cc)
+unclean_counts text TooLong is = λ e. absurd (cc)
+unclean_counts text Unknown is = absurd is
+unclean_counts text Missing is = absurd is
+unclean_counts text Number is = absurd is

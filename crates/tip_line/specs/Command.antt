@@ -4,7 +4,8 @@ use Rattle.std.specs.Option.{ok_or}
 use Rattle.std.specs.Fmt.{decimal}
 use Rattle.std.specs.List.{find, join_with_byte, list_all}
 use Rattle.std.specs.Str.{bytes_eq}
-use Rattle.tip_line.specs.Texts.{IsClean, IsUnclean, words_in, ◌>>=◌}
+use Rattle.tip_line.specs.Named.{head_of}
+use Rattle.tip_line.specs.Texts.{IsClean, IsUnclean, ◌>>=◌}
 use Rattle.tip_line.specs.Version.{version_of}
 use Rattle.tip_line.specs.Words.{is_word, words_of}
 use Rattle.tip_line.specs.declared.command.CommandName.{CommandName}
@@ -133,9 +134,6 @@ pub record CanBePrinted (command : Command) : Type 0 where
 abbrev pub names : List CommandName
 names = name.Identify ∷ name.Begin ∷ name.Push ∷ name.Pull ∷ name.Prepare ∷ name.Commit ∷ name.Abort ∷ name.Query ∷ name.Reconnect ∷ name.Multiplex ∷ name.Tls ∷ name.Error ∷ []
 
-unfoldable pub named : List ℕ → Option CommandName
-named word = find (λ name. bytes_eq (spelled name) word) names
-
 abbrev pub number_in : List ℕ → Result ℕ ParseFault
 number_in word = ok_or (version_of word) fault.Number
 
@@ -166,13 +164,7 @@ command_from name.Multiplex [] = Err fault.Missing
 command_from name.Tls words = Ok Tls
 command_from name.Error words = Ok Error
 
-unfoldable pub command_in : List (List ℕ) → Result Command ParseFault
-command_in [] = Err fault.Unknown
-command_in (word ∷ others) = do
-  name ← ok_or (named word) fault.Unknown
-  command_from name others
-
 unfoldable pub command_of : List ℕ → Result Command ParseFault
 command_of text = do
-  words ← words_in text
-  command_in words
+  head ← head_of spelled names text
+  command_from head.0 head.1

@@ -6,6 +6,7 @@ pub mod Words
 pub mod Ids
 pub mod Texts
 pub mod Version
+pub mod Named
 pub mod Command
 pub mod Response
 pub mod Refusal

@@ -4,7 +4,8 @@ use Rattle.std.specs.Fmt.{decimal}
 use Rattle.std.specs.List.{find, join_with_byte, list_all}
 use Rattle.std.specs.Option.{ok_or}
 use Rattle.std.specs.Str.{bytes_eq}
-use Rattle.tip_line.specs.Texts.{IsClean, IsUnclean, words_in, ◌>>=◌}
+use Rattle.tip_line.specs.Named.{head_of}
+use Rattle.tip_line.specs.Texts.{IsClean, IsUnclean, ◌>>=◌}
 use Rattle.tip_line.specs.Version.{version_of}
 use Rattle.tip_line.specs.Words.{is_word, words_of}
 use Rattle.tip_line.specs.declared.response.ResponseName.{ResponseName}
@@ -172,9 +173,6 @@ pub record CanBePrinted (response : Response) : Type 0 where
 abbrev pub names : List ResponseName
 names = name.Identified ∷ name.NeedTls ∷ name.Begun ∷ name.NotBegun ∷ name.Pushed ∷ name.AlreadyPushed ∷ name.NotPushed ∷ name.Pulled ∷ name.NotPulled ∷ name.Prepared ∷ name.ReadOnly ∷ name.Committed ∷ name.Aborted ∷ name.QueriedExists ∷ name.QueriedNotFound ∷ name.Reconnected ∷ name.NotReconnected ∷ name.CantMultiplex ∷ name.Multiplexing ∷ name.CantTls ∷ name.Tlsing ∷ name.Error ∷ []
 
-unfoldable pub named : List ℕ → Option ResponseName
-named word = find (λ name. bytes_eq (spelled name) word) names
-
 abbrev pub identified_in : List ℕ → Result Response ParseFault
 identified_in word = do
   version ← ok_or (version_of word) fault.Number
@@ -208,13 +206,7 @@ response_from name.CantTls words = Ok CantTls
 response_from name.Tlsing words = Ok Tlsing
 response_from name.Error words = Ok Error
 
-unfoldable pub response_in : List (List ℕ) → Result Response ParseFault
-response_in [] = Err fault.Unknown
-response_in (word ∷ others) = do
-  name ← ok_or (named word) fault.Unknown
-  response_from name others
-
 unfoldable pub response_of : List ℕ → Result Response ParseFault
 response_of text = do
-  words ← words_in text
-  response_in words
+  head ← head_of spelled names text
+  response_from head.0 head.1

@@ -1,16 +1,16 @@
 //! Commands, which the primary of a connection says (RFC 2371, section 13).
 ghost use Rattle.std.specs.Prelude.{◌≡◌, ◌≢◌, ◌⊎◌, Ok, Err, IfOk, IfErr, string_bytes};
-ghost use Rattle.std.specs.List.{find, list_all};
-ghost use Rattle.std.specs.Str.{bytes_eq};
+ghost use Rattle.std.specs.List.{list_all};
 ghost use Rattle.tip_line.specs.Words.{is_word, words_of};
 ghost use Rattle.tip_line.specs.Texts.{Gives};
-ghost use Rattle.tip_line.specs.Command.{spelled, named, name_of, IsCommand, Refuses, printed, command_of, command_from, identify_from};
+ghost use Rattle.tip_line.specs.Command.{spelled, name_of, IsCommand, Refuses, printed, command_of, command_from, identify_from};
 ghost use Rattle.tip_line.specs.declared.command.Command.{Command};
 ghost use Rattle.tip_line.specs.declared.fault.ParseFault.{ParseFault};
 ghost use Rattle.tip_line.specs.declared.fault.ParseFault.TheVariants.{Memory};
 
 use crate::fault::ParseFault;
 use crate::id::Id;
+use crate::named::{Name, named};
 use crate::parameters::{address_of, id_of, required, word_of};
 use crate::version::version_of;
 use crate::word::{Address, Word};
@@ -70,23 +70,15 @@ impl CommandName {
             CommandName::Error => "ERROR",
         }
     }
+}
 
-    /// The name that a word is, if it is one.
-    #[tactic(auto, unfolding(crate::specs::Command::named))]
-    fn of(word: &[u8]) -> Option<CommandName>
-        ensures { result ≡ named word.now }
-    {
-        CommandName::among(&CommandName::ALL, word)
-    }
+impl Name for CommandName {
+    ghost use Rattle.tip_line.specs.Command.{spelled};
 
-    /// The first of these names that a word is.
-    fn among(names: &[CommandName], word: &[u8]) -> Option<CommandName>
-        ensures { result ≡ find (λ name. bytes_eq (spelled name) word.now) names.now }
-    {
-        names
-            .iter()
-            .copied()
-            .find(|name| name.as_str().as_bytes() == word)
+    ghost spelled = { spelled };
+
+    fn spelling(self) -> &'static str {
+        self.as_str()
     }
 }
 
@@ -161,19 +153,13 @@ impl Command {
         Command::read(alloc, text)
     }
 
-    /// The same, step by step.
-    #[tactic(auto, using(crate::proofs::Commands::reading), unfolding(crate::specs::Command::command_of, crate::specs::Command::command_in))]
+    /// The command that a text is, by its name and the words behind it.
+    #[tactic(auto, using(crate::proofs::Commands::reading), unfolding(crate::specs::Command::command_of))]
     fn read(alloc: Global, text: &[u8]) -> Result<Command, ParseFault>
         ensures { Gives result (command_of text.now) }
     {
-        let mut words = Words::of(text)?;
-        let Some(word) = words.next() else {
-            return Err(ParseFault::Unknown);
-        };
-        match CommandName::of(word) {
-            Some(name) => Command::with_words(alloc, name, words),
-            None => Err(ParseFault::Unknown),
-        }
+        let (name, words) = named(&CommandName::ALL, text)?;
+        Command::with_words(alloc, name, words)
     }
 
     /// The command of a name and the words behind it.
@@ -295,7 +281,7 @@ impl Command {
     }
 }
 
-/// The same address, if there is one.
+/// A copy of the address that there may be.
 fn copied(address: &Option<Address>) -> Result<Option<Address>, AllocError>
     ensures { IfOk result (λ copy. copy ≡ address.now) }
 {

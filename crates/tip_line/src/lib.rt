@@ -8,6 +8,7 @@ mod fields;
 mod id;
 pub mod laws;
 mod lines;
+mod named;
 mod octets;
 mod parameters;
 mod realm;

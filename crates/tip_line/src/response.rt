@@ -1,16 +1,15 @@
 //! Responses, by which the secondary of a connection answers a command (RFC 2371, section 13).
 ghost use Rattle.std.specs.Prelude.{◌≡◌, ◌≢◌, ◌⊎◌, Ok, Err, IfOk, IfErr, string_bytes};
-ghost use Rattle.std.specs.List.{find};
-ghost use Rattle.std.specs.Str.{bytes_eq};
 ghost use Rattle.tip_line.specs.Words.{words_of};
 ghost use Rattle.tip_line.specs.Texts.{Gives};
-ghost use Rattle.tip_line.specs.Response.{spelled, named, name_of, IsResponse, Refuses, printed, response_of, response_from};
+ghost use Rattle.tip_line.specs.Response.{spelled, name_of, IsResponse, Refuses, printed, response_of, response_from};
 ghost use Rattle.tip_line.specs.declared.response.Response.{Response};
 ghost use Rattle.tip_line.specs.declared.fault.ParseFault.{ParseFault};
 ghost use Rattle.tip_line.specs.declared.fault.ParseFault.TheVariants.{Memory};
 
 use crate::fault::ParseFault;
 use crate::id::Id;
+use crate::named::{Name, named};
 use crate::parameters::{id_of, required};
 use crate::version::version_of;
 use crate::words::Words;
@@ -99,23 +98,15 @@ impl ResponseName {
             ResponseName::Error => "ERROR",
         }
     }
+}
 
-    /// The name that a word is, if it is one.
-    #[tactic(auto, unfolding(crate::specs::Response::named))]
-    fn of(word: &[u8]) -> Option<ResponseName>
-        ensures { result ≡ named word.now }
-    {
-        ResponseName::among(&ResponseName::ALL, word)
-    }
+impl Name for ResponseName {
+    ghost use Rattle.tip_line.specs.Response.{spelled};
 
-    /// The first of these names that a word is.
-    fn among(names: &[ResponseName], word: &[u8]) -> Option<ResponseName>
-        ensures { result ≡ find (λ name. bytes_eq (spelled name) word.now) names.now }
-    {
-        names
-            .iter()
-            .copied()
-            .find(|name| name.as_str().as_bytes() == word)
+    ghost spelled = { spelled };
+
+    fn spelling(self) -> &'static str {
+        self.as_str()
     }
 }
 
@@ -199,19 +190,13 @@ impl Response {
         Response::read(alloc, text)
     }
 
-    /// The same, step by step.
-    #[tactic(auto, using(crate::proofs::Responses::reading), unfolding(crate::specs::Response::response_of, crate::specs::Response::response_in))]
+    /// The response that a text is, by its name and the words behind it.
+    #[tactic(auto, using(crate::proofs::Responses::reading), unfolding(crate::specs::Response::response_of))]
     fn read(alloc: Global, text: &[u8]) -> Result<Response, ParseFault>
         ensures { Gives result (response_of text.now) }
     {
-        let mut words = Words::of(text)?;
-        let Some(word) = words.next() else {
-            return Err(ParseFault::Unknown);
-        };
-        match ResponseName::of(word) {
-            Some(name) => Response::with_words(alloc, name, words),
-            None => Err(ParseFault::Unknown),
-        }
+        let (name, words) = named(&ResponseName::ALL, text)?;
+        Response::with_words(alloc, name, words)
     }
 
     /// The response of a name and the words behind it.
