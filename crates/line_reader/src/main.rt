@@ -1,4 +1,5 @@
-//! Reads lines of the protocol from standard input and says what each is; with `--count` only how many of each.
+//! Reads lines of the protocol from standard input and says what each is; with `--count` only how many of each. Behind the word
+//! `row` stands the text of a stored row.
 #![tactic(auto)]
 
 ghost use Rattle.std.specs.Prelude.{length};
@@ -7,15 +8,20 @@ use std::alloc::Global;
 use std::env;
 use std::io::{self, BufWriter, Read, Write};
 use tip_line::{Command, Line, Lines, ParseFault, Refusal, Response};
+use tip_rows::{Row, RowFault};
 
 /// How many octets are read at once.
 const PIECE_LEN: usize = 1024;
+
+/// What stands before the text of a row.
+const ROW: &[u8] = b"row";
 
 /// How many lines were what.
 #[derive(Clone, Copy, Default)]
 struct Counts {
     commands: u64,
     responses: u64,
+    rows: u64,
     refused: u64,
 }
 
@@ -23,11 +29,15 @@ struct Counts {
 enum Verdict {
     Command(Command),
     Response(Response),
+    Row(Row),
     Refused(Refusal),
 }
 
-/// What a text is: a command, or else a response.
+/// What a text is: a row where it says so, else a command, or else a response.
 fn verdict_of(alloc: Global, text: &[u8]) -> Verdict {
+    if text.starts_with(ROW) {
+        return row_of(alloc, text[ROW.len()..].trim_ascii_start());
+    }
     match Command::parse(alloc, text) {
         Ok(command) => Verdict::Command(command),
         Err(ParseFault::Unknown) => match Response::parse(alloc, text) {
@@ -35,6 +45,15 @@ fn verdict_of(alloc: Global, text: &[u8]) -> Verdict {
             Err(fault) => Verdict::Refused(Refusal::from(fault)),
         },
         Err(fault) => Verdict::Refused(Refusal::from(fault)),
+    }
+}
+
+/// The row that a text is.
+fn row_of(alloc: Global, text: &[u8]) -> Verdict {
+    match Row::parse(alloc, text) {
+        Ok(row) => Verdict::Row(row),
+        Err(RowFault::BadRow) => Verdict::Refused(Refusal::BadRow),
+        Err(RowFault::Memory) => Verdict::Refused(Refusal::Memory),
     }
 }
 
@@ -56,6 +75,12 @@ fn report<W: Write>(
             counts.responses = counts.responses.saturating_add(1);
             if says {
                 writeln!(output, "response {response}")?;
+            }
+        }
+        Verdict::Row(row) => {
+            counts.rows = counts.rows.saturating_add(1);
+            if says {
+                writeln!(output, "row {row}")?;
             }
         }
         Verdict::Refused(refusal) => {
@@ -119,11 +144,12 @@ fn main(rt: HostRuntime) -> io::Result<()> {
     let Counts {
         commands,
         responses,
+        rows,
         refused,
     } = counts;
     writeln!(
         output,
-        "{commands} commands, {responses} responses, {refused} refused"
+        "{commands} commands, {responses} responses, {rows} rows, {refused} refused"
     )?;
     output.flush()
 }

@@ -1,5 +1,4 @@
 //! What no clause says. What is expected is what the two tables and the calls are said to be, and not what was once answered.
-mod calls;
 mod databases;
 mod listings;
 mod schemas;

@@ -31,7 +31,6 @@ use Rattle.tip_machine.specs.declared.transaction.Origin.{Origin}
 use Rattle.tip_machine.specs.declared.transaction.PartyPlace.TheVariants.{Here, Out, Spent}
 use Rattle.tip_table.proofs.Standing.{found as found_first}
 use Rattle.tip_outlook.specs.Wanting.{Outlook, agreed_change, away, back_at, foreseen, outlook, owed_then, pair_at, pairs_of, settled_wanted, vote_wanted, wished}
-use Rattle.tip_rules.specs.Works.{is_aborting, is_committing, is_voting}
 
 -- Outlooks
 

@@ -2,8 +2,8 @@
 ghost use Rattle.std.specs.Prelude.{◌≡◌, ◌==◌, ◌++◌, ◌∷◌, ◌-◌, ◌<◌, ◌≤◌, [], drop, take, length, if◌then◌else◌, map, IfOk, OnOk};
 ghost use Rattle.std.specs.List.{list_all, list_any};
 ghost use Rattle.std.specs.Option.{option_copied, option_to_list};
-ghost use Rattle.tip_txn.specs.Parts.{changed_at, is_settled};
-ghost use Rattle.tip_machine.specs.Transactions.{decision};
+ghost use Rattle.tip_txn.specs.Parts.{changed_at, is_settled, is_yes};
+ghost use Rattle.tip_machine.specs.Transactions.{decision, refuses};
 ghost use Rattle.tip_outlook.specs.Deciding.{is_sought, says};
 ghost use Rattle.tip_outlook.specs.Noting.{noted};
 ghost use Rattle.tip_outlook.specs.Wanting.{pairs_of};

@@ -2,7 +2,7 @@
 ghost use Rattle.std.specs.Prelude.{◌≡◌, None, Some, IfOk};
 ghost use Rattle.tip_line.specs.declared.command.CommandName.TheVariants.{Prepare};
 ghost use Rattle.tip_branch.specs.Notes.{PartyNotes};
-ghost use Rattle.tip_machine.specs.Transactions.{members_at, noting, standing_at};
+ghost use Rattle.tip_machine.specs.Transactions.{members_at, noting, standing_at, is_spent};
 ghost use Rattle.tip_txn.specs.Parts.{answered};
 ghost use Rattle.tip_machine.specs.Types.{seen};
 ghost use Rattle.tip_machine.specs.declared.event.Change.TheVariants.{Put};

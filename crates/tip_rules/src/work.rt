@@ -21,7 +21,7 @@ use std::mem;
 use tip_branch::{Errand, HeldParty, Member};
 use tip_line::Id;
 use tip_machine::{Connection, Head, Item, Outcome, PartyPlace, Transaction};
-use tip_outlook::{Keyed, OnKey};
+use tip_outlook::{Keyed, OnKey, is_spent};
 use tip_rows::Key;
 use tip_table::Table;
 use tip_txn::{Ballot, Part, Phase, Txn};

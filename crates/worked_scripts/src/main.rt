@@ -39,6 +39,3 @@ fn main(rt: HostRuntime) -> io::Result<ExitCode> {
         ExitCode::FAILURE
     })
 }
-
-#[cfg(test)]
-mod tests;

@@ -1,7 +1,24 @@
-//! What another hand stored: texts that are no rows, numbers and names out of range, and rows of version 1.
+//! What is stored, as numbers and texts; and what another hand stored: texts that are no rows, numbers and names out of range, and
+//! rows of version 1.
 use super::databases::{answered, answered_and_left};
 use super::steps::Step::{Faults, Know, Load, Put, Raise, RaiseAll, Realms, Remove};
 use std::test::Fail;
+
+#[test]
+fn what_is_stored_are_numbers_and_texts(rt: HostRuntime) -> Result<(), Fail> {
+    let steps = [
+        Know("north"),
+        RaiseAll,
+        Put("north", (1, 10, 4294967295), "2 C 1:b1 p.x p7"),
+    ];
+    let query = "SELECT * FROM realm JOIN txn ON realm = name";
+    let (_, left) = answered_and_left(rt.alloc(), "", &steps, query)?;
+    assert_eq!(rt;
+        left.as_str(),
+        "north, 1, north, 1, 10, 4294967295, 2 C 1:b1 p.x p7"
+    );
+    Ok(())
+}
 
 #[test]
 fn a_text_that_is_no_row_spoils_its_realm_alone(rt: HostRuntime) -> Result<(), Fail> {

@@ -26,8 +26,6 @@ pub enum Call<'a> {
     Renew,
     /// North is taken through these acts, once the host has begun.
     Acts(&'a [Act]),
-    /// Whether rows with these branches wait in north, each behind its identifier, as both realms start.
-    Wait(&'a str),
     /// Whether this is stored, a start raises the epochs by one, and the rest goes on from there.
     GoOn(Stage),
 }
@@ -66,7 +64,6 @@ fn called<S: RowLog + Drop>(
         Call::Load => started(alloc, store),
         Call::Renew => renewed(alloc, store),
         Call::Acts(acts) => taken(alloc, store, acts),
-        Call::Wait(text) => waiting(alloc, store, text),
         Call::GoOn(stage) => going_on(alloc, store, &stage),
     }
 }
@@ -115,23 +112,6 @@ fn taken<S: RowLog + Drop>(
             Ok((Some(reached), host.shut()))
         }
         Beginning::Refused(store) => Ok((None, store)),
-    }
-}
-
-fn waiting<S: RowLog + Drop>(
-    alloc: Global,
-    store: S,
-    text: &str,
-) -> Result<(Option<Reached>, S), Fail>
-    requires { Always }
-{
-    match loaded(alloc, store)? {
-        Loading::Recovering(recovering) => {
-            let waits = waits(alloc, recovering.in_doubt(NORTH), text)?;
-            let boxes = boxes::for_realms(alloc, &counts(alloc, recovering.realms())?)?;
-            Ok((waits, adopted(recovering, boxes)?.shut()))
-        }
-        Loading::Refused(store) => Ok((None, store)),
     }
 }
 

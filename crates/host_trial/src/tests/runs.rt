@@ -1,47 +1,17 @@
-//! What no clause says: that a run goes on to its end while memory is there, and where it halts.
+//! A run of moves goes on to its end while memory is there, and where it halts.
 
 ghost use Rattle.tip_branch.specs.Always.{Always};
 
+use super::boxes::{open, ready};
+use super::desks::{AGAIN, FIRST, NORTH, spec};
 use std::alloc::Global;
 use std::test::Fail;
-use tip_actor::Scripted;
-use tip_branch::{
-    Branch, Call, Errand, Fresh, HeldFresh, HeldPrepared, Phase, Plan, Prepared, Vote,
-};
+use tip_branch::{Call, Errand, Vote};
 use tip_core::Core;
-use tip_host::{Host, RealmSpec};
-use tip_line::{Address, Realm};
-use tip_machine::{Change, Event, Heard, Item, Limits, Outcome, Said, Seat};
-use tip_rows::{Branches, Label, MemRows, RowLog};
+use tip_host::Host;
+use tip_machine::{Change, Event, Heard, Item, Outcome, Said, Seat};
+use tip_rows::{MemRows, RowLog};
 use tip_run::{Halt, Move, RunFault, Running, Shown};
-
-/// The seat of the first connection in the first epoch.
-const FIRST: Seat = Seat {
-    epoch: 1,
-    number: 1,
-};
-
-/// The seat of the first connection in the second epoch.
-const AGAIN: Seat = Seat {
-    epoch: 2,
-    number: 1,
-};
-
-/// A realm of one branch.
-fn north(alloc: Global) -> Result<RealmSpec, Fail> {
-    let mut branches = Vec::new(alloc);
-    branches.push((1u8, Label::new(alloc, b"b1")?))?;
-    let limits = Limits {
-        connections: 8,
-        transactions: 8,
-        boxes: 8,
-        entries: 100,
-    };
-    let branches = Branches::new(branches).map_err(|_| "these are branches")?;
-    let name = Realm::new(alloc, b"north")?;
-    let address = Address::new(alloc, b"n.x")?;
-    Ok(RealmSpec::new(name, address, limits, branches).map_err(|_| "it may be hosted")?)
-}
 
 /// The realm at work, over rows in memory.
 fn begun(alloc: Global) -> Result<Running<MemRows>, Fail>
@@ -55,7 +25,7 @@ fn at_work<S: RowLog + Drop>(alloc: Global, rows: S) -> Result<Running<S>, Fail>
     requires { Always }
 {
     let mut specs = Vec::new(alloc);
-    specs.push(north(alloc)?)?;
+    specs.push(spec(alloc, "north", 100).ok_or("it may be hosted")?)?;
     match Host::load(alloc, rows, Core::new(alloc), specs) {
         Ok(recovering) => match recovering.begin() {
             Ok(host) => Ok(Running::new(alloc, host)),
@@ -65,26 +35,13 @@ fn at_work<S: RowLog + Drop>(alloc: Global, rows: S) -> Result<Running<S>, Fail>
     }
 }
 
-/// A box that promises to commit.
-fn willing(alloc: Global, phase: Phase) -> Result<Vec<Box<dyn Branch + Send>>, Fail>
-    requires { Always }
-{
-    let mut boxes: Vec<Box<dyn Branch + Send>> = Vec::new(alloc);
-    boxes.push(Box::new(alloc, Scripted::new(Plan::Yes, phase))?)?;
-    Ok(boxes)
-}
-
 /// A connection is opened, with one box.
-fn open(alloc: Global) -> Result<Move, Fail>
+fn connect(alloc: Global) -> Result<Move, Fail>
     requires { Always }
 {
-    let fresh = Fresh::of(willing(alloc, Phase::Active)?).map_err(|_| "it is fresh")?;
-    let lot = fresh.into_lot(alloc).map_err(|_| "memory is there")?;
     Ok(Move::Step {
-        realm: 0,
-        event: Event::Open {
-            boxes: HeldFresh::of(lot),
-        },
+        realm: NORTH,
+        event: open(alloc)?,
     })
 }
 
@@ -92,10 +49,8 @@ fn open(alloc: Global) -> Result<Move, Fail>
 fn restart(alloc: Global) -> Result<Move, Fail>
     requires { Always }
 {
-    let prepared = Prepared::of(willing(alloc, Phase::Ready)?).map_err(|_| "it is prepared")?;
-    let lot = prepared.into_lot(alloc).map_err(|_| "memory is there")?;
     let mut rows = Vec::new(alloc);
-    rows.push(HeldPrepared::of(lot))?;
+    rows.push(ready(alloc, 1)?)?;
     let mut boxes = Vec::new(alloc);
     boxes.push(rows)?;
     Ok(Move::Restart { boxes })
@@ -104,7 +59,7 @@ fn restart(alloc: Global) -> Result<Move, Fail>
 /// A line comes on a connection.
 fn line(alloc: Global, seat: Seat, text: &[u8]) -> Result<Move, Fail> {
     Ok(Move::Step {
-        realm: 0,
+        realm: NORTH,
         event: Event::Line {
             seat,
             heard: Heard::of(alloc, text)?,
@@ -117,7 +72,7 @@ fn lines(alloc: Global, seat: Seat, texts: &[&str]) -> Result<Vec<Move>, Fail>
     requires { Always }
 {
     let mut moves = Vec::new(alloc);
-    moves.push(open(alloc)?)?;
+    moves.push(connect(alloc)?)?;
     for text in texts {
         moves.push(line(alloc, seat, text.as_bytes())?)?;
     }
@@ -180,8 +135,8 @@ fn is_removed(shown: &Shown) -> bool {
 fn a_commit_is_told_once_its_row_is_stored(rt: HostRuntime) -> Result<(), Fail> {
     let alloc = rt.alloc();
     let mut moves = lines(alloc, FIRST, &["IDENTIFY 3 3 - -", "BEGIN", "COMMIT"])?;
-    moves.push(Move::Go { realm: 0 })?;
-    moves.push(Move::Go { realm: 0 })?;
+    moves.push(Move::Go { realm: NORTH })?;
+    moves.push(Move::Go { realm: NORTH })?;
     let (_, shown) = shown_by(alloc, begun(alloc)?, moves)?;
     assert_eq!(rt; shown.len(), 6);
     assert!(rt; goes_out(&shown[3], Errand::Vote));
@@ -197,7 +152,7 @@ fn prepared(alloc: Global) -> Result<Vec<Move>, Fail>
     requires { Always }
 {
     let mut moves = lines(alloc, FIRST, &["IDENTIFY 3 3 a.x -", "PUSH s1", "PREPARE"])?;
-    moves.push(Move::Go { realm: 0 })?;
+    moves.push(Move::Go { realm: NORTH })?;
     Ok(moves)
 }
 
@@ -211,7 +166,7 @@ fn a_row_in_doubt_outlives_a_restart(rt: HostRuntime) -> Result<(), Fail> {
     assert!(rt; is_put(&shown[4]) && says(&shown[4], Said::Prepared));
     let again = ["IDENTIFY 3 3 a.x -", "RECONNECT north-1-1-1", "ABORT"];
     let mut moves = lines(alloc, AGAIN, &again)?;
-    moves.push(Move::Go { realm: 0 })?;
+    moves.push(Move::Go { realm: NORTH })?;
     let (_, shown) = shown_by(alloc, running, moves)?;
     assert_eq!(rt; shown.len(), 5);
     assert!(rt; says(&shown[2], Said::Reconnected));
@@ -225,7 +180,7 @@ fn a_run_halts_where_boxes_do_not_fit(rt: HostRuntime) -> Result<(), Fail> {
     let alloc = rt.alloc();
     let mut moves = lines(alloc, FIRST, &["IDENTIFY 3 3 - -"])?;
     moves.push(restart(alloc)?)?;
-    moves.push(Move::Go { realm: 0 })?;
+    moves.push(Move::Go { realm: NORTH })?;
     let halt = halt_of(alloc, begun(alloc)?, moves)?;
     assert_eq!(rt; halt.shown.len(), 2);
     assert_eq!(rt; halt.place, 2);

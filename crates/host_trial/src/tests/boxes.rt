@@ -36,7 +36,7 @@ fn opening(alloc: Global, counters: &Arc<Counters>) -> Option<Event>
     })
 }
 
-/// The same.
+/// A connection is opened, with one box that counts its calls here, with ample memory.
 pub fn open_counted(alloc: Global, counters: &Arc<Counters>) -> Result<Event, Fail>
     requires { Always }
 {

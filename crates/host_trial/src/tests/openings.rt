@@ -44,17 +44,6 @@ fn fault_of(
     }
 }
 
-#[test]
-fn boxes_are_adopted_where_they_fit(rt: HostRuntime) -> Result<(), Fail> {
-    let alloc = rt.alloc();
-    let mut recovering = loaded(alloc, committed(alloc)?)?;
-    let fault = fault_of(alloc, &mut recovering, b"north-1-9-9", ready(alloc, 1)?)?;
-    assert_eq!(rt; fault, Some(AdoptFault::NotInDoubt));
-    let fault = fault_of(alloc, &mut recovering, b"north-1-1-1", ready(alloc, 2)?)?;
-    assert_eq!(rt; fault, Some(AdoptFault::WrongCount));
-    Ok(())
-}
-
 /// The realms come back from a desk that is not opened since a row waits.
 fn unopened(alloc: Global, recovering: Recovering<MemRows>) -> Result<Recovering<MemRows>, Fail>
     requires { Always }

@@ -1,7 +1,6 @@
 //! Long scripts, and input and output that are slow or fail.
-use super::*;
 use std::alloc::Global;
-use std::io::{BufReader, Error, ErrorKind, Read};
+use std::io::{self, BufReader, Error, ErrorKind, Read, Write};
 use std::test::Fail;
 use tip_play::{PlayFault, play};
 

@@ -1,4 +1,4 @@
-//! What no clause says: that a desk goes on while memory is there, and what its callers see of it. What is expected is what the
+//! What no clause says: that a desk and a run go on while memory is there, and what their callers see. What is expected is what the
 //! calls are said to do, and not what was once answered.
 mod boxes;
 mod commits;
@@ -7,5 +7,6 @@ mod ends;
 mod journals;
 mod openings;
 mod renewals;
+mod runs;
 mod serving;
 mod waiting;

@@ -23,12 +23,6 @@ pub const FIRST: Seat = Seat {
     number: 1,
 };
 
-/// The seat of the second connection in the first epoch.
-pub const SECOND: Seat = Seat {
-    epoch: 1,
-    number: 2,
-};
-
 /// The seat of the first connection in the second epoch.
 pub const AGAIN: Seat = Seat {
     epoch: 2,
@@ -36,7 +30,7 @@ pub const AGAIN: Seat = Seat {
 };
 
 /// A realm of one branch, with so many entries.
-fn spec(alloc: Global, name: &str, entries: u32) -> Option<RealmSpec> {
+pub fn spec(alloc: Global, name: &str, entries: u32) -> Option<RealmSpec> {
     let mut branches = Vec::new(alloc);
     branches.push((1u8, Label::new(alloc, b"b1").ok()?)).ok()?;
     let limits = Limits {
@@ -61,7 +55,7 @@ fn recovering(alloc: Global, rows: MemRows, entries: u32) -> Option<Recovering<M
     Host::load(alloc, rows, Core::new(alloc), specs).ok()
 }
 
-/// The same.
+/// They start, with ample memory.
 pub fn loaded(alloc: Global, rows: MemRows) -> Result<Recovering<MemRows>, Fail>
     requires { Always }
 {
@@ -81,7 +75,7 @@ fn at_desk(alloc: Global, recovering: Recovering<MemRows>) -> Option<Serving>
     }
 }
 
-/// The same.
+/// A desk over what was loaded, with ample memory.
 pub fn begun(alloc: Global, recovering: Recovering<MemRows>) -> Result<Serving, Fail>
     requires { Always }
 {

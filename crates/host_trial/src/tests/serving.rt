@@ -7,7 +7,7 @@ use std::alloc::{AllocError, Global};
 use std::slice::from_ref;
 use std::test::Fail;
 use tip_branch::HeldParty;
-use tip_desk::{Desk, Entry, PartyNote, Reply};
+use tip_desk::{Desk, Entry, Reply};
 use tip_host::{HostFault, RenewFault, are_untold, done};
 use tip_journal::{AuditFault, Pass, Reported};
 use tip_machine::{Event, Heard, Seat, Sent};
@@ -110,20 +110,8 @@ impl Serving {
         self.desk.take_out(realm, seat)
     }
 
-    /// Whether a line may be taken on a connection of a realm now.
-    pub fn may_take(&self, realm: usize, seat: Seat) -> bool {
-        self.desk.may_take(realm, seat)
-    }
-
     pub fn epoch(&self, realm: usize) -> Option<u32> {
         self.desk.epoch(realm)
-    }
-
-    /// What north would let go.
-    pub fn drops(&self, alloc: Global) -> Result<Vec<PartyNote>, AllocError>
-        requires { Always }
-    {
-        self.desk.drops(alloc, NORTH)
     }
 
     /// What is stored of north.
@@ -166,23 +154,6 @@ impl Serving {
             Err(AuditFault::Memory) => self.audit(alloc, passes),
             said => said,
         }
-    }
-
-    /// Whether there is an entry that stands in no pass, where this one is left out.
-    pub fn misses_its_pass(&self, alloc: Global) -> bool {
-        matches!(self.audit(alloc, &[]), Err(AuditFault::PassMismatch))
-    }
-
-    /// Whether the pass of whoever makes events at another desk does not have the entries made here.
-    pub fn refuses(&self, alloc: Global, other: &Serving) -> bool {
-        matches!(
-            self.audit(alloc, from_ref(&other.pass)),
-            Err(AuditFault::PassMismatch)
-        )
-    }
-
-    pub fn stop(&mut self) {
-        self.desk.stop();
     }
 
     /// The desk ends, and its rows come back.
