@@ -3,7 +3,8 @@ use Rattle.std.proofs.Common.{◌≡◌, ◌≤◌, ◌∙◌, ◌++◌, ℕ, su
 use Rattle.std.specs.Prelude.{slice_get, slice_set}
 use Rattle.std.proofs.lemmas.List.{append_assoc, append-nil}
 use Rattle.tip_actor.specs.Acting.{Acting, Done, Reading, feeds, heard_more, on_connection, on_reading, lines_of, reading_on}
-use Rattle.tip_actor.specs.Standing.{Actor, AreReadings, Host, IsActing, IsFed, IsReading, Keeping, Tells, gives}
+use Rattle.tip_actor.specs.Listening.{gives}
+use Rattle.tip_actor.specs.Standing.{Actor, AreReadings, Host, IsActing, IsFed, IsReading, Keeping, Tells}
 use Rattle.tip_actor.specs.declared.reader.Reader.{Reader}
 use Rattle.tip_actor.proofs.Doing.{stays}
 use Rattle.tip_actor.proofs.Hearing.{lines_behind}

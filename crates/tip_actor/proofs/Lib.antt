@@ -5,6 +5,7 @@ pub mod Serving
 pub mod Doing
 pub mod Leaving
 pub mod Taking
+pub mod Busy
 pub mod Counting
 pub mod Settling
 pub mod Connecting

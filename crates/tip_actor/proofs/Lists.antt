@@ -3,7 +3,8 @@ use Rattle.std.proofs.Common.{◌≡◌, ◌≢◌, ◌<◌, ◌≤◌, ◌++◌
 use Rattle.std.specs.Prelude.{slice_get, slice_set}
 use Rattle.std.proofs.lemmas.Option.{same_Some, none-some, slice_get_past, slice_get-get_or}
 use Rattle.tip_actor.specs.Acting.{Reading, forgotten, forgotten_at, lost_on, with_opened}
-use Rattle.tip_actor.specs.Standing.{AreReadings, IsReading, gives}
+use Rattle.tip_actor.specs.Listening.{gives}
+use Rattle.tip_actor.specs.Standing.{AreReadings, IsReading}
 use Rattle.tip_actor.specs.declared.reader.Reader.{Reader}
 use Rattle.tip_machine.specs.declared.event.Seat.{Seat}
 use Rattle.tip_line.specs.Reading.{items_of}

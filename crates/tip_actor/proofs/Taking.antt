@@ -1,6 +1,6 @@
 -- Lines that are taken one after another.
 use Rattle.std.proofs.Common.{◌≡◌, ◌∙◌, ◌++◌, ◌∷◌, [], ℕ, ◌<◌, ◌≤◌, ◌+◌, suc, zero, nat_lt, Bool, true, false, not, List, Some, None, length, drop, arith, refl, ap, sym, subst, inl, inr}
-use Rattle.std.specs.Prelude.{◌&&◌, slice_get, slice_set}
+use Rattle.std.specs.Prelude.{◌&&◌, Option, slice_get, slice_set}
 use Rattle.std.specs.List.{position, position_or_len}
 use Rattle.std.proofs.lemmas.Bool.{cases_eq}
 use Rattle.std.proofs.lemmas.Bool.Decides.{nat_tests}
@@ -14,7 +14,8 @@ use Rattle.tip_machine.specs.Types.{Event}
 use Rattle.tip_machine.specs.declared.event.Event.TheVariants as event
 use Rattle.tip_machine.specs.declared.event.Heard.{Heard}
 use Rattle.tip_actor.specs.Acting.{Acting, Reading, happens, is_next, is_waiting, lines_of, said_by, takes_at, takes_from, takes_on}
-use Rattle.tip_actor.specs.Standing.{Actor, AreReadings, Finds, gives, GivesNext, IsActor, IsReading, Owes, Says}
+use Rattle.tip_actor.specs.Listening.{gives, Says}
+use Rattle.tip_actor.specs.Standing.{Actor, AreReadings, Finds, FindsIn, GivesNext, IsActor, IsReading, Owes, TakesFirst}
 use Rattle.tip_actor.proofs.Lists.{partner, reading_at, readings_length, readings_set}
 use Rattle.tip_actor.specs.declared.reader.Reader.{Reader}
 
@@ -37,7 +38,7 @@ waits core place state reader reading here is waiting =
 free : (core : Hosted) (place : ℕ) (state : State) (reader : Reader) (reading : Reading) → realm core place ≡ Some state → IsReading reader reading → false ≡ must_wait_in reader.seat (realm core place) → must_wait_on (seated reading.seat state) ≡ false
 free core place state reader reading here is may = ap (λ s. must_wait_on (seated s state)) (sym is.0) ∙ sym (may ∙ ap (must_wait_in reader.seat) here)
 
-nothing_left : (reader : Reader) (items : List Item) (heard : List ℕ) → Owes reader items heard → gives reader [] ≡ [] → items ≡ []
+pub nothing_left : (reader : Reader) (items : List Item) (heard : List ℕ) → Owes reader items heard → gives reader [] ≡ [] → items ≡ []
 nothing_left reader [] heard owes none = refl
 nothing_left reader (x ∷ rest) heard owes none = absurd (let e = ap length (sym (owes []) ∙ none) in omega arith)
 
@@ -47,9 +48,9 @@ says_none core place state reader reader' reading here is may seat says =
     ((seat ∙ is.0, λ more. says.1 more ∙ is.1 more), rw (nothing_left reader reading.waiting reading.heard is.1 says.0) refl)
 
 -- the first of those that have come is taken
-pub says_one : (core : Hosted) (place : ℕ) (state : State) (reader reader' : Reader) (reading : Reading) (heard : Heard) (event_ : Event) → realm core place ≡ Some state → IsReading reader reading → false ≡ must_wait_in reader.seat (realm core place) → reader'.seat ≡ reader.seat → Says reader (Some heard) reader' → event_ ≡ event.Line reader.seat heard → GivesNext state reader' reading (Some event_)
-says_one core place state reader reader' reading heard event_ here is may seat says event_is = by reading.waiting refl is.1 where
-  by : (items : List Item) → reading.waiting ≡ items → Owes reader items reading.heard → GivesNext state reader' reading (Some event_)
+pub says_one : (core : Hosted) (place : ℕ) (state : State) (reader reader' : Reader) (reading : Reading) (heard : Heard) → realm core place ≡ Some state → IsReading reader reading → false ≡ must_wait_in reader.seat (realm core place) → reader'.seat ≡ reader.seat → Says reader (Some heard) reader' → GivesNext state reader' reading (Some heard)
+says_one core place state reader reader' reading heard here is may seat says = by reading.waiting refl is.1 where
+  by : (items : List Item) → reading.waiting ≡ items → Owes reader items reading.heard → GivesNext state reader' reading (Some heard)
   by [] waiting owes = absurd (let e = ap length (sym (says.2 []) ∙ owes [] ∙ no_lines reading.heard) in omega arith)
   by (x ∷ rest) waiting owes =
       let same = same_cons x says.0 (rest ++ lines_of reading.heard []) (gives reader' []) (sym (owes []) ∙ says.2 []) in (
@@ -57,7 +58,7 @@ says_one core place state reader reader' reading heard event_ here is may seat s
           item = x;
           items = rest;
           waits = waiting;
-          event_is = event_is ∙ ap (λ s. event.Line s heard) is.0 ∙ ap (event.Line reading.seat) (says.1 ∙ ap said_by (sym same.0));
+          heard_is = says.1 ∙ ap said_by (sym same.0);
           stands = (seat ∙ is.0, λ more. sym (same_cons x says.0 (rest ++ lines_of reading.heard more) (gives reader' more) (sym (owes more) ∙ says.2 more)).1);
         },
         rw (waiting, free core place state reader reading here is may) refl,
@@ -81,7 +82,7 @@ position_is p xs i x is passes before =
     let within : nat_lt i (length xs) ≡ true = let lt = slice_get_within xs i x is in grind (arith, nat_tests) in
     rw (at, within) refl
 
-position_none : {X : Type 0} (p : X → Bool) (xs : List X) → ((k : ℕ) (y : X) → k < length xs → slice_get xs k ≡ Some y → p y ≡ false) → position p xs ≡ None
+pub position_none : {X : Type 0} (p : X → Bool) (xs : List X) → ((k : ℕ) (y : X) → k < length xs → slice_get xs k ≡ Some y → p y ≡ false) → position p xs ≡ None
 position_none p xs fails =
     let at = none_passes p xs fails in
     let past : nat_lt (length xs) (length xs) ≡ false = grind (arith, nat_tests) in
@@ -93,45 +94,42 @@ set_itself (y ∷ xs) zero x is = ap (λ z. z ∷ xs) (sym (same_Some y x is))
 set_itself (y ∷ xs) (suc i) x is = ap (λ l. y ∷ l) (set_itself xs i x is)
 
 -- a reader more has no line that may be taken
-pub passes_on : (actor actor' : Actor) (acting : Acting) (index : ℕ) (reader reader' : Reader) → IsActor actor acting → ((k : ℕ) (reading : Reading) → k < index → slice_get acting.readings k ≡ Some reading → is_next acting.world.state reading ≡ false) → slice_get actor.readers.items index ≡ Some reader →
-    ((reading : Reading) → IsReading reader reading → GivesNext acting.world.state reader' reading None) →
-    actor'.name ≡ actor.name → actor'.is_due ≡ actor.is_due → actor'.errands ≡ actor.errands → actor'.readers.items ≡ slice_set actor.readers.items index reader' →
-    IsActor actor' acting × ((k : ℕ) (reading : Reading) → k < index + 1 → slice_get acting.readings k ≡ Some reading → is_next acting.world.state reading ≡ false)
-passes_on actor actor' acting index reader reader' is before here gives_none name due errands readers =
-    let mate = partner actor.readers.items acting.readings index reader (readings_length actor.readers.items acting.readings is.readings) here in
-    let none = gives_none mate.0 (reading_at actor.readers.items acting.readings index reader mate.0 is.readings here mate.1) in (
-      record {
-        name = name ∙ is.name;
-        errands = ap (λ q. q.items) errands ∙ is.errands;
-        due = due ∙ is.due;
-        readings = rw readers (subst (AreReadings (slice_set actor.readers.items index reader')) (set_itself acting.readings index mate.0 mate.1) (readings_set actor.readers.items acting.readings index reader' mate.0 is.readings none.0));
-      },
-      λ k reading lt at. elim (cases_eq k index) [
-        | inl same ↦ ap (is_next acting.world.state) (same_Some reading mate.0 (sym at ∙ ap (slice_get acting.readings) same ∙ mate.1)) ∙ none.1
-        | inr differ ↦ before k reading (omega (arith, differ)) at
-      ],
+pub passes_on : (state : State) (readers : List Reader) (readings : List Reading) (index : ℕ) (reader reader' : Reader) → AreReadings readers readings → slice_get readers index ≡ Some reader → ((reading : Reading) → IsReading reader reading → GivesNext state reader' reading None) →
+    AreReadings (slice_set readers index reader') readings × ((reading : Reading) → slice_get readings index ≡ Some reading → is_next state reading ≡ false)
+passes_on state readers readings index reader reader' are here gives_none =
+    let mate = partner readers readings index reader (readings_length readers readings are) here in
+    let none = gives_none mate.0 (reading_at readers readings index reader mate.0 are here mate.1) in (
+      subst (AreReadings (slice_set readers index reader')) (set_itself readings index mate.0 mate.1) (readings_set readers readings index reader' mate.0 are none.0),
+      λ reading at. ap (is_next state) (same_Some reading mate.0 (sym at ∙ mate.1)) ∙ none.1,
     )
 
 -- the first connection with a line that may be taken
-pub finds_one : (actor actor' : Actor) (acting : Acting) (index : ℕ) (reader reader' : Reader) (event_ : Event) → IsActor actor acting → ((k : ℕ) (reading : Reading) → k < index → slice_get acting.readings k ≡ Some reading → is_next acting.world.state reading ≡ false) → slice_get actor.readers.items index ≡ Some reader →
-    ((reading : Reading) → IsReading reader reading → GivesNext acting.world.state reader' reading (Some event_)) →
-    actor'.name ≡ actor.name → actor'.is_due ≡ actor.is_due → actor'.errands ≡ actor.errands → actor'.readers.items ≡ slice_set actor.readers.items index reader' →
-    Finds actor' acting (Some event_)
-finds_one actor actor' acting index reader reader' event_ is before here gives_one name due errands readers =
-    let mate = partner actor.readers.items acting.readings index reader (readings_length actor.readers.items acting.readings is.readings) here in
-    let one = gives_one mate.0 (reading_at actor.readers.items acting.readings index reader mate.0 is.readings here mate.1) in
-    let left = slice_set acting.readings index (record mate.0 { waiting = one.0.items }) in
+pub takes_first : (state : State) (readers : List Reader) (readings : List Reading) (index : ℕ) (reader reader' : Reader) (heard : Heard) (event_ : Event) → AreReadings readers readings → slice_get readers index ≡ Some reader → ((k : ℕ) (reading : Reading) → k < index → slice_get readings k ≡ Some reading → is_next state reading ≡ false) →
+    ((reading : Reading) → IsReading reader reading → GivesNext state reader' reading (Some heard)) → event_ ≡ event.Line reader'.seat heard → TakesFirst state readings (slice_set readers index reader') event_
+takes_first state readers readings index reader reader' heard event_ are here before gives_one event_is =
+    let mate = partner readers readings index reader (readings_length readers readings are) here in
+    let one = gives_one mate.0 (reading_at readers readings index reader mate.0 are here mate.1) in
     record {
-      readings = left;
-      stands = record {
-        name = name ∙ is.name;
-        errands = ap (λ q. q.items) errands ∙ is.errands;
-        due = due ∙ is.due;
-        readings = rw readers (readings_set actor.readers.items acting.readings index reader' (record mate.0 { waiting = one.0.items }) is.readings one.0.stands);
-      };
-      takes = ap (λ at. takes_at at acting) (position_is (is_next acting.world.state) acting.readings index mate.0 mate.1 one.1 before) ∙ ap (λ r. takes_on index r acting) mate.1 ∙ ap (λ l. takes_from index mate.0 l acting) one.0.waits ∙ ap (λ e. Some (happens e (record acting { readings = left }))) (sym one.0.event_is);
+      index = index;
+      reading = mate.0;
+      item = one.0.item;
+      items = one.0.items;
+      first = position_is (is_next state) readings index mate.0 mate.1 one.1 before;
+      there = mate.1;
+      waits = one.0.waits;
+      event_is = event_is ∙ ap (λ s. event.Line s heard) one.0.stands.0 ∙ ap (event.Line mate.0.seat) one.0.heard_is;
+      stands = readings_set readers readings index reader' (record mate.0 { waiting = one.0.items }) are one.0.stands;
     }
 
--- no connection has one
-pub finds_none : (actor : Actor) (acting : Acting) (index : ℕ) → IsActor actor acting → ((k : ℕ) (reading : Reading) → k < index → slice_get acting.readings k ≡ Some reading → is_next acting.world.state reading ≡ false) → length acting.readings ≤ index → Finds actor acting None
-finds_none actor acting index is before all = (ap (λ at. takes_at at acting) (position_none (is_next acting.world.state) acting.readings (λ k reading lt at. before k reading (omega (arith, all, lt)) at)), is)
+-- The realm, once its readers were asked
+
+pub finds_all : (actor actor' : Actor) (acting : Acting) (found : Option Event) → IsActor actor acting → actor'.name ≡ actor.name → actor'.is_due ≡ actor.is_due → actor'.errands ≡ actor.errands → FindsIn acting.world.state acting.readings actor'.readers.items found → Finds actor' acting found
+finds_all actor actor' acting None is name due errands finds =
+    (ap (λ at. takes_at at acting) finds.0, record { name = name ∙ is.name; errands = ap (λ q. q.items) errands ∙ is.errands; due = due ∙ is.due; readings = finds.1 })
+finds_all actor actor' acting (Some event_) is name due errands finds =
+    let left = slice_set acting.readings finds.index (record finds.reading { waiting = finds.items }) in
+    record {
+      readings = left;
+      stands = record { name = name ∙ is.name; errands = ap (λ q. q.items) errands ∙ is.errands; due = due ∙ is.due; readings = finds.stands };
+      takes = ap (λ at. takes_at at acting) finds.first ∙ ap (λ r. takes_on finds.index r acting) finds.there ∙ ap (λ l. takes_from finds.index finds.reading l acting) finds.waits ∙ ap (λ e. Some (happens e (record acting { readings = left }))) (sym finds.event_is);
+    }

@@ -1,4 +1,5 @@
 pub mod Faults
 pub mod Promises
 pub mod Acting
+pub mod Listening
 pub mod Standing

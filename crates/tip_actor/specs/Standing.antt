@@ -1,5 +1,6 @@
 -- How the code's values stand for a realm at work, over a store of any kind.
 use Rattle.std.specs.Prelude.{◌≡◌, ◌≢◌, ℕ, suc, List, [], ◌∷◌, ◌++◌, Bool, true, false, Option, Some, None, is_some, slice_get, slice_set}
+use Rattle.std.specs.List.{position}
 use Rattle.std.specs.Str.{bytes_eq}
 use Rattle.tip_core.specs.declared.happened.Happened as happenings
 use Rattle.tip_machine.specs.Moves.{rows_after}
@@ -9,7 +10,7 @@ use Rattle.tip_machine.specs.Types.{Answer, Event}
 use Rattle.tip_branch.specs.Notes.{PartyNotes}
 use Rattle.tip_core.specs.Hosted.{Hosted, HaveNames, realm}
 use Rattle.tip_host.specs.declared.host.Host as hosts
-use Rattle.tip_line.specs.Reading.{Item, items_of}
+use Rattle.tip_line.specs.Reading.{Item}
 use Rattle.tip_machine.specs.declared.event.Event.TheVariants as events
 use Rattle.tip_machine.specs.declared.event.Heard.{Heard}
 use Rattle.tip_rows.specs.Keys.{Key}
@@ -17,9 +18,8 @@ use Rattle.tip_rows.specs.Logs.{IsPart, Log}
 use Rattle.tip_rows.specs.declared.row.Row.{Row}
 use Rattle.tip_actor.specs.Acting.{Acting, Done, Reading, happens, heard_more, is_next, lines_of, outcome_of, reading_on, said_by, still_due, takes_next}
 use Rattle.tip_actor.specs.declared.actor.Actor as actors
+use Rattle.tip_actor.specs.Listening.{gives}
 use Rattle.tip_actor.specs.declared.reader.Reader.{Reader}
-use Rattle.tip_actor.specs.declared.reader.Stream.{Stream}
-use Rattle.tip_actor.specs.declared.reader.Stream.TheVariants.{Empty, Lines, Over}
 
 -- what a script relies on of a store: the logs for which it may stand, whether it may be relied on, and whether a realm's next
 -- change will be refused
@@ -40,21 +40,6 @@ Actor = actors.Actor PartyNotes
 
 abbrev pub Happened : Type 0
 Happened = happenings.Happened Answer
-
--- what a stream gives, where these octets are still to come
-abbrev pub given_of : Stream → List ℕ → List Item
-given_of Empty more = items_of more
-given_of (Lines lines) more = items_of (lines ++ more)
-given_of Over more = []
-
--- what a reader gives, where these octets are still to come
-abbrev pub gives : Reader → List ℕ → List Item
-gives reader more = given_of reader.stream more
-
--- what a reader says next, and what it gives then
-abbrev pub Says : Reader → Option Heard → Reader → Type 0
-Says old None new = (gives old [] ≡ []) × ((more : List ℕ) → gives new more ≡ gives old more)
-Says old (Some heard) new = (item : Item) × (heard ≡ said_by item) × ((more : List ℕ) → gives old more ≡ item ∷ gives new more)
 
 -- the reader gives these items, and then the lines that end behind what was heard
 abbrev pub Owes : Reader → List Item → List ℕ → Type 0
@@ -137,16 +122,32 @@ Tells kept host host' place actor actor' printed printed' false (Some done) = �
 Tells kept host host' place actor actor' printed printed' false None = printed' ≡ printed
 
 -- the first line that waits on a connection is taken
-pub record TakesLine (reader' : Reader) (reading : Reading) (event : Event) : Type 0 where
+pub record TakesLine (reader' : Reader) (reading : Reading) (heard : Heard) : Type 0 where
   pub item : Item
   pub items : List Item
   pub waits : reading.waiting ≡ item ∷ items
-  pub event_is : event ≡ events.Line reading.seat (said_by item)
+  pub heard_is : heard ≡ said_by item
   pub stands : IsReading reader' (record reading { waiting = items })
 
-abbrev pub GivesNext : State → Reader → Reading → Option Event → Type 0
+abbrev pub GivesNext : State → Reader → Reading → Option Heard → Type 0
 GivesNext state reader' reading None = IsReading reader' reading × (is_next state reading ≡ false)
-GivesNext state reader' reading (Some event) = TakesLine reader' reading event × (is_next state reading ≡ true)
+GivesNext state reader' reading (Some heard) = TakesLine reader' reading heard × (is_next state reading ≡ true)
+
+-- the first connection with a line that may be taken, and its line is taken
+pub record TakesFirst (state : State) (readings : List Reading) (readers' : List Reader) (event : Event) : Type 0 where
+  pub index : ℕ
+  pub reading : Reading
+  pub item : Item
+  pub items : List Item
+  pub first : position (is_next state) readings ≡ Some index
+  pub there : slice_get readings index ≡ Some reading
+  pub waits : reading.waiting ≡ item ∷ items
+  pub event_is : event ≡ events.Line reading.seat (said_by item)
+  pub stands : AreReadings readers' (slice_set readings index (record reading { waiting = items }))
+
+abbrev pub FindsIn : State → List Reading → List Reader → Option Event → Type 0
+FindsIn state readings readers' None = (position (is_next state) readings ≡ None) × AreReadings readers' readings
+FindsIn state readings readers' (Some event) = TakesFirst state readings readers' event
 
 -- the next line that may be taken: its event, and the realm without it
 pub record IsNextLine (actor' : Actor) (acting : Acting) (event : Event) : Type 0 where

@@ -8,7 +8,7 @@ ghost use Rattle.tip_actor.specs.Acting.{Acting, Reading, after_sent, answer_in,
 ghost use Rattle.tip_actor.specs.Standing.{Acts, AreReadings, IsActing, IsDone, IsServed, Serves, keeping};
 
 use crate::fault::ActFault;
-use crate::reader::Reader;
+use crate::readers::Readers;
 use crate::refusing::Refuser;
 use std::alloc::{AllocError, Global};
 use std::collections::VecDeque;
@@ -24,8 +24,8 @@ use tip_transcript::{print, print_brought};
 #[derive(Drop)]
 pub struct Actor<P = HeldParty> {
     pub name: Realm,
-    /// The reader of connection n is the one at index n - 1.
-    pub readers: Vec<Reader>,
+    /// Those of the connections that it has given since its start.
+    pub readers: Readers,
     /// The oldest first.
     pub errands: VecDeque<P>,
     /// The realm's next change of rows is to be refused.
@@ -44,7 +44,7 @@ impl Actor<HeldParty> {
     {
         Actor {
             name,
-            readers: Vec::new(alloc),
+            readers: Readers::new(alloc),
             errands,
             is_due: false,
         }
@@ -128,7 +128,7 @@ impl Actor<HeldParty> {
             OnOk result (AreReadings self.new.readers.items (with_opened opened readings)) }
     {
         if let Some(seat) = opened {
-            self.readers.push(Reader::new(seat))?;
+            self.readers.open(seat)?;
         }
         Ok(())
     }
@@ -154,11 +154,7 @@ impl Actor<HeldParty> {
         ensures readings { (readings : List Reading) → AreReadings self.old.readers.items readings →
             AreReadings self.new.readers.items (lost_on connection readings) }
     {
-        if let Some(index) = (connection as usize).checked_sub(1) {
-            if let Some(reader) = self.readers.get_mut(index) {
-                reader.restart();
-            }
-        }
+        self.readers.forget(connection);
     }
 }
 

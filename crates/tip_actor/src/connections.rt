@@ -30,14 +30,7 @@ impl Actor<HeldParty> {
             IfOk result (λ told. IsFed told connection (octets_of octets.entry) readings
             self.new.readers.items) }
     {
-        let Some(index) = (connection as usize).checked_sub(1) else {
-            return Ok(false);
-        };
-        let Some(reader) = self.readers.get_mut(index) else {
-            return Ok(false);
-        };
-        reader.feed(alloc, octets)?;
-        Ok(true)
+        self.readers.feed(alloc, connection, octets)
     }
 
     /// A connection is lost, and what was read on it, unless that is refused. It says whether the realm has given that connection.
@@ -129,7 +122,6 @@ impl Actor<HeldParty> {
         ensures { (readings : List Reading) → AreReadings self.now.readers.items readings →
             result ≡ option_map (λ reading. reading.seat) (reading_on connection readings) }
     {
-        let index = (connection as usize).checked_sub(1)?;
-        Some(self.readers.get(index)?.seat)
+        self.readers.seat(connection)
     }
 }

@@ -11,6 +11,7 @@ ghost use Rattle.tip_actor.specs.Acting.{Acting, restarts};
 ghost use Rattle.tip_actor.specs.Standing.{IsActing, keeping};
 
 use crate::actor::Actor;
+use crate::readers::Readers;
 use std::alloc::{AllocError, Global};
 use std::collections::VecDeque;
 use tip_branch::HeldParty;
@@ -51,7 +52,7 @@ impl Actor<HeldParty> {
         let Actor { name, is_due, .. } = self;
         Actor {
             name,
-            readers: Vec::new(alloc),
+            readers: Readers::new(alloc),
             errands: VecDeque::new(alloc),
             is_due,
         }

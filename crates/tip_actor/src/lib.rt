@@ -8,6 +8,7 @@ mod errands;
 mod fault;
 mod lines;
 mod reader;
+mod readers;
 mod refusing;
 mod scripted;
 

@@ -8,7 +8,6 @@ ghost use Rattle.tip_actor.specs.Standing.{Acts, Finds, GivesNext, IsActor, IsRe
 
 use crate::actor::Actor;
 use crate::fault::ActFault;
-use crate::reader::Reader;
 use std::alloc::{AllocError, Global};
 use tip_branch::HeldParty;
 use tip_core::Core;
@@ -52,31 +51,6 @@ impl Actor<HeldParty> {
         ensures { (acting : Acting) → realm_at core.now place ≡ Some acting.world.state →
             IsActor self.old acting → IfOk result (Finds self.new acting) }
     {
-        for index in 0..self.readers.len() {
-            if let Some(event) = next_on(&mut self.readers[index], alloc, core, place)? {
-                return Ok(Some(event));
-            }
-        }
-        Ok(None)
-    }
-}
-
-/// The next line on one connection, if one has come and may be taken.
-fn next_on(
-    reader: &mut Reader,
-    alloc: Global,
-    core: &Core,
-    place: usize,
-) -> Result<Option<Event>, AllocError>
-    ensures { (state : State) (reading : Reading) → realm_at core.now place ≡ Some state →
-        IsReading reader.old reading → IfOk result (GivesNext state reader.new reading) }
-{
-    let seat = reader.seat;
-    if core.must_wait(place, seat) {
-        return Ok(None);
-    }
-    match reader.next(alloc)? {
-        Some(heard) => Ok(Some(Event::Line { seat, heard })),
-        None => Ok(None),
+        self.readers.next(alloc, core, place)
     }
 }

@@ -1,12 +1,18 @@
 //! What comes on the connections of a script.
-ghost use Rattle.std.specs.Prelude.{◌≡◌, ℕ, List, ◌++◌, IfOk, OnOk, if◌then◌else◌};
+ghost use Rattle.std.specs.Prelude.{◌≡◌, ℕ, List, Some, ◌++◌, IfOk, OnOk};
+ghost use Rattle.tip_core.specs.Hosted.{realm as realm_at};
+ghost use Rattle.tip_machine.specs.States.{State};
+ghost use Rattle.tip_actor.specs.Acting.{Reading};
+ghost use Rattle.tip_actor.specs.Listening.{IsAsked, line_of};
+ghost use Rattle.tip_actor.specs.Standing.{GivesNext, IsReading};
 ghost use Rattle.tip_script.specs.Moves.{octets_of};
 ghost use Rattle.tip_script.specs.Scripts.{octets_in};
-ghost use Rattle.tip_actor.specs.Standing.{gives, Says};
+ghost use Rattle.tip_actor.specs.Listening.{gives, Says};
 ghost use Rattle.tip_line.specs.Reading.{items_of};
 
 use hex::FromHexError;
 use std::alloc::{AllocError, Global};
+use tip_core::Core;
 use tip_line::{Line, Lines};
 use tip_machine::{Heard, Seat};
 use tip_script::Octets;
@@ -28,6 +34,17 @@ enum Stream {
     Lines(Lines),
     /// A fault, behind which no line is.
     Over,
+}
+
+/// What comes of asking a reader for its next line.
+#[derive(Drop)]
+pub enum Asked {
+    /// The line, which may be taken.
+    Line(Heard),
+    /// None may be taken yet.
+    Held,
+    /// None has come.
+    Nothing,
 }
 
 impl Reader {
@@ -77,23 +94,28 @@ impl Reader {
         }
     }
 
+    /// The next line, if one has come and may be taken.
+    pub fn ask(&mut self, alloc: Global, core: &Core, place: usize) -> Result<Asked, AllocError>
+        ensures next { (state : State) (reading : Reading) → realm_at core.now place ≡ Some state →
+            IsReading self.old reading →
+            IfOk result (λ asked. GivesNext state self.new reading (line_of asked)) }
+        ensures asked { IfOk result (λ asked. IsAsked asked self.old self.new) }
+    {
+        if core.must_wait(place, self.seat) {
+            return Ok(Asked::Held);
+        }
+        match self.next(alloc)? {
+            Some(heard) => Ok(Asked::Line(heard)),
+            None => Ok(Asked::Nothing),
+        }
+    }
+
     /// The connection failed: what was read is gone, and its memory.
     pub fn restart(&mut self)
         ensures seat { self.new.seat ≡ self.old.seat }
         ensures gives { (more : List ℕ) → gives self.new more ≡ items_of more }
     {
         self.stream = Stream::Empty;
-    }
-
-    /// The same, where the connection failed.
-    pub fn restart_if(&mut self, failed: bool)
-        ensures seat { self.new.seat ≡ self.old.seat }
-        ensures gives { (more : List ℕ) →
-            gives self.new more ≡ (if failed then items_of more else gives self.old more) }
-    {
-        if failed {
-            self.restart();
-        }
     }
 }
 
