@@ -41,7 +41,7 @@ impl Actor<HeldParty> {
         print_here(printed, name, &host.core, place)
     }
 
-    /// The same realm where the process starts again: no connection is there, and no party is out.
+    /// The realm where the process starts again: no connection is there, and no party is out.
     pub fn anew(self, alloc: Global) -> Actor<HeldParty>
         requires { Always }
         ensures name { result.name ≡ self.name }

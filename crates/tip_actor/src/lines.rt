@@ -41,7 +41,7 @@ impl Actor<HeldParty> {
     }
 
     /// The next line that may be taken, of the first connection that has one. It is taken out of its reader.
-    pub fn next_line(
+    pub(crate) fn next_line(
         &mut self,
         alloc: Global,
         core: &Core,

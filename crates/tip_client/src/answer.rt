@@ -30,7 +30,7 @@ pub fn answer_in(alloc: Global, text: &[u8], command: CommandName) -> Result<Res
 }
 
 /// Whether a command may be answered so, in some state of a connection.
-pub fn may_answer(command: CommandName, response: ResponseName) -> bool
+pub(crate) fn may_answer(command: CommandName, response: ResponseName) -> bool
     ensures { result ≡ may_answer command response }
 {
     is_in_table(command, response)

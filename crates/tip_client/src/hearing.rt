@@ -32,7 +32,7 @@ impl Hearing {
     }
 
     /// The response to a command: the next line, once it has come.
-    pub fn response_to<R: Read>(
+    pub(crate) fn response_to<R: Read>(
         &mut self,
         alloc: Global,
         reader: &mut R,

@@ -6,4 +6,4 @@ mod state;
 mod table;
 
 pub use state::{Admit, Side, State, Turn};
-pub use table::{admit, admit_named, after, after_named};
+pub use table::{admit, after, after_named};

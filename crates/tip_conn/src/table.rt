@@ -14,8 +14,8 @@ pub fn admit(state: State, side: Side, command: &Command) -> Admit
     admit_named(state, side, command.name())
 }
 
-/// The same, of a command's name.
-pub fn admit_named(state: State, side: Side, command: CommandName) -> Admit
+/// Whether a command of this name that was received is to be served.
+pub(crate) fn admit_named(state: State, side: Side, command: CommandName) -> Admit
     ensures { result ≡ admit_of state side command }
 {
     match side {
@@ -32,7 +32,8 @@ pub fn after(state: State, command: &Command, response: &Response) -> Option<(St
     after_named(state, command.name(), response.name())
 }
 
-/// The same, of the names of both.
+/// What a response of this name to a command of that name makes of a connection; None where the command has no such response
+/// there.
 #[tactic(auto, unfolding(crate::specs::Table::is_valid, crate::specs::Table::next_of))]
 pub fn after_named(
     state: State,

@@ -11,7 +11,7 @@ use tip_recovery::Unfinished;
 use tip_table::Table;
 
 /// Each row's transaction joins a realm's, which starts in this epoch.
-pub fn reopen_all(
+pub(crate) fn reopen_all(
     transactions: &mut Table<Transaction>,
     realm: usize,
     epoch: u32,

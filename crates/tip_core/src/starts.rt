@@ -89,7 +89,7 @@ impl Starts {
         &self.items
     }
 
-    /// The same as a vector, without taking memory.
+    /// The realms as a vector, in the order of declaration, without taking memory.
     pub fn into_vec(self) -> Vec<Start>
         ensures same { result.items ≡ self }
         ensures named { have_names self ≡ true }

@@ -63,7 +63,7 @@ fn place_of(lines: &[Sent], connection: u32) -> Option<usize>
     position(lines, connection)
 }
 
-/// The same, by a search from the front.
+/// Where the first stands that goes out on this connection, by a search from the front.
 fn position(lines: &[Sent], connection: u32) -> Option<usize>
     ensures { result ≡ position (is_for connection) lines.now }
 {

@@ -38,7 +38,7 @@ pub(crate) fn take(outboxes: &mut Table<Batch>, realm: usize, connection: u32) -
     }
 }
 
-/// The same, from the batch at this place.
+/// The first that waits for a connection of a realm in the batch at this place is taken out.
 fn take_at(outboxes: &mut Table<Batch>, realm: usize, connection: u32, place: usize) -> Option<Sent>
     requires { StandsAt outboxes.old realm (list_any (is_for connection)) place }
     ensures taken { result ≡ find (is_for connection) (waiting outboxes.old realm) }

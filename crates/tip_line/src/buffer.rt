@@ -110,7 +110,7 @@ impl<A: Allocator> Buffer<A> {
     }
 
     /// Passes over the line at the front, which has so many octets and an end, and says where it stands.
-    pub fn pass_line(&mut self, len: usize) -> usize
+    pub(crate) fn pass_line(&mut self, len: usize) -> usize
         requires reading { IsReading self.old }
         requires line { StopsAt (pending self.old) (Ended len) }
         ensures reading { IsReading self.new }
@@ -125,7 +125,7 @@ impl<A: Allocator> Buffer<A> {
     }
 
     /// The text of the line that stands at a place.
-    pub fn text_at(&self, from: usize, len: usize) -> &[u8]
+    pub(crate) fn text_at(&self, from: usize, len: usize) -> &[u8]
         requires { from + len ≤ vec_len self.now.octets }
         ensures { result.now ≡ text_of (take len (drop from self.now.octets.items)) }
     {

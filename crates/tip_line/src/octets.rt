@@ -11,7 +11,7 @@ pub fn is_end(octet: u8) -> bool
 }
 
 /// Whether an octet is one that a line may have.
-pub fn is_printable(octet: u8) -> bool
+pub(crate) fn is_printable(octet: u8) -> bool
     ensures { result ≡ is_printable octet }
 {
     matches!(octet, b' '..=b'~')
@@ -25,7 +25,7 @@ pub fn is_blank(line: &[u8]) -> bool
 }
 
 /// A line without the spaces at its front.
-pub fn without_front(line: &[u8]) -> &[u8]
+pub(crate) fn without_front(line: &[u8]) -> &[u8]
     ensures { result.now ≡ without_front line.now }
 {
     let mut text = line;
@@ -36,7 +36,7 @@ pub fn without_front(line: &[u8]) -> &[u8]
 }
 
 /// A line without the spaces at its ends.
-pub fn without_spaces(line: &[u8]) -> &[u8]
+pub(crate) fn without_spaces(line: &[u8]) -> &[u8]
     ensures { result.now ≡ text_of line.now }
 {
     let mut text = without_front(line);
@@ -47,7 +47,7 @@ pub fn without_spaces(line: &[u8]) -> &[u8]
 }
 
 /// How many octets stand before the first space.
-pub fn word_len(text: &[u8]) -> usize
+pub(crate) fn word_len(text: &[u8]) -> usize
     ensures { result ≡ position_or_len is_space text.now }
 {
     text.iter().take_while(|octet| **octet != b' ').count()

@@ -30,7 +30,7 @@ pub enum Purpose {
 }
 
 impl Purpose {
-    /// The same once more, which shares the words and takes no memory.
+    /// An equal one, which shares the words and takes no memory.
     pub fn copy(&self) -> Result<Purpose, AllocError>
         ensures { IfOk result (λ purpose. purpose ≡ self.now) }
     {

@@ -45,7 +45,7 @@ impl Heard {
         }
     }
 
-    /// The same once more, which shares the words and takes no memory.
+    /// An equal one, which shares the words and takes no memory.
     pub fn copy(&self) -> Result<Heard, AllocError>
         ensures { IfOk result (λ heard. heard ≡ self.now) }
     {

@@ -29,7 +29,7 @@ split_at f zero (x ∷ others) p is = ap (λ (q : Participant). f q ∷ others) 
 split_at f (suc place) (x ∷ others) p is = ap (λ rest. x ∷ rest) (split_at f place others p is)
 
 -- where there is no such part, none is changed
-no_part : (part : ℕ) (change : Participant → Participant) (parts : List Participant) → slice_get parts part ≡ None → changed_at part change parts ≡ parts
+pub no_part : (part : ℕ) (change : Participant → Participant) (parts : List Participant) → slice_get parts part ≡ None → changed_at part change parts ≡ parts
 no_part part change [] none = refl
 no_part zero change (p ∷ parts) none = absurd (cc)
 no_part (suc part) change (p ∷ parts) none = ap (λ ps. p ∷ ps) (no_part part change parts none)

@@ -20,7 +20,7 @@ pub enum Note {
     Named(Id),
 }
 
-/// The same, but for the identifier.
+/// What a response says of a part, without the identifier that it may have.
 #[derive(Clone, Copy, Debug)]
 enum Saying {
     Nothing,
@@ -67,7 +67,7 @@ impl Note {
         }
     }
 
-    /// The same of a response that stays.
+    /// What a response that is kept says of the part that was asked, with a copy of the identifier that it may have.
     pub fn copied(
         awaited: &Option<Awaited>,
         response: &Response,
@@ -99,7 +99,7 @@ impl Note {
     }
 
     /// Whether it has acknowledged then.
-    pub fn has_acknowledged(&self, participant: &Participant) -> bool
+    pub(crate) fn has_acknowledged(&self, participant: &Participant) -> bool
         ensures { result ≡ (noted self.now participant.now).acknowledged }
     {
         match self {

@@ -123,7 +123,7 @@ impl<'a> Others<'a> {
         }
     }
 
-    /// The same, of the one at a place among all parts.
+    /// Once this is noted of the part at a place among all.
     fn split(
         others: &'a [Participant],
         place: usize,
@@ -178,7 +178,7 @@ impl<'a> Others<'a> {
 
     /// Those that said yes, of those that gave an identifier.
     #[tactic(auto, using(crate::proofs::Subordinates::pairing))]
-    pub fn pairs(&self, alloc: Global) -> Result<Subordinates, AllocError>
+    pub(crate) fn pairs(&self, alloc: Global) -> Result<Subordinates, AllocError>
         ensures { IfOk result (λ pairs. pairs ≡ pairs_of self.now) }
     {
         let mut pairs = Vec::new(alloc);
@@ -191,7 +191,7 @@ impl<'a> Others<'a> {
 
 /// What the answers of a transaction decide, once this is noted of one of its parts.
 #[tactic(auto, using(crate::proofs::Subordinates::deciding_noted))]
-pub fn decide_noting(txn: &Txn, part: Part, note: &Note) -> Decision
+pub(crate) fn decide_noting(txn: &Txn, part: Part, note: &Note) -> Decision
     ensures { result
         ≡ decision (map (λ p. p.answer) (changed_at part (noted note.now) txn.now.parts)) }
 {
@@ -226,7 +226,7 @@ fn is_settled(part: &Participant) -> bool
     !is_yes(part.answer) || part.acknowledged
 }
 
-/// The same of a part of which something is noted, if there is one.
+/// Whether the part of which something is noted, if there is one, has nothing to acknowledge any more.
 fn is_settled_if_noted(noted: &Option<Noted>) -> bool
     ensures { result ≡ list_all is_settled (option_to_list noted.now) }
 {

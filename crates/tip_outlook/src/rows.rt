@@ -23,7 +23,7 @@ pub(crate) fn promised(
     }
 }
 
-/// The same as a list.
+/// The list of the branches whose members promised to commit.
 #[tactic(auto, using(crate::proofs::Outlooks::filtering))]
 fn kept(
     alloc: Global,

@@ -161,7 +161,7 @@ impl Unfinished {
     }
 
     /// Whether it is a later reading of the same transaction's row, with as many branches.
-    pub fn is_again(&self, earlier: &Unfinished) -> bool
+    pub(crate) fn is_again(&self, earlier: &Unfinished) -> bool
         ensures { result ≡ is_again earlier.now self.now }
     {
         self.key == earlier.key && self.numbers.len() == earlier.numbers.len()

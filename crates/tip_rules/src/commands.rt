@@ -97,7 +97,13 @@ impl Work<Connection, Transaction, Making> {
 
     /// IDENTIFY: version 3 is spoken where it lies within what the primary offers.
     #[tactic(auto, using(crate::proofs::Commanding::greeting))]
-    pub fn greet(&mut self, number: u32, place: usize, versions: (u32, u32), peer: Option<Address>)
+    pub(crate) fn greet(
+        &mut self,
+        number: u32,
+        place: usize,
+        versions: (u32, u32),
+        peer: Option<Address>,
+    )
         requires stands { StandsAt self.old.connections self.old.realm (has_number number) place }
         requires lines { lines_at number (work_of self.old).state + 2 ≤ self.old.making.free }
         requires none { IsIdle self.old.making.answer }
@@ -134,7 +140,7 @@ impl Work<Connection, Transaction, Making> {
 
     /// PREPARE from the superior: asks; who said no address could not be reached again, and is not promised to.
     #[tactic(auto, using(crate::proofs::Commanding::obeying))]
-    pub fn obey_prepare(&mut self, number: u32, place: usize)
+    pub(crate) fn obey_prepare(&mut self, number: u32, place: usize)
         requires stands { StandsAt self.old.connections self.old.realm (has_number number) place }
         requires lines { lines_at number (work_of self.old).state + 2 ≤ self.old.making.free }
         requires none { IsIdle self.old.making.answer }
@@ -163,7 +169,7 @@ impl Work<Connection, Transaction, Making> {
 
     /// COMMIT from the superior: asks, or ends the doubt; where the store refuses, we stay in doubt and hang up.
     #[tactic(auto, using(crate::proofs::Commanding::obeying))]
-    pub fn obey_commit(&mut self, number: u32, place: usize)
+    pub(crate) fn obey_commit(&mut self, number: u32, place: usize)
         requires stands { StandsAt self.old.connections self.old.realm (has_number number) place }
         requires lines { lines_at number (work_of self.old).state + 2 ≤ self.old.making.free }
         requires none { IsIdle self.old.making.answer }
@@ -190,7 +196,7 @@ impl Work<Connection, Transaction, Making> {
 
     /// ABORT from the superior: aborts; in doubt, not before the row is gone.
     #[tactic(auto, using(crate::proofs::Commanding::obeying))]
-    pub fn obey_abort(&mut self, number: u32, place: usize)
+    pub(crate) fn obey_abort(&mut self, number: u32, place: usize)
         requires stands { StandsAt self.old.connections self.old.realm (has_number number) place }
         requires lines { lines_at number (work_of self.old).state + 2 ≤ self.old.making.free }
         requires none { IsIdle self.old.making.answer }
@@ -266,7 +272,7 @@ pub(crate) fn superior_role(role: Option<Role>) -> Option<Key>
     }
 }
 
-/// The same of a connection that is on one.
+/// The transaction whose superior is on a connection in this role, if it is one of a superior.
 fn superior_of(role: Role) -> Option<Key>
     ensures { result ≡ superior_role (Some role) }
 {

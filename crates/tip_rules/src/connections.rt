@@ -53,7 +53,7 @@ impl Work<Connection, Transaction, Making> {
 
     /// A response is owed to this command.
     #[tactic(auto, using(crate::proofs::Commanding::owing_one))]
-    pub fn owe(&mut self, number: u32, place: usize, command: CommandName)
+    pub(crate) fn owe(&mut self, number: u32, place: usize, command: CommandName)
         requires { StandsAt self.old.connections self.old.realm (has_number number) place }
         ensures does { Does self.old self.new (change number (owing command) (work_of self.old)) }
         ensures stands { StandsAt self.new.connections self.new.realm (has_number number) place }
@@ -74,9 +74,9 @@ impl Work<Connection, Transaction, Making> {
         self.go(number, place, command, response);
     }
 
-    /// The same, and it takes its role on a transaction.
+    /// A command is answered, its connection goes by the connection table, and takes its role on a transaction.
     #[tactic(auto, using(crate::proofs::Works::replied_as))]
-    pub fn reply_as(
+    pub(crate) fn reply_as(
         &mut self,
         number: u32,
         place: usize,
@@ -108,9 +108,16 @@ impl Work<Connection, Transaction, Making> {
         self.wait_for(number, place, awaited);
     }
 
-    /// The same, and it takes its role on a transaction.
+    /// A command is said, its response awaited, and the connection takes its role on a transaction.
     #[tactic(auto, using(crate::proofs::Requests::sending_as))]
-    pub fn send_as(&mut self, number: u32, place: usize, awaited: Awaited, asked: Asked, role: Role)
+    pub(crate) fn send_as(
+        &mut self,
+        number: u32,
+        place: usize,
+        awaited: Awaited,
+        asked: Asked,
+        role: Role,
+    )
         requires stands { StandsAt self.old.connections self.old.realm (has_number number) place }
         requires room { 0 < self.old.making.free }
         ensures { Does self.old self.new

@@ -80,7 +80,7 @@ impl Work<Connection, Transaction, Making> {
         }
     }
 
-    /// The same, of a connection that was on one.
+    /// What the failure of a connection in this role means for the transaction that it was on.
     fn miss_as(&mut self, role: Role)
         requires lines { lines_as (Some role) (work_of self.old).state ≤ self.old.making.free }
         requires none { IsIdle self.old.making.answer }
@@ -122,7 +122,7 @@ impl Work<Connection, Transaction, Making> {
 
     /// A line is malformed, or not valid in this state: ERROR, and the connection is closed.
     #[tactic(auto, using(crate::proofs::Losing::closing))]
-    pub fn reject(&mut self, number: u32, place: usize)
+    pub(crate) fn reject(&mut self, number: u32, place: usize)
         requires stands { StandsAt self.old.connections self.old.realm (has_number number) place }
         requires lines { lines_at number (work_of self.old).state + 2 ≤ self.old.making.free }
         requires none { IsIdle self.old.making.answer }

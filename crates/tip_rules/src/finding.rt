@@ -66,7 +66,7 @@ impl Work<Connection, Transaction, Making> {
 
     /// The transaction that gave a party out in this start, and where it stands.
     #[tactic(auto, using(crate::proofs::Identifying::owning))]
-    pub fn owner(&self, party: &HeldParty) -> Option<(Key, usize)>
+    pub(crate) fn owner(&self, party: &HeldParty) -> Option<(Key, usize)>
         requires { self.now.realm < length self.now.heads.items }
         ensures none { (result ≡ None) ↔ (owner party.now (work_of self.now).state ≡ None) }
         ensures some { IfSome result

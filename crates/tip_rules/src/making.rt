@@ -140,7 +140,7 @@ impl Making {
     }
 
     /// The room for a transaction that begins.
-    pub fn take_room(&mut self) -> TransactionRoom
+    pub(crate) fn take_room(&mut self) -> TransactionRoom
         requires { IsSome self.old.room }
         ensures taken { self.old.room ≡ Some result }
         ensures left { self.new ≡ record self.old { room = None } }
@@ -152,7 +152,7 @@ impl Making {
     }
 
     /// Where the other side of the event's connection is.
-    pub fn take_peer(&mut self) -> Option<Address>
+    pub(crate) fn take_peer(&mut self) -> Option<Address>
         ensures taken { result ≡ self.old.peer }
         ensures left { self.new ≡ record self.old { peer = None } }
     {
@@ -160,7 +160,7 @@ impl Making {
     }
 
     /// Where the other side is of a connection that we open, and where we are.
-    pub fn take_addresses(&mut self) -> (Address, Address)
+    pub(crate) fn take_addresses(&mut self) -> (Address, Address)
         requires peer { IsSome self.old.peer }
         requires ours { IsSome self.old.ours }
         ensures peer { self.old.peer ≡ Some result.0 }
@@ -174,7 +174,7 @@ impl Making {
     }
 
     /// Where the other side of the event's connection is, and the identifier that goes into a question.
-    pub fn take_question(&mut self) -> (Option<Address>, Id)
+    pub(crate) fn take_question(&mut self) -> (Option<Address>, Id)
         requires { IsSome self.old.word }
         ensures peer { result.0 ≡ self.old.peer }
         ensures word { self.old.word ≡ Some result.1 }
@@ -187,7 +187,7 @@ impl Making {
     }
 
     /// The identifier that goes into a question, if there is one.
-    pub fn take_word(&mut self) -> Option<Id>
+    pub(crate) fn take_word(&mut self) -> Option<Id>
         ensures taken { result ≡ self.old.word }
         ensures left { self.new ≡ record self.old { word = None } }
     {
@@ -234,7 +234,7 @@ impl Making {
     }
 
     /// Boxes that no transaction took are handed back.
-    pub fn hand_back(&mut self, boxes: HeldFresh)
+    pub(crate) fn hand_back(&mut self, boxes: HeldFresh)
         ensures { self.new
             ≡ record self.old { answer = record self.old.answer { unused = Some boxes } } }
     {

@@ -176,7 +176,7 @@ impl Work<Connection, Transaction, Making> {
         }
     }
 
-    /// The same by what is awaited there.
+    /// The identifier that is said once a connection is identified that awaits this.
     fn word_awaited(&self, awaited: &Option<Awaited>) -> Result<Option<Id>, AllocError>
         requires { self.now.realm < length self.now.heads.items }
         ensures { IfOk result (λ word. word ≡ word_for awaited.now (work_of self.now).state) }
@@ -282,7 +282,8 @@ impl Work<Connection, Transaction, Making> {
         }
     }
 
-    /// The same of a line on the connection of a number: the transaction that it asks for may be another.
+    /// How many lines and closings the answer to a line on the connection of a number may need: the transaction that it asks for
+    /// may be another than its own.
     fn lines_of_line(&self, number: u32) -> Result<usize, AllocError>
         ensures { IfOk result (λ lines. lines ≡ lines_at number (work_of self.now).state
             + (lines_queried number (work_of self.now).state + 2)) }
@@ -344,7 +345,7 @@ impl Work<Connection, Transaction, Making> {
         }
     }
 
-    /// The same of a connection that is on one.
+    /// How many connections are on the transaction that a connection in this role is on.
     fn lines_with(&self, role: Role) -> usize
         ensures { result ≡ lines_as (Some role) (work_of self.now).state }
     {
@@ -372,7 +373,7 @@ fn key_queried(awaited: &Option<Awaited>) -> Option<Key>
     }
 }
 
-/// The same address, if there is one.
+/// A copy of the address that there may be.
 fn copy_of(address: &Option<Address>) -> Result<Option<Address>, AllocError>
     ensures { IfOk result (λ copy. copy ≡ address.now) }
 {
@@ -406,7 +407,7 @@ fn subordinate_in(transaction: &Transaction, number: u32) -> Result<Option<Id>, 
     }
 }
 
-/// The same identifier, if there is one.
+/// A copy of the identifier that there may be.
 fn copy_of_id(id: &Option<Id>) -> Result<Option<Id>, AllocError>
     ensures { IfOk result (λ copy. copy ≡ id.now) }
 {

@@ -20,7 +20,7 @@ use tip_table::Table;
 
 impl Work<Connection, Transaction, Making> {
     /// Whether the realm's journal has room for an entry.
-    pub fn is_open(&self) -> bool
+    pub(crate) fn is_open(&self) -> bool
         requires { self.now.realm < length self.now.heads.items }
         ensures { result ≡ is_open (work_of self.now).state }
     {
@@ -29,7 +29,7 @@ impl Work<Connection, Transaction, Making> {
     }
 
     /// The event at hand takes the next entry of the realm's journal.
-    pub fn take_entry(&mut self)
+    pub(crate) fn take_entry(&mut self)
         requires here { self.old.realm < length self.old.heads.items }
         requires below { is_open (work_of self.old).state ≡ true }
         requires silent { self.old.making.answer ≡ silence }
@@ -46,7 +46,7 @@ impl Work<Connection, Transaction, Making> {
     }
 
     /// Where the connection of a seat stands, if the realm has it.
-    pub fn seated(&self, seat: Seat) -> Option<usize>
+    pub(crate) fn seated(&self, seat: Seat) -> Option<usize>
         requires { self.now.realm < length self.now.heads.items }
         ensures none { (result ≡ None) ↔ (seated seat (work_of self.now).state ≡ None) }
         ensures some { IfSome result
@@ -149,7 +149,7 @@ impl Work<Connection, Transaction, Making> {
 }
 
 /// Where the connection of a seat stands, if the realm of this head has it.
-pub fn seat_place(
+pub(crate) fn seat_place(
     head: &Head,
     connections: &Table<Connection>,
     realm: usize,

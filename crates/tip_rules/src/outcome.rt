@@ -26,7 +26,7 @@ use tip_txn::{Decision, Phase};
 impl Work<Connection, Transaction, Making> {
     /// What follows for the transaction of a key, after something was asked or answered.
     #[tactic(auto, using(crate::proofs::Outcomes::proceeding))]
-    pub fn proceed(&mut self, key: Key)
+    pub(crate) fn proceed(&mut self, key: Key)
         requires lines { lines_for key (work_of self.old).state ≤ self.old.making.free }
         requires none { MayDispatch key (work_of self.old) }
         ensures { Does self.old self.new

@@ -42,7 +42,7 @@ impl Work<Connection, Transaction, Making> {
         }
     }
 
-    /// The same of the transaction that is meant, which is in doubt.
+    /// The superior of this transaction in doubt is here again; an earlier connection of it is closed.
     #[tactic(auto, using(crate::proofs::Superiors::taking_over))]
     fn take_over(&mut self, key: Key, number: u32, place: usize)
         requires stands { StandsAt self.old.connections self.old.realm (has_number number) place }

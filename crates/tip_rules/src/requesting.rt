@@ -19,7 +19,7 @@ use tip_machine::{Asked, Awaited, Connection, Origin, Role, Seat, Transaction};
 impl Work<Connection, Transaction, Making> {
     /// Our transaction is pushed to the other side, on a connection that is there and free.
     #[tactic(auto, using(crate::proofs::Requests::asking_push))]
-    pub fn ask_push(&mut self, seat: Seat, id: &Id)
+    pub(crate) fn ask_push(&mut self, seat: Seat, id: &Id)
         requires here { self.old.realm < length self.old.heads.items }
         requires peer { self.old.making.peer ≡ peer_of seat.number (work_of self.old).state }
         requires part { CanGrow (work_of self.old).state.head.name id.now
@@ -60,7 +60,7 @@ impl Work<Connection, Transaction, Making> {
 
     /// The other side's transaction is pulled here, on a connection that is there and free.
     #[tactic(auto, using(crate::proofs::Requests::asking_pull))]
-    pub fn ask_pull(&mut self, seat: Seat, superior: Id)
+    pub(crate) fn ask_pull(&mut self, seat: Seat, superior: Id)
         requires here { self.old.realm < length self.old.heads.items }
         requires able { MayMake seat.number self.old }
         requires peer { self.old.making.peer ≡ peer_of seat.number (work_of self.old).state }

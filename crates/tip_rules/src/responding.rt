@@ -29,7 +29,7 @@ use tip_txn::Part;
 impl Work<Connection, Transaction, Making> {
     /// A response from the secondary, by what is awaited.
     #[tactic(auto, using(crate::proofs::Responses::queried_lines))]
-    pub fn respond(&mut self, number: u32, place: usize, response: Response)
+    pub(crate) fn respond(&mut self, number: u32, place: usize, response: Response)
         requires here { self.old.realm < length self.old.heads.items }
         requires stands { StandsAt self.old.connections self.old.realm (has_number number) place }
         requires lines { lines_at number (work_of self.old).state + 2 ≤ self.old.making.free }

@@ -160,7 +160,7 @@ impl Work<Connection, Transaction, Making> {
         }
     }
 
-    /// The same of one that is committed.
+    /// What is left of this committed transaction is tried again: its party, or the removal of its row.
     #[tactic(auto, using(crate::proofs::Coming::resuming_there))]
     fn resume_committed(&mut self, key: Key, place: usize)
         requires stands { StandsAt self.old.transactions self.old.realm (is_keyed key) place }

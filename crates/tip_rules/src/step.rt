@@ -150,7 +150,7 @@ impl Work<Connection, Transaction, Making> {
         }
     }
 
-    /// The same, of a command of this name.
+    /// A command came where we wait for a response: ERROR ends the connection without a word, any other is an error.
     #[tactic(auto, using(crate::proofs::Happening::hearing_as_primary))]
     fn name_as_primary(&mut self, number: u32, place: usize, name: CommandName)
         requires stands { StandsAt self.old.connections self.old.realm (has_number number) place }

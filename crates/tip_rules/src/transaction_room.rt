@@ -25,7 +25,7 @@ pub struct TransactionRoom<P = PartyRoom> {
 impl Work<Connection, Transaction, Making> {
     /// Room for the transaction of a key in the realm at hand.
     #[tactic(auto, using(crate::proofs::Rooms::few))]
-    pub fn room_for(&self, alloc: Global, key: Key) -> Result<TransactionRoom, AllocError>
+    pub(crate) fn room_for(&self, alloc: Global, key: Key) -> Result<TransactionRoom, AllocError>
         requires { self.now.realm < length self.now.heads.items }
         ensures { IfOk result (λ room. room ≡ room_for (work_of self.now).state.head key) }
     {

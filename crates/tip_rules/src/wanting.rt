@@ -38,7 +38,7 @@ use tip_txn::{Ballot, Part, Phase};
 
 impl Work<Connection, Transaction, Making> {
     /// What the event wants, once it has its entry.
-    pub fn foresee(&self, alloc: Global, event: &Event) -> Result<Option<Change>, AllocError>
+    pub(crate) fn foresee(&self, alloc: Global, event: &Event) -> Result<Option<Change>, AllocError>
         requires { self.now.realm < length self.now.heads.items }
         ensures { IfOk result (λ change. change ≡ foreseen event.now (work_of self.now).state) }
     {
@@ -238,7 +238,8 @@ impl Work<Connection, Transaction, Making> {
         }
     }
 
-    /// The same of a response to what a part was asked.
+    /// What a response wants to what a part was asked: the row that all agree on, or that it is removed once all have
+    /// acknowledged.
     fn wanted_by_part(
         &self,
         alloc: Global,
@@ -317,7 +318,7 @@ impl Work<Connection, Transaction, Making> {
         }
     }
 
-    /// The same, of a connection that is on a transaction.
+    /// What the transaction wants whose part's connection this role is, once this is noted of the part.
     fn wanted_on_role(
         &self,
         alloc: Global,
@@ -370,7 +371,7 @@ impl Work<Connection, Transaction, Making> {
         }
     }
 
-    /// The same, of the transaction that gave the party out.
+    /// What a vote wants of the transaction that gave the party out: the row that all agree on.
     fn wanted_once_voted(
         &self,
         alloc: Global,
@@ -417,7 +418,8 @@ impl Work<Connection, Transaction, Making> {
         }
     }
 
-    /// The same, where the party is with its transaction then.
+    /// What a party that was told the outcome wants, where it is with its transaction then: that the row is removed, where all have
+    /// acknowledged.
     fn wanted_once_back(
         &self,
         alloc: Global,
@@ -435,7 +437,7 @@ impl Work<Connection, Transaction, Making> {
         Outlook::back(transaction, members).wished(alloc, self.owed_to_superior(key))
     }
 
-    /// The same, where the party is let go then.
+    /// What a party that was told the outcome wants, where it is let go then: that the row is removed, where all have acknowledged.
     fn wanted_once_spent(
         &self,
         alloc: Global,
@@ -461,7 +463,7 @@ impl Work<Connection, Transaction, Making> {
     }
 }
 
-/// The same of the transaction that is meant.
+/// What a transaction wants that is tried again: that its row is removed, where only this is left.
 fn wanted_again(transaction: &Transaction) -> Option<Change>
     ensures { result ≡ resume_wanted (seen transaction.now) }
 {

@@ -116,7 +116,7 @@ impl Work<Connection, Transaction, Making> {
     }
 
     /// Each connection on the transaction reacts.
-    pub fn react(&mut self, reaction: Reaction, key: Key)
+    pub(crate) fn react(&mut self, reaction: Reaction, key: Key)
         requires { lines_for key (work_of self.old).state ≤ self.old.making.free }
         ensures does { Does self.old self.new
             (react (reaction_of reaction) key (work_of self.old)) }
@@ -177,7 +177,7 @@ impl Work<Connection, Transaction, Making> {
 
     /// A party that is here goes out to be told the outcome, where a branch waits for it; else it is let go.
     #[tactic(auto, using(crate::proofs::Proceeding::dispatching))]
-    pub fn dispatch(&mut self, key: Key)
+    pub(crate) fn dispatch(&mut self, key: Key)
         requires none { MayDispatch key (work_of self.old) }
         ensures { Does self.old self.new (dispatch key (work_of self.old)) }
     {

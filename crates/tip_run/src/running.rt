@@ -63,15 +63,6 @@ impl<S: RowLog + Drop> Running<S> {
         }
     }
 
-    /// The host alone: the parties that are out are let go.
-    pub fn into_host(self) -> Host<S, Core>
-        requires { Always }
-        ensures { result ≡ self.host }
-    {
-        let Running { host, .. } = self;
-        host
-    }
-
     /// An event of a realm. One that brings a party back does not happen, and its party is let go.
     pub(crate) fn step(
         &mut self,

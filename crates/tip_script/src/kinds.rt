@@ -19,7 +19,7 @@ pub fn plan_of(kind: u8) -> Plan
 }
 
 /// The letters of a field; `-` stands for none.
-pub fn kinds_in(field: &[u8]) -> Option<&[u8]>
+pub(crate) fn kinds_in(field: &[u8]) -> Option<&[u8]>
     ensures { option_map (λ kinds. kinds.now) result ≡ kinds_in field.now }
 {
     if field == b"-".as_slice() {

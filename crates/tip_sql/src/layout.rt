@@ -18,7 +18,7 @@ pub fn is_blank(schema: &Schema) -> bool
 }
 
 /// The table of realms alone.
-pub fn is_half(schema: &Schema) -> bool
+pub(crate) fn is_half(schema: &Schema) -> bool
     ensures { OnTrue result (schema.now ≡ half_schema) }
 {
     is_first_table(schema.tables.as_slice())
@@ -27,7 +27,7 @@ pub fn is_half(schema: &Schema) -> bool
 }
 
 /// Both tables.
-pub fn is_whole(schema: &Schema) -> bool
+pub(crate) fn is_whole(schema: &Schema) -> bool
     ensures { OnTrue result (schema.now ≡ log_schema) }
 {
     are_both_tables(schema.tables.as_slice())
@@ -197,7 +197,7 @@ fn is_index(index: &Index, name: &[u8], tree: u32, table: u32, places: &[usize])
 }
 
 /// Whether a table of ours lacks a column of ours.
-pub fn lacks_column(schema: &Schema) -> bool
+pub(crate) fn lacks_column(schema: &Schema) -> bool
     ensures { result ≡ lacks_column schema.now }
 {
     schema.tables.as_slice().iter().any(|table| lacks(table))

@@ -38,7 +38,7 @@ pub fn has_tables<S: Alter>(conn: &Connection<S>) -> bool
 }
 
 /// Makes the tables that are not there, where nothing else is there.
-pub fn make_tables<S: Alter>(conn: &mut Connection<S>) -> Result<usize, Error>
+pub(crate) fn make_tables<S: Alter>(conn: &mut Connection<S>) -> Result<usize, Error>
     ensures { Takes log_schema (state S.Store conn.old) (state S.Store conn.new) result }
 {
     if is_whole(conn.schema()) {
@@ -76,7 +76,7 @@ fn make_rows<S: Alter>(conn: &mut Connection<S>) -> Result<usize, Error>
 }
 
 /// Whether a connection is outside a transaction and has our tables alone, with no rowid twice.
-pub fn is_ours<S: Alter>(conn: &mut Connection<S>) -> bool
+pub(crate) fn is_ours<S: Alter>(conn: &mut Connection<S>) -> bool
     ensures { Checks (state S.Store conn.old) (state S.Store conn.new) result }
 {
     if !is_whole(conn.schema()) {

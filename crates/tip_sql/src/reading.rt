@@ -25,7 +25,11 @@ pub fn epoch_in(rows: &[SqlRow]) -> Option<u32>
 }
 
 /// What is stored of a realm, whose epoch and rows were shown.
-pub fn part_in(alloc: Global, epochs: &[SqlRow], rows: &[SqlRow]) -> Result<Loaded, LoadFault>
+pub(crate) fn part_in(
+    alloc: Global,
+    epochs: &[SqlRow],
+    rows: &[SqlRow],
+) -> Result<Loaded, LoadFault>
     ensures epoch { IfOk result (λ loaded. epoch_in epochs.now ≡ Some loaded.epoch) }
     ensures read { IfOk result (λ loaded. map Some loaded.rows.items ≡ map entry_in rows.now) }
     ensures rising { IfOk result (λ loaded. is_rising loaded.rows.items ≡ true) }
@@ -82,7 +86,7 @@ pub fn realms_in(alloc: Global, rows: &[SqlRow]) -> Result<Vec<Realm>, LoadFault
 }
 
 /// What is shown at a place.
-pub fn column(row: &SqlRow, at: usize) -> ValueRef<'_>
+pub(crate) fn column(row: &SqlRow, at: usize) -> ValueRef<'_>
     ensures { owned result ≡ column row.now at }
 {
     match row.get_ref(at) {

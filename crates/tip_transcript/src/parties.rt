@@ -67,7 +67,11 @@ fn call_word(call: Call) -> &'static str
 }
 
 /// Prints that a party goes out.
-pub fn print_work(printed: &mut String, realm: &str, party: &HeldParty) -> Result<(), AllocError>
+pub(crate) fn print_work(
+    printed: &mut String,
+    realm: &str,
+    party: &HeldParty,
+) -> Result<(), AllocError>
     ensures { OnOk result (string_bytes printed.new
         ≡ string_bytes printed.old ++ work_text realm.now party.now.id party.now.errand) }
 {
@@ -96,7 +100,7 @@ pub fn print_drops(printed: &mut String, realm: &str, party: &HeldParty) -> Resu
     print_left(printed, realm, party)
 }
 
-/// The same, member by member.
+/// Prints the active members of a party that is let go, one after another.
 fn print_left(printed: &mut String, realm: &str, party: &HeldParty) -> Result<(), AllocError>
     ensures { OnOk result (string_bytes printed.new ≡ string_bytes printed.old
         ++ flat_map (left_text realm.now party.now.id) party.now.members) }

@@ -1,7 +1,8 @@
 use Rattle.std.proofs.Common.{ap, sym, ◌∙◌}
 use Rattle.std.specs.Prelude.{slice_get}
 use Rattle.tip_txn.specs.Parts.{named}
-use Rattle.tip_rules.proofs.Works.{gone_part, no_part}
+use Rattle.tip_outlook.proofs.Subordinates.{no_part}
+use Rattle.tip_rules.proofs.Works.{gone_part}
 use Rattle.tip_rules.proofs.work.give_name.Goals as goal
 
 pub returns-else-is_some : goal.returns-else-is_some
