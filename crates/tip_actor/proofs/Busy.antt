@@ -1,8 +1,9 @@
 -- Readers that are asked one after another, in the order of their places.
-use Rattle.std.proofs.Common.{◌≡◌, ◌≢◌, ◌∙◌, ◌⊎◌, ◌++◌, ◌∷◌, ◌<◌, ◌≤◌, ◌+◌, [], ℕ, suc, zero, Bool, true, false, List, Option, Some, None, length, arith, refl, ap, sym, subst, inl, inr}
+use Rattle.std.proofs.Common.{◌≡◌, ◌∙◌, ◌⊎◌, ◌++◌, ◌∷◌, ◌<◌, ◌≤◌, [], ℕ, Bool, true, false, List, Option, Some, None, length, cond, arith, refl, ap, sym, subst, inl, inr}
 use Rattle.std.specs.Prelude.{◌||◌, slice_get, slice_set}
 use Rattle.std.specs.BTreeMap.{is_at}
-use Rattle.std.specs.List.{AllByRecursion, list_any, position}
+use Rattle.std.specs.BTreeSet.{BTreeSet, Updates}
+use Rattle.std.specs.List.{AllByRecursion}
 use Rattle.std.specs.List.Sorted.{IsStrictlySortedBy}
 use Rattle.std.specs.Ordering.{nat_cmp}
 use Rattle.std.specs.declared.cmp.Ordering.TheVariants.{Less}
@@ -14,11 +15,10 @@ use Rattle.std.proofs.lemmas.Map.Keys.{sorted_head, sorted_tail}
 use Rattle.std.proofs.lemmas.Option.{same_Some, slice_get_within}
 use Rattle.tip_core.specs.Hosted.{Hosted, realm}
 use Rattle.tip_machine.specs.States.{State}
-use Rattle.tip_machine.specs.Types.{Event}
 use Rattle.tip_machine.specs.declared.event.Event.TheVariants as event
 use Rattle.tip_machine.specs.declared.event.Heard.{Heard}
 use Rattle.tip_actor.specs.Acting.{Reading, is_next}
-use Rattle.tip_actor.specs.Listening.{AreBusyAt, IsAsked, IsIdle, IsIdleAt, is_among, line_of}
+use Rattle.tip_actor.specs.Listening.{AreBusyAt, IsIdle, IsIdleAt, is_among}
 use Rattle.tip_actor.specs.Standing.{AreReadings, FindsIn, GivesNext, IsReading, TakesFirst}
 use Rattle.tip_actor.specs.declared.reader.Asked.{Asked}
 use Rattle.tip_actor.specs.declared.reader.Asked.TheVariants as asked
@@ -82,7 +82,7 @@ waits_not : (state : State) (reader : Reader) (reading : Reading) → IsReading 
 waits_not state reader reading is idle = rw (nothing_left reader reading.waiting reading.heard is.1 idle) refl
 
 not_both : (b : Bool) → b ≡ false → b ≡ true → ⊥
-not_both b no yes = let e : false ≡ true = sym no ∙ yes in absurd (cc)
+not_both b fails holds = let e : false ≡ true = sym fails ∙ holds in absurd (cc)
 
 pub starts : (core : Hosted) (place : ℕ) (places : List ℕ) (readers : List Reader) → AreBusyAt places readers → IsStrictlySortedBy nat_cmp places → IsLooking core place places places readers readers None
 starts core place places readers busy sorted = record {
@@ -138,8 +138,19 @@ busy_still places now index reader' among busy = λ p other at. elim (cases_eq p
   | inr differ ↦ busy p other (sym (get_set_other now index p reader' differ) ∙ at)
 ]
 
+true_anyhow : (b c : Bool) → c ≡ true → cond b true c ≡ true
+true_anyhow true c is = refl
+true_anyhow false c is = is
+
+-- a place more, whatever becomes of its reader
+pub fed_at : (set set' : BTreeSet ℕ) (readers : List Reader) (index : ℕ) (reader' : Reader) → Updates nat_cmp set set' index true → AreBusyAt set.keys readers → AreBusyAt set'.keys (slice_set readers index reader')
+fed_at set set' readers index reader' updates busy = busy_still set'.keys readers index reader' updates.1 (λ place reader at. elim (busy place reader at) [
+  | inl among ↦ inl (updates.0 place ∙ true_anyhow (is_at (nat_cmp index) place) (is_among set.keys place) among)
+  | inr idle ↦ inr idle
+])
+
 -- its place is one of all
-pub is_place : (core : Hosted) (place : ℕ) (places : List ℕ) (index : ℕ) (rest : List ℕ) (old now : List Reader) (idle : Option ℕ) → IsLooking core place places (index ∷ rest) old now idle → is_among places index ≡ true
+is_place : (core : Hosted) (place : ℕ) (places : List ℕ) (index : ℕ) (rest : List ℕ) (old now : List Reader) (idle : Option ℕ) → IsLooking core place places (index ∷ rest) old now idle → is_among places index ≡ true
 is_place core place places index rest old now idle is = ap (λ ps. is_among ps index) is.whole ∙ among_front is.front index rest
 
 -- whatever becomes of the reader at a place

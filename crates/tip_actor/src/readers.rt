@@ -99,10 +99,10 @@ impl Readers {
             AreReadings self.new.items (lost_on connection readings) }
     {
         if let Some(index) = (connection as usize).checked_sub(1) {
+            self.busy.remove(&index);
             if let Some(reader) = self.all.get_mut(index) {
                 reader.restart();
             }
-            self.busy.remove(&index);
         }
     }
 

@@ -1,5 +1,11 @@
+use Rattle.std.proofs.Common.{Some, refl, subst, sym}
+use Rattle.tip_actor.specs.Standing.{AreReadings}
 use Rattle.tip_actor.proofs.Lists.{given}
-use Rattle.tip_actor.proofs.actor.Actor+HeldParty.give.Goals as goal
+use Rattle.tip_actor.proofs.readers.Readers.open.Goals as goal
 
-pub returns-in_ok-push-clause-readings : goal.returns-in_ok-push-clause-readings
-returns-in_ok-push-clause-readings g c = λ readings are. given c.args.self.now.readers.items c.push.new.self.items readings c.new.result c.in-Some.seat c.args.opened are c.in-Some.is c.new.ensures.seat c.new.ensures.gives c.in_ok-push.ensures.items
+pub returns : goal.returns
+returns c = record {
+  readings = λ readings are.
+      let inside = subst (λ view. AreReadings view.items readings) (sym c.self.view_is) are in
+      given c.self.inside.all.items c.push.new.self.items readings c.new.result c.args.seat (Some c.args.seat) inside refl c.new.ensures.seat c.new.ensures.gives c.in_ok-push.ensures.items;
+}
