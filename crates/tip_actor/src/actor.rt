@@ -14,7 +14,7 @@ use std::alloc::{AllocError, Global};
 use std::collections::VecDeque;
 use tip_branch::HeldParty;
 use tip_core::Happened;
-use tip_host::Host;
+use tip_host::{Host, HostFault};
 use tip_line::Realm;
 use tip_machine::{Event, Item, Outcome, Seat, Sent};
 use tip_rows::RowLog;
@@ -59,8 +59,10 @@ impl Actor<HeldParty> {
         event: Event,
         printed: &mut String,
     ) -> Result<bool, ActFault>
-        requires { Always }
+        requires always { Always }
+        requires running { host.old.is_stopped ≡ false }
         ensures truth { S.is_true host.new.store → S.is_true host.old.store }
+        ensures running { host.new.is_stopped ≡ false }
         ensures acts { OnOk result (Acts (keeping S.stands S.is_true S.is_due) host.old host.new
             place self.old self.new (string_bytes printed.old) (string_bytes printed.new)
             (happens event)) }
@@ -81,6 +83,7 @@ impl Actor<HeldParty> {
     pub fn refuse<S: RowLog, R: Refuser<S>>(&mut self, refuser: &R, host: &mut Host<S>)
         requires { Always }
         ensures truth { S.is_true host.new.store → S.is_true host.old.store }
+        ensures running { host.new.is_stopped ≡ host.old.is_stopped }
         ensures refuses { R.may ≡ true → (place : ℕ) (printed : List ℕ) (acting : Acting) →
             IsActing (keeping S.stands S.is_true S.is_due) host.old place self.old acting →
             IsDone (keeping S.stands S.is_true S.is_due) host.old host.new place self.old self.new
@@ -166,7 +169,9 @@ fn step<S: RowLog>(
     event: Event,
     is_due: bool,
 ) -> Result<Happened, ActFault>
+    requires { host.old.is_stopped ≡ false }
     ensures truth { S.is_true host.new.store → S.is_true host.old.store }
+    ensures running { host.new.is_stopped ≡ false }
     ensures serves { (state : State) →
         IsServed (keeping S.stands S.is_true S.is_due) host.old place state is_due →
         IfOk result (λ happened. Serves (keeping S.stands S.is_true S.is_due) host.old host.new
@@ -174,7 +179,8 @@ fn step<S: RowLog>(
 {
     let happened = match host.step(alloc, place, event) {
         Ok(happened) => happened,
-        Err(_) => return Err(ActFault::Memory),
+        Err((HostFault::Memory, _)) => return Err(ActFault::Memory),
+        Err((HostFault::Stopped, _)) => unreachable!(),
     };
     if is_unforeseen(happened.outcome, is_due) {
         return Err(ActFault::Store);

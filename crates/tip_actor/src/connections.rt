@@ -1,5 +1,5 @@
 //! What happens to the connections of a realm, which are known by their numbers.
-ghost use Rattle.std.specs.Prelude.{◌≡◌, List, IfOk, option_map, string_bytes};
+ghost use Rattle.std.specs.Prelude.{◌≡◌, List, false, IfOk, option_map, string_bytes};
 ghost use Rattle.tip_script.specs.Moves.{octets_of};
 ghost use Rattle.tip_branch.specs.Always.{Always};
 ghost use Rattle.tip_actor.specs.Acting.{Acting, Reading, loses, on_connection, pulls, pushes, reading_on};
@@ -42,8 +42,10 @@ impl Actor<HeldParty> {
         connection: u32,
         printed: &mut String,
     ) -> Result<bool, ActFault>
-        requires { Always }
+        requires always { Always }
+        requires running { host.old.is_stopped ≡ false }
         ensures truth { S.is_true host.new.store → S.is_true host.old.store }
+        ensures running { host.new.is_stopped ≡ false }
         ensures tells { (acting : Acting) →
             IsActing (keeping S.stands S.is_true S.is_due) host.old place self.old acting →
             IfOk result (λ told. Tells (keeping S.stands S.is_true S.is_due) host.old host.new place
@@ -70,8 +72,10 @@ impl Actor<HeldParty> {
         id: Id,
         printed: &mut String,
     ) -> Result<bool, ActFault>
-        requires { Always }
+        requires always { Always }
+        requires running { host.old.is_stopped ≡ false }
         ensures truth { S.is_true host.new.store → S.is_true host.old.store }
+        ensures running { host.new.is_stopped ≡ false }
         ensures tells { (acting : Acting) →
             IsActing (keeping S.stands S.is_true S.is_due) host.old place self.old acting →
             IfOk result (λ told. Tells (keeping S.stands S.is_true S.is_due) host.old host.new place
@@ -96,8 +100,10 @@ impl Actor<HeldParty> {
         superior: Id,
         printed: &mut String,
     ) -> Result<bool, ActFault>
-        requires { Always }
+        requires always { Always }
+        requires running { host.old.is_stopped ≡ false }
         ensures truth { S.is_true host.new.store → S.is_true host.old.store }
+        ensures running { host.new.is_stopped ≡ false }
         ensures tells { (acting : Acting) →
             IsActing (keeping S.stands S.is_true S.is_due) host.old place self.old acting →
             IfOk result (λ told. Tells (keeping S.stands S.is_true S.is_due) host.old host.new place

@@ -1,5 +1,5 @@
 //! The parties of a realm that are out.
-ghost use Rattle.std.specs.Prelude.{◌≡◌, ◌++◌, ◌&&◌, if◌then◌else◌, Some, None, IfOk, OnOk, string_bytes};
+ghost use Rattle.std.specs.Prelude.{◌≡◌, ◌++◌, ◌&&◌, false, if◌then◌else◌, Some, None, IfOk, OnOk, string_bytes};
 ghost use Rattle.std.specs.List.{list_all};
 ghost use Rattle.tip_branch.specs.declared.member.Errand.TheVariants as Errand;
 ghost use Rattle.tip_machine.specs.Returns.{event_of};
@@ -27,8 +27,10 @@ impl Actor<HeldParty> {
         place: usize,
         printed: &mut String,
     ) -> Result<bool, ActFault>
-        requires { Always }
+        requires always { Always }
+        requires running { host.old.is_stopped ≡ false }
         ensures truth { S.is_true host.new.store → S.is_true host.old.store }
+        ensures running { host.new.is_stopped ≡ false }
         ensures tells { (acting : Acting) →
             IsActing (keeping S.stands S.is_true S.is_due) host.old place self.old acting →
             IfOk result (λ told. Tells (keeping S.stands S.is_true S.is_due) host.old host.new place

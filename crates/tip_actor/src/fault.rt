@@ -1,7 +1,7 @@
 //! Why a script ends behind a line that is understood.
 ghost use Rattle.std.specs.Prelude.{◌≡◌};
 
-use std::alloc::AllocError;
+use std::alloc::{AllocError, AllocFailed};
 use tip_host::{LoadFault, RenewFault};
 
 /// Why a line that is understood ends its script. What was printed before stands.
@@ -18,6 +18,16 @@ impl From<AllocError> for ActFault {
     ghost from_gives = { λ _ fault. fault ≡ Memory };
 
     fn from(_: AllocError) -> ActFault {
+        ActFault::Memory
+    }
+}
+
+impl<T: Drop> From<AllocFailed<T>> for ActFault {
+    ghost use Rattle.tip_actor.specs.declared.fault.ActFault.TheVariants.{Memory};
+
+    ghost from_gives = { λ _ fault. fault ≡ Memory };
+
+    fn from(_: AllocFailed<T>) -> ActFault {
         ActFault::Memory
     }
 }

@@ -1,5 +1,5 @@
 //! Lines that come on the connections of a realm, and wait until they may be taken.
-ghost use Rattle.std.specs.Prelude.{◌≡◌, IfOk, OnOk, Some, string_bytes};
+ghost use Rattle.std.specs.Prelude.{◌≡◌, false, IfOk, OnOk, Some, string_bytes};
 ghost use Rattle.tip_core.specs.Hosted.{realm as realm_at};
 ghost use Rattle.tip_machine.specs.States.{State};
 ghost use Rattle.tip_branch.specs.Always.{Always};
@@ -24,8 +24,10 @@ impl Actor<HeldParty> {
         place: usize,
         printed: &mut String,
     ) -> Result<(), ActFault>
-        requires { Always }
+        requires always { Always }
+        requires running { host.old.is_stopped ≡ false }
         ensures truth { S.is_true host.new.store → S.is_true host.old.store }
+        ensures running { host.new.is_stopped ≡ false }
         ensures acts { OnOk result (Acts (keeping S.stands S.is_true S.is_due) host.old host.new
             place self.old self.new (string_bytes printed.old) (string_bytes printed.new)
             (λ acting. takes (count_of acting.readings) acting)) }

@@ -1,4 +1,4 @@
-pub mod Bringing
+pub mod Making
 pub mod Cutting
 pub mod Transcribing
 pub mod Lines

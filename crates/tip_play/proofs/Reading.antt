@@ -12,7 +12,7 @@ use Rattle.tip_actor.specs.Standing.{Keeping}
 use Rattle.tip_scene.specs.Acts.{Stage, Declaring, Basis, acted, closing_of}
 use Rattle.tip_scene.specs.Stages.{AStage, IsReliable, IsStage, Trusts, store_of}
 use Rattle.tip_play.specs.Faults.{of_line}
-use Rattle.tip_play.specs.Transcripts.{IsFront, Transcribes, TranscribesOn}
+use Rattle.tip_play.specs.Transcripts.{IsFront, IsReadTo, Transcribes, TranscribesOn}
 use Rattle.tip_play.specs.Writing.{Acts, Closes, ClosesOn, HasCome}
 use Rattle.tip_play.specs.declared.fault.PlayFault.{PlayFault}
 use Rattle.tip_play.specs.declared.player.Coming.{Coming}
@@ -39,6 +39,11 @@ module _ {S : Type 0} (kept : Keeping S) (basis : Basis) where
   -- it may end anywhere
   pub stays_front : (stage : AStage S) (number : ℕ) (whole left old new : Option (List ℕ)) → HasRead stage number whole left old new → IfSome whole (λ script. IsFront basis script old new)
   stays_front stage number whole left old new so = of_whole whole left so.read (λ script. IsFront basis script old new) so.consumed (λ rest. lines.front_played kept basis stage number so.read rest old new so.played)
+
+  -- it is not read on
+  stops_reading : (stage : AStage S) (number : ℕ) (whole left old new : Option (List ℕ)) → HasRead stage number whole left old new → IfSome whole (λ script. IsReadTo basis script left old new)
+  stops_reading stage number None left old new so = tt
+  stops_reading stage number (Some script) left old new so = record { read = so.read; consumed = so.consumed; written = so.played.written }
 
   -- no line was read
   not_read : (stage : AStage S) (number : ℕ) (whole left left' old new : Option (List ℕ)) (line : List ℕ) → HasRead stage number whole left old new → AreOfLine line → Consumes left left' line → IfSome whole (λ script. Transcribes basis script left' old new (Err fault.Read))
@@ -153,6 +158,10 @@ module _ {S : Type 0} (kept : Keeping S) (basis : Basis) where
   not_come over stage number whole left left' old new line fault.Write so come = absurd come
   not_come over stage number whole left left' old new line fault.Memory so come = goes_front over stage number whole left old new so
   not_come over stage number whole left left' old new line fault.Store so come = goes_front over stage number whole left old new so
+
+  -- and none will, since it would have no number
+  pub no_number : (over : Bool) (stage : AStage S) (number : ℕ) (whole left old new : Option (List ℕ)) → over ≡ false → Goes over stage number whole left old new → IfSome whole (λ script. IsReadTo basis script left old new)
+  no_number over stage number whole left old new more so = stops_reading stage number whole left old new (subst (λ o. Goes o stage number whole left old new) more so)
 
   -- a line was played
   pub goes_on : (over : Bool) (stage stage' : AStage S) (number : ℕ) (whole left left' old mid new : Option (List ℕ)) (line : List ℕ) (end : LineEnd) → HasRead stage number whole left old mid → end ≢ TooLong → (over ≡ true → end ≡ EndOfInput) → (over ≡ false → end ≢ EndOfInput) → Reads left left' line (Ok end) →

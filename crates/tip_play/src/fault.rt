@@ -14,6 +14,7 @@ pub enum PlayFault {
     /// The line of this number, counted from 1.
     #[error("script line {line} is not understood")]
     Script { line: u64 },
+    /// The input was not read, or has more lines than have numbers.
     #[error("cannot read")]
     Read,
     #[error("cannot write")]

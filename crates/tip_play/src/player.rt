@@ -1,10 +1,13 @@
 //! Playing a script.
-ghost use Rattle.std.specs.Prelude.{◌≡◌, ◌≢◌, true, false, map, IfSome};
+ghost use Rattle.std.specs.Prelude.{◌≡◌, ◌≢◌, true, false, map, IfOk, IfSome};
 ghost use Rattle.script_lines.specs.declared.line.LineEnd.TheVariants.{EndOfInput, TooLong};
 ghost use Rattle.tip_actor.specs.Standing.{keeping};
+ghost use Rattle.tip_branch.specs.Lots.{AreIn};
+ghost use Rattle.tip_branch.specs.declared.branch.Phase.TheVariants.{Active};
 ghost use Rattle.tip_script.specs.Scripts.{move_of};
 ghost use Rattle.tip_scene.specs.Acts.{Basis, Stage as AStage, acted, closing_of};
-ghost use Rattle.tip_scene.specs.Stages.{ComeWith, IsBasis, IsStage, Trusts, store_of};
+ghost use Rattle.tip_scene.specs.Boxes.{AreWilling};
+ghost use Rattle.tip_scene.specs.Stages.{ComeWith, IsBasis, IsSound, IsStage, Trusts, store_of};
 ghost use Rattle.tip_play.specs.Endings.{ended, unflushed};
 ghost use Rattle.tip_play.specs.Transcripts.{Transcribes, TranscribesOn, in_memory};
 ghost use Rattle.tip_play.specs.Writing.{ActsOn, ClosesOn, HasCome};
@@ -18,9 +21,12 @@ use tip_branch::{Branch, Phase, Plan};
 use tip_core::Core;
 use tip_host::Host;
 use tip_rows::{MemRows, RowLog};
-use tip_scene::{Declared, LineFault, Playing, Stage, Wanted, are_of};
+use tip_scene::{Declared, LineFault, Playing, Stage, Wanted, add_box};
 use tip_script::plan_of;
 use tip_writing::write_front;
+
+/// The number of a line, or of the end of a script, behind which there are no numbers.
+const LAST_LINE: u64 = u64::MAX - 1;
 
 /// Plays the script that is read, over rows in memory, and writes what each realm answers. What was written stands, whatever the end
 /// is.
@@ -64,7 +70,8 @@ pub fn play_on<S: RowLog + Drop, R: BufRead, W: Write>(
     play_over(alloc, store, &ByItself, input, output)
 }
 
-/// The same, where a script may ask the store to refuse, or may not.
+/// Plays the script that is read, over a store that its lines may ask to refuse where the refuser can. The store comes back, but where
+/// memory ends in a start. What was written stands, whatever the end is.
 fn play_over<S: RowLog + Drop, F: Refuser<S>, R: BufRead, W: Write>(
     alloc: Global,
     store: S,
@@ -121,25 +128,31 @@ fn play_lines<S: RowLog + Drop, F: Refuser<S>, R: BufRead, W: Write>(
     let mut stage = Stage::new(alloc, Core::new(alloc), store);
     let mut is_over = false;
     for number in 1..u64::MAX {
+        if is_beyond(number, is_over) {
+            return Err((PlayFault::Read, Some(stage.shut())));
+        }
         let coming = match next(&mut stage, alloc, number, is_over, &mut line, input) {
             Ok(coming) => coming,
             Err(fault) => return Err((fault, Some(stage.shut()))),
         };
         let mut boxes: Vec<Box<dyn Branch + Send>> = Vec::new(alloc);
         for kind in &coming.wanted.kinds {
-            if let Ok(branch) = Box::new(alloc, Scripted::new(plan_of(*kind), Phase::Active)) {
-                let _pushed = boxes.push(branch);
+            let plan = plan_of(*kind);
+            let Ok(branch) = Box::new(alloc, Scripted::new(plan, Phase::Active)) else {
+                return Err((PlayFault::Memory, Some(stage.shut())));
+            };
+            if add_box(&mut boxes, plan, Phase::Active, branch).is_err() {
+                return Err((PlayFault::Memory, Some(stage.shut())));
             }
         }
         let mut pool: Vec<Box<dyn Branch + Send>> = Vec::new(alloc);
         for _ in 0..coming.wanted.willing {
-            if let Ok(branch) = Box::new(alloc, Scripted::new(Plan::Yes, Phase::Ready)) {
-                let _pushed = pool.push(branch);
+            let Ok(branch) = Box::new(alloc, Scripted::new(Plan::Yes, Phase::Ready)) else {
+                return Err((PlayFault::Memory, Some(stage.shut())));
+            };
+            if add_box(&mut pool, Plan::Yes, Phase::Ready, branch).is_err() {
+                return Err((PlayFault::Memory, Some(stage.shut())));
             }
-        }
-        // where memory ended some are missing; else it never is so, but no clause follows what a box holds into a vector
-        if !are_of(&boxes, &coming.wanted.kinds) {
-            return Err((PlayFault::Memory, Some(stage.shut())));
         }
         if is_over {
             return finish(stage, alloc, &mut pool, &mut printed, output);
@@ -158,8 +171,15 @@ fn play_lines<S: RowLog + Drop, F: Refuser<S>, R: BufRead, W: Write>(
         )?;
         is_over = is_last(coming.end);
     }
-    // no memory holds so many lines
-    Err((PlayFault::Memory, Some(stage.shut())))
+    unreachable!()
+}
+
+/// Whether a line would come that has no number.
+fn is_beyond(number: u64, is_over: bool) -> bool
+    ensures yes { result ≡ true → is_over ≡ false }
+    ensures no { result ≡ false → is_over ≡ false → number ≢ LAST_LINE }
+{
+    !is_over && number == LAST_LINE
 }
 
 /// What comes next: a line, or the end of the script, and the boxes that it wants.
@@ -178,6 +198,7 @@ fn next<S: RowLog + Drop, R: BufRead>(
     line: &mut ScriptLine,
     input: &mut R,
 ) -> Result<Coming, PlayFault>
+    ensures sound { IsSound stage.old → IsSound stage.new }
     ensures truth { S.is_true (store_of stage.new) → S.is_true (store_of stage.old) }
     ensures stands { (basis : Basis) (now : AStage) →
         IsStage (keeping S.stands S.is_true S.is_due) basis stage.old now →
@@ -234,6 +255,10 @@ fn act<S: RowLog + Drop, F: Refuser<S>, W: Write>(
     printed: &mut String,
     output: &mut W,
 ) -> Result<Stage<Declared<S>, Playing<Host<S>>>, (PlayFault, Option<S>)>
+    requires sound { IsSound stage }
+    requires active { AreIn Active (map standing boxes.items) }
+    requires willing { AreWilling (map standing pool.old.items) }
+    ensures sound { IfOk result IsSound }
     ensures truth { Trusts (keeping S.stands S.is_true S.is_due) (store_of stage) store_of result }
     ensures acts { (basis : Basis) (now : AStage) → basis.may_refuse ≡ F.may →
         IsStage (keeping S.stands S.is_true S.is_due) basis stage now →
@@ -264,6 +289,8 @@ fn finish<S: RowLog + Drop, W: Write>(
     printed: &mut String,
     output: &mut W,
 ) -> Result<S, (PlayFault, Option<S>)>
+    requires sound { IsSound stage }
+    requires willing { AreWilling (map standing pool.old.items) }
     ensures truth { Trusts (keeping S.stands S.is_true S.is_due) (store_of stage) (λ store. store)
         result }
     ensures closes { (basis : Basis) (now : AStage) →

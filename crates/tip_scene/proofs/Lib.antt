@@ -1,7 +1,9 @@
 pub mod FirstBranches
 pub mod Places
 pub mod Labelling
-pub mod Looking
+pub mod Dealing
+pub mod Adopted
+pub mod Hosting
 pub mod Scening
 pub mod Loaded
 pub mod Begun

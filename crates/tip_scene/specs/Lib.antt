@@ -1,4 +1,6 @@
 pub mod Faults
+pub mod Boxes
+pub mod Hosting
 pub mod Scenes
 pub mod Acts
 pub mod Standing

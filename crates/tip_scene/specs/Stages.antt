@@ -1,5 +1,6 @@
 -- How the code's stage stands for the script's.
-use Rattle.std.specs.Prelude.{◌≡◌, ℕ, List, ◌++◌, false, Option, Some, None, Result, Ok, Err}
+use Rattle.std.specs.Prelude.{◌≡◌, ℕ, List, ◌++◌, true, false, Option, Some, None, Result, Ok, Err}
+use Rattle.std.specs.List.{list_all}
 use Rattle.tip_actor.specs.Acting.{boxes_of}
 use Rattle.tip_actor.specs.Standing.{Actor, Host, Keeping}
 use Rattle.tip_core.specs.Hosted.{Hosted}
@@ -9,6 +10,7 @@ use Rattle.tip_branch.specs.declared.branch.Standing.{Standing}
 use Rattle.tip_rows.specs.Logs.{IsPart, Log}
 use Rattle.tip_script.specs.Scripts.{Move, plans_of, plans_with}
 use Rattle.tip_scene.specs.Acts.{Stage, Declaring, Playing, Acted, Basis}
+use Rattle.tip_scene.specs.Hosting.{may_be_hosted}
 use Rattle.tip_scene.specs.Scenes.{Moved}
 use Rattle.tip_scene.specs.Standing.{IsScene, IsMoved}
 use Rattle.tip_scene.specs.declared.declared.Declaration.{Declaration}
@@ -34,6 +36,11 @@ AStage S = stages.Stage (Declared S) (APlaying S)
 abbrev pub store_of : {S : Type 0} → AStage S → S
 store_of (stage.Declaring realms) = realms.store
 store_of (stage.Playing playing) = playing.host.store
+
+-- realms that are declared may be hosted so, and the host of those at work was not stopped
+abbrev pub IsSound : {S : Type 0} → AStage S → Type 0
+IsSound (stage.Declaring realms) = list_all may_be_hosted realms.declarations.items ≡ true
+IsSound (stage.Playing playing) = playing.host.is_stopped ≡ false
 
 -- a realm as it is to be hosted
 abbrev pub spec_of : Declaration → RealmSpec

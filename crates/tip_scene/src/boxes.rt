@@ -1,18 +1,17 @@
 //! The boxes that come with a line.
-ghost use Rattle.std.specs.Prelude.{◌≡◌, ◌≤◌, true, map, IfOk};
-ghost use Rattle.tip_actor.specs.Acting.{boxes_of, willing, willing_boxes};
-ghost use Rattle.tip_branch.specs.Always.{Always};
-ghost use Rattle.tip_branch.specs.Lots.{badges_of};
-ghost use Rattle.tip_script.specs.Scripts.{plan_of, plans_of};
+ghost use Rattle.std.specs.Prelude.{◌≡◌, ◌+◌, ◌++◌, ◌∷◌, [], ◌<◌, length, map, IfOk, IsErrOf, OnOk};
+ghost use Rattle.tip_actor.specs.Acting.{willing, willing_boxes};
+ghost use Rattle.tip_actor.specs.declared.fault.ActFault.TheVariants.{Store};
+ghost use Rattle.tip_branch.specs.Lots.{AreIn, badges_of};
+ghost use Rattle.tip_branch.specs.Members.{untold};
+ghost use Rattle.tip_branch.specs.declared.branch.Phase.TheVariants.{Active};
+ghost use Rattle.tip_scene.specs.Boxes.{AreWilling, branch_count, row_count};
 
 use std::alloc::{AllocError, Global};
-use tip_branch::{Branch, Fresh, HeldFresh, HeldPrepared, Prepared};
+use tip_actor::ActFault;
+use tip_branch::{Branch, Fresh, HeldFresh, HeldPrepared, Phase, Plan, Prepared};
 use tip_recovery::{Recovery, Unfinished, branches_of};
 use tip_rows::{Key, Row};
-use tip_script::plan_of;
-
-/// How many branches a row may name.
-const MOST_BRANCHES: usize = 8;
 
 /// The boxes that a line wants: a letter for each that it names, and willing ones for the rows of realms that start.
 #[derive(Drop)]
@@ -40,16 +39,29 @@ impl Wanted {
     }
 }
 
-/// How many branches rows have; more than can be counted find no memory.
-pub(crate) fn count_branches(rows: &[(Key, Row)]) -> Result<usize, AllocError> {
+/// One box more, of a branch that was told nothing, behind those that are there. Whoever makes boxes knows by it what each of
+/// them holds.
+pub fn add_box(
+    boxes: &mut Vec<Box<dyn Branch + Send>>,
+    plan: Plan,
+    phase: Phase,
+    branch: Box<dyn Branch + Send>,
+) -> Result<(), AllocError>
+    requires { standing branch ≡ untold phase (record { plan = plan; mark = 0 }) }
+    ensures { OnOk result (map standing boxes.new.items
+        ≡ map standing boxes.old.items ++ untold phase (record { plan = plan; mark = 0 }) ∷ []) }
+{
+    boxes.push(branch)?;
+    Ok(())
+}
+
+/// How many branches rows have, as far as that can be counted.
+pub(crate) fn count_branches(rows: &[(Key, Row)]) -> usize {
     let mut count: usize = 0;
     for (_, row) in rows {
-        count = match count.checked_add(branches_of(row).len()) {
-            Some(more) => more,
-            None => return Err(AllocError),
-        };
+        count = count.saturating_add(branches_of(row).len());
     }
-    Ok(count)
+    count
 }
 
 /// Boxes that no transaction has yet.
@@ -57,10 +69,11 @@ pub(crate) fn fresh(
     alloc: Global,
     boxes: Vec<Box<dyn Branch + Send>>,
 ) -> Result<HeldFresh, AllocError>
+    requires { AreIn Active (map standing boxes.items) }
     ensures { IfOk result (λ held. held ≡ badges_of (map standing boxes.items)) }
 {
     let Ok(fresh) = Fresh::of(boxes) else {
-        return Err(AllocError);
+        unreachable!()
     };
     match fresh.into_lot(alloc) {
         Ok(lot) => Ok(HeldFresh::of(lot)),
@@ -68,14 +81,17 @@ pub(crate) fn fresh(
     }
 }
 
-/// Willing boxes for the branches of each row of each realm, out of these.
+/// Willing boxes for the branches of each row of each realm, out of these. `Store` where they are too few.
 pub(crate) fn dealt_to_all(
     alloc: Global,
     pool: &mut Vec<Box<dyn Branch + Send>>,
     realms: &[Recovery],
-) -> Result<Vec<Vec<HeldPrepared>>, AllocError>
-    ensures { IfOk result (λ all. map (λ lots. lots.items) all.items
+) -> Result<Vec<Vec<HeldPrepared>>, ActFault>
+    requires { AreWilling (map standing pool.old.items) }
+    ensures dealt { IfOk result (λ all. map (λ lots. lots.items) all.items
         ≡ map (λ recovery. map (λ row. willing_boxes row.row) recovery.rows) realms.now) }
+    ensures few { IsErrOf result Store → length pool.old.items < branch_count realms.now }
+    ensures willing { OnOk result (AreWilling (map standing pool.new.items)) }
 {
     let mut all = Vec::with_capacity(alloc, realms.len())?;
     for recovery in realms {
@@ -84,13 +100,19 @@ pub(crate) fn dealt_to_all(
     Ok(all)
 }
 
-/// Willing boxes for the branches of each row, out of these.
+/// Willing boxes for the branches of each row, out of these. `Store` where they are too few.
 pub(crate) fn dealt_to_rows(
     alloc: Global,
     pool: &mut Vec<Box<dyn Branch + Send>>,
     rows: &[Unfinished],
-) -> Result<Vec<HeldPrepared>, AllocError>
-    ensures { IfOk result (λ lots. lots.items ≡ map (λ row. willing_boxes row.row) rows.now) }
+) -> Result<Vec<HeldPrepared>, ActFault>
+    requires { AreWilling (map standing pool.old.items) }
+    ensures dealt { IfOk result
+        (λ lots. lots.items ≡ map (λ row. willing_boxes row.row) rows.now) }
+    ensures few { IsErrOf result Store → length pool.old.items < row_count rows.now }
+    ensures left { OnOk result (length pool.new.items + row_count rows.now
+        ≡ length pool.old.items) }
+    ensures willing { OnOk result (AreWilling (map standing pool.new.items)) }
 {
     let mut lots = Vec::with_capacity(alloc, rows.len())?;
     for row in rows {
@@ -99,74 +121,39 @@ pub(crate) fn dealt_to_rows(
     Ok(lots)
 }
 
-/// So many willing boxes, out of these.
+/// So many willing boxes, out of these. `Store` where they are too few: the rows that want them are not those for which they were
+/// made.
 fn dealt(
     alloc: Global,
     pool: &mut Vec<Box<dyn Branch + Send>>,
     count: usize,
-) -> Result<HeldPrepared, AllocError>
-    ensures { IfOk result (λ lot. lot ≡ willing count) }
+) -> Result<HeldPrepared, ActFault>
+    requires { AreWilling (map standing pool.old.items) }
+    ensures dealt { IfOk result (λ lot. lot ≡ willing count) }
+    ensures few { IsErrOf result Store → length pool.old.items < count }
+    ensures left { OnOk result (length pool.new.items + count ≡ length pool.old.items) }
+    ensures willing { OnOk result (AreWilling (map standing pool.new.items)) }
 {
-    if count > MOST_BRANCHES {
-        return Err(AllocError);
-    }
     let mut boxes = Vec::with_capacity(alloc, count)?;
     for _ in 0..count {
         let Some(branch) = pool.pop() else {
-            return Err(AllocError);
+            return Err(ActFault::Store);
         };
         boxes.push(branch)?;
     }
-    // it never is so: no clause follows what a box holds into a vector, so they are looked at
-    if !are_of(&boxes, willing_letters(count)) {
-        return Err(AllocError);
-    }
+    Ok(prepared(alloc, boxes)?)
+}
+
+/// Willing boxes as those of a transaction that is taken up again.
+fn prepared(alloc: Global, boxes: Vec<Box<dyn Branch + Send>>) -> Result<HeldPrepared, AllocError>
+    requires { AreWilling (map standing boxes.items) }
+    ensures { IfOk result (λ lot. lot ≡ willing (length boxes.items)) }
+{
     let Ok(prepared) = Prepared::of(boxes) else {
-        return Err(AllocError);
+        unreachable!()
     };
     match prepared.into_lot(alloc) {
         Ok(lot) => Ok(HeldPrepared::of(lot)),
         Err(_) => Err(AllocError),
     }
-}
-
-/// So many letters of branches that promise to commit, for no more than a row may name.
-fn willing_letters(count: usize) -> &'static [u8]
-    requires { count ≤ 8 }
-    ensures { boxes_of (plans_of result.now) ≡ willing count }
-{
-    match count {
-        0 => b"",
-        1 => b"y",
-        2 => b"yy",
-        3 => b"yyy",
-        4 => b"yyyy",
-        5 => b"yyyyy",
-        6 => b"yyyyyy",
-        7 => b"yyyyyyy",
-        _ => b"yyyyyyyy",
-    }
-}
-
-/// Whether these are branches of these letters, one for each.
-pub fn are_of(boxes: &[Box<dyn Branch + Send>], kinds: &[u8]) -> bool
-    ensures { result ≡ true → badges_of (map standing boxes.now) ≡ boxes_of (plans_of kinds.now) }
-{
-    if boxes.len() != kinds.len() {
-        return false;
-    }
-    for (index, kind) in kinds.iter().enumerate() {
-        if !is_of(&boxes[index], *kind) {
-            return false;
-        }
-    }
-    true
-}
-
-/// Whether this is a branch of this letter.
-fn is_of(branch: &Box<dyn Branch + Send>, kind: u8) -> bool
-    ensures { result ≡ true →
-        (standing branch.now).badge ≡ record { plan = plan_of kind; mark = 0 } }
-{
-    branch.plan() == plan_of(kind) && branch.mark() == 0
 }

@@ -26,7 +26,8 @@ pub(crate) fn count_declared<S: RowLog + Drop>(
     Ok(count)
 }
 
-/// The same of realms at work.
+/// How many branches the stored rows of these realms at work have, or those of the realm of this name alone. The store is read, and
+/// stays as it is.
 pub(crate) fn count_acting<S: RowLog + Drop>(
     store: &mut S,
     actors: &[Actor],
@@ -59,10 +60,7 @@ fn count_more<S: RowLog + Drop>(
         return Ok(count);
     }
     match store.load(realm) {
-        Ok(loaded) => match count.checked_add(count_branches(&loaded.rows)?) {
-            Some(more) => Ok(more),
-            None => Err(ActFault::Memory),
-        },
+        Ok(loaded) => Ok(count.saturating_add(count_branches(&loaded.rows))),
         Err(LoadFault::Memory) => Err(ActFault::Memory),
         Err(LoadFault::Refused | LoadFault::BadRow) => Err(ActFault::Store),
     }

@@ -1,11 +1,13 @@
 //! The realms of a script, before they start.
-ghost use Rattle.std.specs.Prelude.{◌≡◌, ◌≤◌, ◌++◌, ◌&&◌, true, false, List, [], None, Some, map, IfOk, OnOk, IsErrOf, string_bytes};
+ghost use Rattle.std.specs.Prelude.{◌≡◌, ◌≤◌, ◌++◌, ◌&&◌, true, false, List, [], None, Some, map, IfOk, OnErr, OnOk, IsErrOf, string_bytes};
 ghost use Rattle.std.specs.List.{list_all, position_or_len};
 ghost use Rattle.tip_branch.specs.Always.{Always};
 ghost use Rattle.tip_line.specs.Fields.{fields_of};
 ghost use Rattle.tip_line.specs.Words.{is_address, is_realm};
 ghost use Rattle.tip_actor.specs.Standing.{keeping};
 ghost use Rattle.tip_scene.specs.Acts.{Basis, declaration_of, declared, is_count, is_declared, is_other, labelled, scene_of, starts_text, with_labels};
+ghost use Rattle.tip_scene.specs.Boxes.{AreWilling};
+ghost use Rattle.tip_scene.specs.Hosting.{may_be_hosted};
 ghost use Rattle.tip_scene.specs.Rising.{AreNew};
 ghost use Rattle.tip_scene.specs.Stages.{Declares, IsDeclared, IsBasis, Trusts, spec_of};
 ghost use Rattle.tip_scene.specs.Standing.{IsScene};
@@ -53,6 +55,7 @@ impl<S: RowLog + Drop> Declared<S, Core> {
     pub fn new(alloc: Global, core: Core, store: S) -> Declared<S, Core>
         requires { Always }
         ensures store { result.store ≡ store }
+        ensures hostable { list_all may_be_hosted result.declarations.items ≡ true }
         ensures none { (basis : Basis) → IsBasis (keeping S.stands S.is_true S.is_due) basis store →
             IsDeclared (keeping S.stands S.is_true S.is_due) basis result [] }
     {
@@ -74,6 +77,8 @@ impl<S: RowLog + Drop> Declared<S, Core> {
     ) -> Result<(), LineFault>
         requires { Always }
         ensures store { self.new.store ≡ self.old.store }
+        ensures hostable { list_all may_be_hosted self.old.declarations.items ≡ true →
+            list_all may_be_hosted self.new.declarations.items ≡ true }
         ensures declares { Declares
             (declared name.now address.now branches limits self.old.declarations.items)
             self.new.declarations.items result }
@@ -94,6 +99,8 @@ impl<S: RowLog + Drop> Declared<S, Core> {
     pub fn label(&mut self, alloc: Global, name: &str, labels: &[u8]) -> Result<(), LineFault>
         requires { Always }
         ensures store { self.new.store ≡ self.old.store }
+        ensures hostable { list_all may_be_hosted self.old.declarations.items ≡ true →
+            list_all may_be_hosted self.new.declarations.items ≡ true }
         ensures declares { Declares
             (labelled name.now (fields_of 32 labels.now) self.old.declarations.items)
             self.new.declarations.items result }
@@ -113,7 +120,10 @@ impl<S: RowLog + Drop> Declared<S, Core> {
         pool: &mut Vec<Box<dyn Branch + Send>>,
         printed: &mut String,
     ) -> Result<Playing<Host<S>>, (ActFault, Option<S>)>
-        requires { Always }
+        requires hostable { list_all may_be_hosted self.declarations.items ≡ true }
+        requires willing { AreWilling (map standing pool.old.items) }
+        ensures willing { OnOk result (AreWilling (map standing pool.new.items)) }
+        ensures running { IfOk result (λ playing. playing.host.is_stopped ≡ false) }
         ensures truth { Trusts (keeping S.stands S.is_true S.is_due) self.store
             (λ playing. playing.host.store) result }
         ensures text { (basis : Basis) (declarations : List Declaration) →
@@ -137,7 +147,7 @@ impl<S: RowLog + Drop> Declared<S, Core> {
         match Host::load(alloc, store, core, specs) {
             Ok(recovering) => match rise(alloc, recovering, actors, pool, printed) {
                 Ok(playing) => Ok(playing),
-                Err(AllocError) => Err((ActFault::Memory, None)),
+                Err(fault) => Err((fault, None)),
             },
             Err((fault, store)) => Err((ActFault::from(fault), Some(store))),
         }
@@ -146,6 +156,7 @@ impl<S: RowLog + Drop> Declared<S, Core> {
     /// How many boxes a start wants: a willing one for each branch of each stored row, of one realm or of all.
     pub(crate) fn willing(&mut self, only: Option<&str>) -> Result<usize, ActFault>
         requires { Always }
+        ensures same { self.new.declarations ≡ self.old.declarations }
         ensures truth { S.is_true self.new.store → S.is_true self.old.store }
         ensures stands { (basis : Basis) (declarations : List Declaration) →
             IsDeclared (keeping S.stands S.is_true S.is_due) basis self.old declarations →
@@ -161,6 +172,7 @@ impl Declaration {
         ensures ok { OnOk result (with_labels (fields_of 32 labels.now) self.old ≡ Some self.new) }
         ensures bad { IsErrOf result NotUnderstood →
             with_labels (fields_of 32 labels.now) self.old ≡ None }
+        ensures same { OnErr result (self.new ≡ self.old) }
     {
         if self.is_labelled {
             return Err(LineFault::NotUnderstood);
@@ -175,8 +187,9 @@ impl Declaration {
     }
 
     /// The realm as it is to be hosted. It takes no memory.
-    fn into_spec(self) -> Result<RealmSpec, AllocError>
-        ensures { IfOk result (λ spec. spec ≡ spec_of self) }
+    fn into_spec(self) -> RealmSpec
+        requires { may_be_hosted self ≡ true }
+        ensures { result ≡ spec_of self }
     {
         let Declaration {
             name,
@@ -186,8 +199,8 @@ impl Declaration {
             ..
         } = self;
         match RealmSpec::new(name, address, limits, branches) {
-            Ok(spec) => Ok(spec),
-            Err(_) => Err(AllocError),
+            Ok(spec) => spec,
+            Err(_) => unreachable!(),
         }
     }
 }
@@ -249,6 +262,7 @@ fn parts_of(
     alloc: Global,
     declarations: Vec<Declaration>,
 ) -> Result<(Vec<Actor>, Vec<RealmSpec>), AllocError>
+    requires { list_all may_be_hosted declarations.items ≡ true }
     ensures { IfOk result (λ parts. ((basis : Basis) →
         AreNew parts.0.items (scene_of basis declarations.items))
         × (parts.1.items ≡ map spec_of declarations.items)) }
@@ -273,11 +287,12 @@ fn actors_of(alloc: Global, declarations: &[Declaration]) -> Result<Vec<Actor>, 
 
 /// Each realm as it is to be hosted.
 fn specs_of(alloc: Global, declarations: Vec<Declaration>) -> Result<Vec<RealmSpec>, AllocError>
+    requires { list_all may_be_hosted declarations.items ≡ true }
     ensures { IfOk result (λ specs. specs.items ≡ map spec_of declarations.items) }
 {
     let mut specs = Vec::with_capacity(alloc, declarations.len())?;
     for declaration in declarations {
-        specs.push(declaration.into_spec()?)?;
+        specs.push(declaration.into_spec())?;
     }
     Ok(specs)
 }

@@ -13,7 +13,7 @@ mod restarting;
 mod rising;
 mod stage;
 
-pub use boxes::{Wanted, are_of};
+pub use boxes::{Wanted, add_box};
 pub use declared::Declared;
 pub use fault::LineFault;
 pub use playing::Playing;

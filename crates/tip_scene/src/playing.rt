@@ -6,7 +6,10 @@ ghost use Rattle.tip_actor.specs.Acting.{Acting, boxes_of};
 ghost use Rattle.tip_actor.specs.Standing.{IsActing, Tells, keeping};
 ghost use Rattle.tip_script.specs.Moves.{move_by};
 ghost use Rattle.tip_script.specs.Scripts.{Renew as Renews, is_start, plans_with, realm_of};
+ghost use Rattle.tip_branch.specs.Lots.{AreIn};
+ghost use Rattle.tip_branch.specs.declared.branch.Phase.TheVariants.{Active};
 ghost use Rattle.tip_scene.specs.Acts.{may_say};
+ghost use Rattle.tip_scene.specs.Boxes.{AreWilling};
 ghost use Rattle.tip_scene.specs.Scenes.{Scene, does, elsewhere, moved, moved_in};
 ghost use Rattle.tip_scene.specs.Standing.{has_name, IsScene};
 ghost use Rattle.tip_scene.specs.Stages.{ComeWith, Moves, Prints, Serves, Trusts};
@@ -46,7 +49,10 @@ impl<S: RowLog + Drop> Playing<Host<S>, Actor> {
         pool: &mut Vec<Box<dyn Branch + Send>>,
         printed: &mut String,
     ) -> Result<Playing<Host<S>>, (LineFault, Option<S>)>
-        requires { Always }
+        requires running { self.host.is_stopped ≡ false }
+        requires active { AreIn Active (map standing boxes.items) }
+        requires willing { AreWilling (map standing pool.old.items) }
+        ensures running { IfOk result (λ playing. playing.host.is_stopped ≡ false) }
         ensures truth { Trusts (keeping S.stands S.is_true S.is_due) self.host.store
             (λ playing. playing.host.store) result }
         ensures moves { (scene : Scene) →
@@ -76,8 +82,11 @@ impl<S: RowLog + Drop> Playing<Host<S>, Actor> {
         pool: &mut Vec<Box<dyn Branch + Send>>,
         printed: &mut String,
     ) -> Result<(), LineFault>
-        requires always { Always }
         requires named { realm_of (move_by instruction) ≡ Some realm.now }
+        requires running { self.old.host.is_stopped ≡ false }
+        requires active { AreIn Active (map standing boxes.items) }
+        requires willing { AreWilling (map standing pool.old.items) }
+        ensures running { self.new.host.is_stopped ≡ false }
         ensures truth { S.is_true self.new.host.store → S.is_true self.old.host.store }
         ensures serves { (scene : Scene) → IsScene (keeping S.stands S.is_true S.is_due)
             self.old.host self.old.actors.items scene →
@@ -102,7 +111,9 @@ impl<S: RowLog + Drop> Playing<Host<S>, Actor> {
         pool: &mut Vec<Box<dyn Branch + Send>>,
         printed: &mut String,
     ) -> Result<(), LineFault>
-        requires { Always }
+        requires running { self.old.host.is_stopped ≡ false }
+        requires willing { AreWilling (map standing pool.old.items) }
+        ensures running { self.new.host.is_stopped ≡ false }
         ensures truth { S.is_true self.new.host.store → S.is_true self.old.host.store }
         ensures serves { (scene : Scene) → IsScene (keeping S.stands S.is_true S.is_due)
             self.old.host self.old.actors.items scene → S.is_true self.new.host.store →
@@ -131,8 +142,9 @@ impl<S: RowLog + Drop> Playing<Host<S>, Actor> {
         boxes: HeldFresh,
         printed: &mut String,
     ) -> Result<(), LineFault>
-        requires always { Always }
         requires same { is_start (move_by instruction) ≡ false }
+        requires running { self.old.host.is_stopped ≡ false }
+        ensures running { self.new.host.is_stopped ≡ false }
         ensures truth { S.is_true self.new.host.store → S.is_true self.old.host.store }
         ensures serves { (scene : Scene) → IsScene (keeping S.stands S.is_true S.is_due)
             self.old.host self.old.actors.items scene →
@@ -166,6 +178,7 @@ impl<S: RowLog + Drop> Playing<Host<S>, Actor> {
     /// How many boxes a start wants: a willing one for each branch of each stored row, of one realm or of all.
     pub(crate) fn willing(&mut self, only: Option<&str>) -> Result<usize, ActFault>
         requires { Always }
+        ensures running { self.new.host.is_stopped ≡ self.old.host.is_stopped }
         ensures truth { S.is_true self.new.host.store → S.is_true self.old.host.store }
         ensures stands { (scene : Scene) → IsScene (keeping S.stands S.is_true S.is_due)
             self.old.host self.old.actors.items scene →
@@ -199,7 +212,9 @@ fn obey<S: RowLog + Drop, R: Refuser<S>>(
     boxes: HeldFresh,
     printed: &mut String,
 ) -> Result<bool, ActFault>
-    requires { is_start (move_by instruction) ≡ false }
+    requires same { is_start (move_by instruction) ≡ false }
+    requires running { host.old.is_stopped ≡ false }
+    ensures running { host.new.is_stopped ≡ false }
     ensures truth { S.is_true host.new.store → S.is_true host.old.store }
     ensures tells { (acting : Acting) →
         IsActing (keeping S.stands S.is_true S.is_due) host.old place actor.old acting →

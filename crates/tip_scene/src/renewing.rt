@@ -1,16 +1,15 @@
 //! One realm of a script starts again while the others run.
-ghost use Rattle.std.specs.Prelude.{◌≡◌, ◌+◌, ◌++◌, ◌==◌, None, Some, OnOk, if◌then◌else◌, slice_get, string_bytes};
+ghost use Rattle.std.specs.Prelude.{◌≡◌, ◌+◌, ◌++◌, Some, OnOk, map, string_bytes};
 ghost use Rattle.std.specs.List.{flat_map};
-ghost use Rattle.std.specs.Option.{option_and_then};
 ghost use Rattle.tip_actor.specs.Acting.{Acting, renewed, renews};
 ghost use Rattle.tip_actor.specs.Standing.{Acts, IsActing, IsDone, keeping};
 ghost use Rattle.tip_core.specs.Hosted.{realm as realm_at};
 ghost use Rattle.tip_machine.specs.Answers.{identifier};
 ghost use Rattle.tip_machine.specs.Moves.{drops_at};
 ghost use Rattle.tip_machine.specs.States.{State};
-ghost use Rattle.tip_rows.specs.Logs.{last_epoch};
 ghost use Rattle.tip_rows.specs.Rows.{branches_of};
 ghost use Rattle.tip_transcript.specs.Printing.{adopted_text, shown_text, start_text};
+ghost use Rattle.tip_scene.specs.Boxes.{AreWilling};
 ghost use Rattle.tip_scene.specs.Rising.{IsWilling};
 
 use crate::boxes::dealt_to_rows;
@@ -21,7 +20,7 @@ use tip_branch::Branch;
 use tip_core::Core;
 use tip_host::{Host, RenewFault};
 use tip_line::Refusal;
-use tip_machine::Head;
+use tip_machine::next_epoch;
 use tip_recovery::{Recovery, Unfinished};
 use tip_rows::RowLog;
 use tip_transcript::{print_refusal, print_start};
@@ -35,6 +34,8 @@ pub(crate) fn renew<S: RowLog + Drop>(
     pool: &mut Vec<Box<dyn Branch + Send>>,
     printed: &mut String,
 ) -> Result<(), ActFault>
+    requires { AreWilling (map standing pool.old.items) }
+    ensures running { host.new.is_stopped ≡ host.old.is_stopped }
     ensures truth { S.is_true host.new.store → S.is_true host.old.store }
     ensures acts { S.is_true host.new.store → OnOk result (Acts
         (keeping S.stands S.is_true S.is_due) host.old host.new place actor.old actor.new
@@ -46,33 +47,11 @@ pub(crate) fn renew<S: RowLog + Drop>(
     };
     let mut recovery = host.doubts(alloc, place)?;
     let lots = dealt_to_rows(alloc, pool, recovery.rows())?;
+    // only of a store that can be relied on does `doubts` say that nothing was adopted for its rows
     if !recovery.adopt_all(lots) {
-        return Err(ActFault::Memory);
+        return Err(ActFault::Store);
     }
     renew_by(actor, alloc, host, place, epoch, recovery, printed)
-}
-
-/// The epoch in which a realm would start again; None after the last.
-fn next_epoch(heads: &[Head], place: usize) -> Option<u32>
-    ensures { result ≡ option_and_then
-        (λ head. if head.epoch == last_epoch then None else Some (head.epoch + 1))
-        (slice_get heads.now place) }
-{
-    match heads.get(place) {
-        Some(head) => epoch_after(head.epoch),
-        None => None,
-    }
-}
-
-/// The epoch after this one, if it is not the last.
-fn epoch_after(epoch: u32) -> Option<u32>
-    ensures { result ≡ (if epoch == last_epoch then None else Some (epoch + 1)) }
-{
-    if epoch == u32::MAX {
-        None
-    } else {
-        Some(epoch + 1)
-    }
 }
 
 /// The realm starts again in this epoch, by its rows and their boxes, unless the store is to refuse that.
@@ -85,6 +64,7 @@ fn renew_by<S: RowLog + Drop>(
     recovery: Recovery,
     printed: &mut String,
 ) -> Result<(), ActFault>
+    ensures running { host.new.is_stopped ≡ host.old.is_stopped }
     ensures truth { S.is_true host.new.store → S.is_true host.old.store }
     ensures done { S.is_true host.new.store → (acting : Acting) →
         IsActing (keeping S.stands S.is_true S.is_due) host.old place actor.old acting →

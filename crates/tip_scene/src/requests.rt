@@ -1,5 +1,5 @@
 //! What a script asks of a realm with words of its own: addresses and identifiers.
-ghost use Rattle.std.specs.Prelude.{◌≡◌, ◌&&◌, ℕ, List, Some, None, IfOk, if◌then◌else◌, string_bytes};
+ghost use Rattle.std.specs.Prelude.{◌≡◌, ◌&&◌, ℕ, List, false, Some, None, IfOk, if◌then◌else◌, string_bytes};
 ghost use Rattle.tip_actor.specs.Acting.{Acting, boxes_of};
 ghost use Rattle.tip_actor.specs.Standing.{IsActing, Tells, keeping};
 ghost use Rattle.tip_branch.specs.declared.branch.Plan.{Plan};
@@ -29,6 +29,8 @@ pub(crate) fn dial<S: RowLog + Drop>(
     boxes: HeldFresh,
     printed: &mut String,
 ) -> Result<bool, ActFault>
+    requires { host.old.is_stopped ≡ false }
+    ensures running { host.new.is_stopped ≡ false }
     ensures truth { S.is_true host.new.store → S.is_true host.old.store }
     ensures tells { (acting : Acting) (realm : List ℕ) (plans : List Plan) →
         IsActing (keeping S.stands S.is_true S.is_due) host.old place actor.old acting →
@@ -78,6 +80,8 @@ pub(crate) fn push<S: RowLog + Drop>(
     asked: Asked<'_>,
     printed: &mut String,
 ) -> Result<bool, ActFault>
+    requires { host.old.is_stopped ≡ false }
+    ensures running { host.new.is_stopped ≡ false }
     ensures truth { S.is_true host.new.store → S.is_true host.old.store }
     ensures tells { (acting : Acting) (realm : List ℕ) →
         IsActing (keeping S.stands S.is_true S.is_due) host.old place actor.old acting →
@@ -100,6 +104,8 @@ pub(crate) fn pull<S: RowLog + Drop>(
     asked: Asked<'_>,
     printed: &mut String,
 ) -> Result<bool, ActFault>
+    requires { host.old.is_stopped ≡ false }
+    ensures running { host.new.is_stopped ≡ false }
     ensures truth { S.is_true host.new.store → S.is_true host.old.store }
     ensures tells { (acting : Acting) (realm : List ℕ) →
         IsActing (keeping S.stands S.is_true S.is_due) host.old place actor.old acting →
@@ -122,6 +128,8 @@ pub(crate) fn resume<S: RowLog + Drop>(
     id: &[u8],
     printed: &mut String,
 ) -> Result<bool, ActFault>
+    requires { host.old.is_stopped ≡ false }
+    ensures running { host.new.is_stopped ≡ false }
     ensures truth { S.is_true host.new.store → S.is_true host.old.store }
     ensures tells { (acting : Acting) (realm : List ℕ) →
         IsActing (keeping S.stands S.is_true S.is_due) host.old place actor.old acting →

@@ -1,11 +1,12 @@
 //! The process of a script starts again.
-ghost use Rattle.std.specs.Prelude.{◌≡◌, ◌++◌, ◌==◌, ℕ, IfOk, OnOk, option_map, slice_get, string_bytes};
+ghost use Rattle.std.specs.Prelude.{◌≡◌, ◌++◌, ◌==◌, ℕ, false, map, IfOk, OnOk, option_map, slice_get, string_bytes};
 ghost use Rattle.std.specs.List.{flat_map, list_any};
 ghost use Rattle.tip_actor.specs.Acting.{is_at_end, restarts};
 ghost use Rattle.tip_actor.specs.Standing.{keeping};
 ghost use Rattle.tip_core.specs.Hosted.{realm as realm_at};
 ghost use Rattle.tip_host.specs.Loading.{spec_of as spec_of_head};
 ghost use Rattle.tip_machine.specs.States.{State};
+ghost use Rattle.tip_scene.specs.Boxes.{AreWilling};
 ghost use Rattle.tip_scene.specs.Rising.{AreAgain, AreWaiting};
 ghost use Rattle.tip_rows.specs.Logs.{last_epoch};
 ghost use Rattle.tip_scene.specs.Scenes.{Scene, openings_text, restarted};
@@ -30,6 +31,8 @@ pub(crate) fn restart<S: RowLog + Drop>(
     pool: &mut Vec<Box<dyn Branch + Send>>,
     printed: &mut String,
 ) -> Result<Playing<Host<S>>, (LineFault, Option<S>)>
+    requires { AreWilling (map standing pool.old.items) }
+    ensures running { IfOk result (λ again. again.host.is_stopped ≡ false) }
     ensures truth { Trusts (keeping S.stands S.is_true S.is_due) playing.host.store
         (λ again. again.host.store) result }
     ensures moves { (scene : Scene) →
@@ -48,7 +51,7 @@ pub(crate) fn restart<S: RowLog + Drop>(
     match host.restart(alloc, specs) {
         Ok(recovering) => match rise_again(alloc, recovering, actors, pool, printed) {
             Ok(playing) => Ok(playing),
-            Err(AllocError) => Err((LineFault::Memory, None)),
+            Err(fault) => Err((LineFault::from(fault), None)),
         },
         Err((fault, store)) => Err((LineFault::from(ActFault::from(fault)), Some(store))),
     }
@@ -72,14 +75,16 @@ fn leave<S: RowLog + Drop>(
     host.declarations(alloc)
 }
 
-/// The same realms, to which nothing has come, are at work again.
+/// These realms are at work again as those that begin, on the host that has read their rows.
 fn rise_again<S: RowLog + Drop>(
     alloc: Global,
     recovering: Recovering<S>,
     actors: Vec<Actor>,
     pool: &mut Vec<Box<dyn Branch + Send>>,
     printed: &mut String,
-) -> Result<Playing<Host<S>>, AllocError>
+) -> Result<Playing<Host<S>>, ActFault>
+    requires { AreWilling (map standing pool.old.items) }
+    ensures running { IfOk result (λ playing. playing.host.is_stopped ≡ false) }
     ensures store { IfOk result (λ playing. playing.host.store ≡ recovering.store) }
     ensures text { (scene : Scene) → AreAgain actors.items scene →
         AreWaiting (keeping S.stands S.is_true S.is_due) recovering scene →

@@ -1,11 +1,13 @@
 //! Realms that have started, and are put to work.
-ghost use Rattle.std.specs.Prelude.{◌≡◌, ◌++◌, ℕ, [], IfOk, OnOk, string_bytes};
+ghost use Rattle.std.specs.Prelude.{◌≡◌, ◌++◌, ℕ, [], false, true, map, IfOk, OnOk, string_bytes};
 ghost use Rattle.std.specs.List.{flat_map};
 ghost use Rattle.tip_machine.specs.Answers.{identifier};
 ghost use Rattle.tip_rows.specs.Rows.{branches_of};
 ghost use Rattle.tip_transcript.specs.Printing.{adopted_text};
 ghost use Rattle.tip_actor.specs.Acting.{Acting, opening_text};
 ghost use Rattle.tip_actor.specs.Standing.{keeping};
+ghost use Rattle.tip_host.specs.Recovering.{all_adopted};
+ghost use Rattle.tip_scene.specs.Boxes.{AreWilling};
 ghost use Rattle.tip_scene.specs.Rising.{AreAnew, AreNew, AreRising, AreWaiting, IsRising};
 ghost use Rattle.tip_scene.specs.Scenes.{Scene, openings_text};
 ghost use Rattle.tip_scene.specs.Standing.{IsScene};
@@ -13,7 +15,7 @@ ghost use Rattle.tip_scene.specs.Standing.{IsScene};
 use crate::boxes::dealt_to_all;
 use crate::playing::Playing;
 use std::alloc::{AllocError, Global};
-use tip_actor::Actor;
+use tip_actor::{ActFault, Actor};
 use tip_branch::Branch;
 use tip_host::{Host, Recovering};
 use tip_recovery::Unfinished;
@@ -27,7 +29,10 @@ pub(crate) fn rise<S: RowLog + Drop>(
     actors: Vec<Actor>,
     pool: &mut Vec<Box<dyn Branch + Send>>,
     printed: &mut String,
-) -> Result<Playing<Host<S>>, AllocError>
+) -> Result<Playing<Host<S>>, ActFault>
+    requires { AreWilling (map standing pool.old.items) }
+    ensures willing { OnOk result (AreWilling (map standing pool.new.items)) }
+    ensures running { IfOk result (λ playing. playing.host.is_stopped ≡ false) }
     ensures store { IfOk result (λ playing. playing.host.store ≡ recovering.store) }
     ensures text { (scene : Scene) → AreNew actors.items scene →
         AreWaiting (keeping S.stands S.is_true S.is_due) recovering scene →
@@ -39,10 +44,11 @@ pub(crate) fn rise<S: RowLog + Drop>(
         playing.actors.items scene) }
 {
     let lots = dealt_to_all(alloc, pool, recovering.realms())?;
+    // only of a store that can be relied on does a load say that nothing was adopted for its rows
     if !recovering.adopt_all(lots) {
-        return Err(AllocError);
+        return Err(ActFault::Store);
     }
-    begin(recovering, actors, printed)
+    Ok(begin(recovering, actors, printed)?)
 }
 
 /// Realms that have started say so, and are at work.
@@ -51,6 +57,8 @@ fn begin<S: RowLog + Drop>(
     actors: Vec<Actor>,
     printed: &mut String,
 ) -> Result<Playing<Host<S>>, AllocError>
+    requires { all_adopted recovering.realms ≡ true }
+    ensures running { IfOk result (λ playing. playing.host.is_stopped ≡ false) }
     ensures store { IfOk result (λ playing. playing.host.store ≡ recovering.store) }
     ensures text { (scene : Scene) → AreNew actors.items scene →
         AreRising (keeping S.stands S.is_true S.is_due) recovering scene →
@@ -64,11 +72,11 @@ fn begin<S: RowLog + Drop>(
     print_openings(printed, &recovering, &actors)?;
     match recovering.begin() {
         Ok(host) => Ok(Playing { host, actors }),
-        Err(_) => Err(AllocError),
+        Err(_) => unreachable!(),
     }
 }
 
-/// The same realms, to which nothing has come.
+/// These realms as they begin: nothing has come to them, and no party of theirs is out.
 pub(crate) fn anew(alloc: Global, actors: Vec<Actor>) -> Result<Vec<Actor>, AllocError>
     ensures { IfOk result (λ again. AreAnew again.items actors.items) }
 {

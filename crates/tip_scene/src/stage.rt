@@ -5,7 +5,12 @@ ghost use Rattle.tip_actor.specs.Standing.{keeping};
 ghost use Rattle.tip_script.specs.Moves.{move_by};
 ghost use Rattle.tip_script.specs.Scripts.{move_of};
 ghost use Rattle.tip_scene.specs.Acts.{Basis, Stage as AStage, Declaring as Begins, acted, acts, closing_of, may_say};
-ghost use Rattle.tip_scene.specs.Stages.{ActsSo, AreWanted, ComeWith, IsDeclared, IsBasis, IsStage, Trusts, store_of};
+ghost use Rattle.tip_branch.specs.Lots.{AreIn};
+ghost use Rattle.tip_branch.specs.declared.branch.Phase.TheVariants.{Active};
+ghost use Rattle.std.specs.List.{list_all};
+ghost use Rattle.tip_scene.specs.Boxes.{AreWilling};
+ghost use Rattle.tip_scene.specs.Hosting.{may_be_hosted};
+ghost use Rattle.tip_scene.specs.Stages.{ActsSo, AreWanted, ComeWith, IsDeclared, IsBasis, IsSound, IsStage, Trusts, store_of};
 
 use crate::boxes::Wanted;
 use crate::declared::{Declaration, Declared};
@@ -31,6 +36,7 @@ impl<S: RowLog + Drop> Stage<Declared<S>, Playing<Host<S>>> {
     pub fn new(alloc: Global, core: Core, store: S) -> Stage<Declared<S>, Playing<Host<S>>>
         requires { Always }
         ensures store { store_of result ≡ store }
+        ensures sound { IsSound result }
         ensures none { (basis : Basis) → IsBasis (keeping S.stands S.is_true S.is_due) basis store →
             IsStage (keeping S.stands S.is_true S.is_due) basis result (Begins []) }
     {
@@ -48,7 +54,10 @@ impl<S: RowLog + Drop> Stage<Declared<S>, Playing<Host<S>>> {
         pool: &mut Vec<Box<dyn Branch + Send>>,
         printed: &mut String,
     ) -> Result<Stage<Declared<S>, Playing<Host<S>>>, (LineFault, Option<S>)>
-        requires { Always }
+        requires sound { IsSound self }
+        requires active { AreIn Active (map standing boxes.items) }
+        requires willing { AreWilling (map standing pool.old.items) }
+        ensures sound { IfOk result IsSound }
         ensures truth { Trusts (keeping S.stands S.is_true S.is_due) (store_of self) store_of
             result }
         ensures acts { (basis : Basis) (stage : AStage) → basis.may_refuse ≡ R.may →
@@ -76,7 +85,8 @@ impl<S: RowLog + Drop> Stage<Declared<S>, Playing<Host<S>>> {
         pool: &mut Vec<Box<dyn Branch + Send>>,
         printed: &mut String,
     ) -> Result<S, (ActFault, Option<S>)>
-        requires { Always }
+        requires sound { IsSound self }
+        requires willing { AreWilling (map standing pool.old.items) }
         ensures truth { Trusts (keeping S.stands S.is_true S.is_due) (store_of self)
             (λ store. store) result }
         ensures closes { (basis : Basis) (stage : AStage) →
@@ -107,6 +117,7 @@ impl<S: RowLog + Drop> Stage<Declared<S>, Playing<Host<S>>> {
     /// The boxes that a line wants. The store is read, and stays as it is.
     pub fn wanted(&mut self, alloc: Global, line: &[u8]) -> Result<Wanted, ActFault>
         requires { Always }
+        ensures sound { IsSound self.old → IsSound self.new }
         ensures truth { S.is_true (store_of self.new) → S.is_true (store_of self.old) }
         ensures stands { (basis : Basis) (stage : AStage) →
             IsStage (keeping S.stands S.is_true S.is_due) basis self.old stage →
@@ -125,6 +136,7 @@ impl<S: RowLog + Drop> Stage<Declared<S>, Playing<Host<S>>> {
     /// How many willing boxes the start wants, where the realms have not started. The store is read, and stays as it is.
     pub fn wanted_at_start(&mut self) -> Result<usize, ActFault>
         requires { Always }
+        ensures sound { IsSound self.old → IsSound self.new }
         ensures truth { S.is_true (store_of self.new) → S.is_true (store_of self.old) }
         ensures stands { (basis : Basis) (stage : AStage) →
             IsStage (keeping S.stands S.is_true S.is_due) basis self.old stage →
@@ -138,6 +150,7 @@ impl<S: RowLog + Drop> Stage<Declared<S>, Playing<Host<S>>> {
 
     /// How many willing boxes an instruction wants: for the start, if it is the first that declares none, and for what it starts again.
     fn willing(&mut self, instruction: Instruction<'_>) -> Result<usize, ActFault>
+        ensures sound { IsSound self.old → IsSound self.new }
         ensures truth { S.is_true (store_of self.new) → S.is_true (store_of self.old) }
         ensures stands { (basis : Basis) (stage : AStage) →
             IsStage (keeping S.stands S.is_true S.is_due) basis self.old stage →
@@ -149,14 +162,12 @@ impl<S: RowLog + Drop> Stage<Declared<S>, Playing<Host<S>>> {
             Instruction::Renew { realm } => self.rows(Some(realm))?,
             _ => 0,
         };
-        match self.wanted_at_start()?.checked_add(again) {
-            Some(count) => Ok(count),
-            None => Err(ActFault::Memory),
-        }
+        Ok(self.wanted_at_start()?.saturating_add(again))
     }
 
     /// How many branches the stored rows have, of one realm or of all.
     fn rows(&mut self, only: Option<&str>) -> Result<usize, ActFault>
+        ensures sound { IsSound self.old → IsSound self.new }
         ensures truth { S.is_true (store_of self.new) → S.is_true (store_of self.old) }
         ensures stands { (basis : Basis) (stage : AStage) →
             IsStage (keeping S.stands S.is_true S.is_due) basis self.old stage →
@@ -178,6 +189,10 @@ impl<S: RowLog + Drop> Stage<Declared<S>, Playing<Host<S>>> {
         pool: &mut Vec<Box<dyn Branch + Send>>,
         printed: &mut String,
     ) -> Result<Stage<Declared<S>, Playing<Host<S>>>, (LineFault, Option<S>)>
+        requires sound { IsSound self }
+        requires active { AreIn Active (map standing boxes.items) }
+        requires willing { AreWilling (map standing pool.old.items) }
+        ensures sound { IfOk result IsSound }
         ensures truth { Trusts (keeping S.stands S.is_true S.is_due) (store_of self) store_of
             result }
         ensures acts { (basis : Basis) (stage : AStage) →
@@ -209,6 +224,10 @@ fn declare<S: RowLog + Drop, R: Refuser<S>>(
     pool: &mut Vec<Box<dyn Branch + Send>>,
     printed: &mut String,
 ) -> Result<Stage<Declared<S>, Playing<Host<S>>>, (LineFault, Option<S>)>
+    requires hostable { list_all may_be_hosted declared.declarations.items ≡ true }
+    requires active { AreIn Active (map standing boxes.items) }
+    requires willing { AreWilling (map standing pool.old.items) }
+    ensures sound { IfOk result IsSound }
     ensures truth { Trusts (keeping S.stands S.is_true S.is_due) declared.store store_of result }
     ensures acts { (basis : Basis) (declarations : List Declaration) →
         IsDeclared (keeping S.stands S.is_true S.is_due) basis declared declarations →

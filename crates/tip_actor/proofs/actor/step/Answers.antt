@@ -4,8 +4,8 @@ use Rattle.tip_core.specs.Hosted.{realm}
 use Rattle.tip_actor.proofs.Serving.{serves, still_true}
 use Rattle.tip_actor.proofs.actor.step.Goals as goal
 
-pub returns-in-Err-clause-truth : goal.returns-in-Err-clause-truth
-returns-in-Err-clause-truth g c = λ is. subst g.S.RowLog.is_true c.in-Err.ensures.store is
+pub returns-in-Err-Memory-default-clause-truth : goal.returns-in-Err-Memory-default-clause-truth
+returns-in-Err-Memory-default-clause-truth g c = λ is. subst g.S.RowLog.is_true c.in-Err-Memory-default.ensures.store is
 
 pub returns-then-is_unforeseen-clause-truth : goal.returns-then-is_unforeseen-clause-truth
 returns-then-is_unforeseen-clause-truth g c = still_true g.S.RowLog.stands g.S.RowLog.may_leave g.S.RowLog.is_true g.S.RowLog.faults g.S.RowLog.is_due c.args.host.now.core c.args.host.now.store c.step.new.self.store c.args.place c.in-Ok.happened.change c.in-Ok.happened.outcome (realm c.args.host.now.core c.args.place) refl (λ none. (c.in-Ok.ensures.absent none).1) c.in-Ok.ensures.keeps

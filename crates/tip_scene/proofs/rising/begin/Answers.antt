@@ -3,5 +3,5 @@ use Rattle.tip_actor.specs.Standing.{keeping}
 use Rattle.tip_scene.proofs.Begun.{begins}
 use Rattle.tip_scene.proofs.rising.begin.Goals as goal
 
-pub returns-in-Ok-clause-scene : goal.returns-in-Ok-clause-scene
-returns-in-Ok-clause-scene g c = λ scene are rising. begins (keeping g.S.RowLog.stands g.S.RowLog.is_true g.S.RowLog.is_due) c.args.recovering c.in-Ok.host (record { store = c.in-Ok.ensures.store; realms = c.in-Ok.ensures.realms; names = c.in-Ok.ensures.names }) c.args.actors.items scene are rising
+pub returns-clause-scene : goal.returns-clause-scene
+returns-clause-scene g c = λ scene are rising. begins (keeping g.S.RowLog.stands g.S.RowLog.is_true g.S.RowLog.is_due) c.args.recovering c.in-Ok.host (record { store = c.in-Ok.ensures.store; realms = c.in-Ok.ensures.realms; names = c.in-Ok.ensures.names }) c.args.actors.items scene are rising

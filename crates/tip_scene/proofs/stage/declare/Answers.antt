@@ -15,6 +15,7 @@ pub returns-in_err-playing-in_default : goal.returns-in_err-playing-in_default
 returns-in_err-playing-in_default g c =
     let e = err_from_is_err_and c.from_residual.result c.from_residual.ensures.1 in
     rw (e.1, e.2) (record {
+      sound = tt;
       truth = λ reliable. c.in-Ok.ensures.truth (c.in_err-playing-in_default.ensures.truth reliable);
       acts = λ basis declarations is may boxes. fails_first (keeping g.S.RowLog.stands g.S.RowLog.is_true g.S.RowLog.is_due) basis declarations (string_bytes c.args.printed.now) (string_bytes c.start.new.printed) (string_bytes c.act.new.printed) c.args.instruction c.in_default.not-Realm c.in_default.not-Labels c.in_err-playing-in_default.field-0.0
           (λ reliable. c.in-Ok.ensures.text basis declarations is (c.in_err-playing-in_default.ensures.truth reliable))
@@ -23,6 +24,7 @@ returns-in_err-playing-in_default g c =
 
 pub returns-in_default : goal.returns-in_default
 returns-in_default g c = record {
+  sound = c.in_ok-playing-in_default.ensures.running;
   truth = λ truth. c.in-Ok.ensures.truth (c.in_ok-playing-in_default.ensures.truth truth);
   acts = λ basis declarations is may boxes. plays_first (keeping g.S.RowLog.stands g.S.RowLog.is_true g.S.RowLog.is_due) basis declarations (string_bytes c.args.printed.now) (string_bytes c.start.new.printed) (string_bytes c.act.new.printed) c.args.instruction c.in_default.not-Realm c.in_default.not-Labels c.in_ok-playing-in_default.playing
       (λ truth. (let before = c.in_ok-playing-in_default.ensures.truth truth in (c.in-Ok.ensures.text basis declarations is before, c.in_ok-playing-in_default.ensures.moves (scene_of basis declarations) (c.in-Ok.ensures.scene basis declarations is before) may boxes truth)));

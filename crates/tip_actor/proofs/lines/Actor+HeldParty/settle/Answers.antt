@@ -6,6 +6,7 @@ use Rattle.tip_actor.proofs.lines.Actor+HeldParty.settle.Goals as goal
 
 pub loop-init : goal.loop-init
 loop-init g c = record {
+  running = c.requires.running;
   truth = λ is. is;
   settles = λ acting is. settles_first (keeping g.S.RowLog.stands g.S.RowLog.is_true g.S.RowLog.is_due) c.args.host.now c.args.place c.args.self.now (string_bytes c.args.printed.now) acting is;
 }
@@ -18,6 +19,7 @@ returns-in-None-clause-acts g c = λ acting is.
 
 pub loop-preserved : goal.loop-preserved
 loop-preserved g c = record {
+  running = c.happen.ensures.running;
   truth = λ is. c.loop.invariant.truth (c.happen.ensures.truth is);
   settles = λ acting is.
       let so = c.loop.invariant.settles acting is in

@@ -1,0 +1,26 @@
+-- The boxes of a script: those that come with its lines, and those for rows of realms that start.
+use Rattle.std.specs.Prelude.{◌≡◌, ℕ, ◌+◌, List, [], ◌∷◌, length}
+use Rattle.tip_branch.specs.Members.{untold}
+use Rattle.tip_branch.specs.declared.branch.Phase.TheVariants.{Ready}
+use Rattle.tip_branch.specs.declared.branch.Plan.TheVariants.{Yes}
+use Rattle.tip_branch.specs.declared.branch.Standing.{Standing}
+use Rattle.tip_recovery.specs.Adopting.{Recovery, Unfinished}
+use Rattle.tip_rows.specs.Rows.{branches_of}
+
+-- a branch of a row that waits for its outcome, and promises to commit
+abbrev pub willing_branch : Standing
+willing_branch = untold Ready (record { plan = Yes; mark = 0 })
+
+abbrev pub AreWilling : List Standing → Type 0
+AreWilling [] = Unit {0}
+AreWilling (box ∷ boxes) = (box ≡ willing_branch) × AreWilling boxes
+
+-- how many branches rows have
+abbrev pub row_count : List Unfinished → ℕ
+row_count [] = 0
+row_count (row ∷ rows) = length (branches_of row.row) + row_count rows
+
+-- and the rows of all realms
+abbrev pub branch_count : List Recovery → ℕ
+branch_count [] = 0
+branch_count (recovery ∷ realms) = row_count recovery.rows + branch_count realms
