@@ -1,7 +1,6 @@
 -- Boxes that fit are adopted: no row waits any more.
 use Rattle.std.proofs.Common.{◌≡◌, ◌∷◌, [], List, Bool, true, false, arith, refl}
-use Rattle.std.specs.Prelude.{◌&&◌, ◌==◌, is_none, length, not}
-use Rattle.std.specs.List.{list_all}
+use Rattle.std.specs.Prelude.{◌&&◌, ◌==◌, length, not}
 use Rattle.std.proofs.lemmas.Bool.Decides.{nat_tests}
 use Rattle.tip_branch.specs.declared.branch.Badge.{Badge}
 use Rattle.tip_host.specs.Recovering.{adopted_each, all_adopted, are_for_each}

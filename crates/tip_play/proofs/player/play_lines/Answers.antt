@@ -1,5 +1,5 @@
 -- Lines that are read and played, one after another.
-use Rattle.std.proofs.Common.{◌≡◌, ◌∙◌, ◌++◌, ◌∷◌, [], ap, arith, map, refl, subst, sym, Err, Ok}
+use Rattle.std.proofs.Common.{◌∙◌, ◌++◌, ◌∷◌, [], ap, arith, map, refl, subst, sym, Err, Ok}
 use Rattle.std.proofs.lemmas.Result.{err_from_is_err_and}
 use Rattle.tip_actor.specs.Standing.{keeping}
 use Rattle.tip_scene.specs.Stages.{IsReliable, IsStage, store_of}
