@@ -1,7 +1,10 @@
-//! One file for each kind of refusal, and the greatest sizes.
+//! One file for each library whose growths are refused, and the greatest sizes.
+mod branches;
 mod dialogues;
 mod journals;
 mod readers;
+mod rows;
+mod samples;
 mod sizes;
 mod tables;
 mod transactions;

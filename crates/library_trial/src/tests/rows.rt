@@ -1,5 +1,5 @@
 //! Rows in memory on a heap of a fixed size, where each growth is refused in turn and then made.
-use crate::samples::{Sample, is_put_and_removed, make_sample, stored};
+use super::samples::{Sample, is_put_and_removed, make_sample, stored};
 use linked_list_allocator::LocalHeap;
 use std::alloc::{AllocError, Global};
 use std::test::Fail;
