@@ -5,6 +5,7 @@ use Rattle.std.specs.Cmp.{unsigned_Decides}
 use Rattle.std.specs.List.{flat_map}
 use Rattle.std.proofs.lemmas.Bool.{cases_eq, cases_lt}
 use Rattle.std.proofs.lemmas.Option.{none-some}
+use Rattle.tip_branch.specs.Notes.{PartyNotes}
 use Rattle.tip_calls.specs.Calls.{at, drops_in}
 use Rattle.tip_core.specs.Hosted.{realm}
 use Rattle.tip_machine.specs.Moves.{drops_here}
