@@ -1,147 +1,255 @@
 -- Lists of entries: what a change does to the items of each realm and to where they stand.
-use Rattle.std.proofs.Common.{◌≡◌, ℕ, zero, suc, ◌<◌, List, [], ◌∷◌, ◌++◌, length, get_or, Option, Some, None, Bool, true, false, cond, refl, ap, arith, ◌∙◌, sym, inl, inr}
-use Rattle.std.specs.Prelude.{◌+◌, option_map, ◌==◌, ◌&&◌, if◌then◌else◌, IsSome, count_by, filter, position, slice_get, slice_set, remove}
-use Rattle.std.specs.List.{find, position_from}
+use Rattle.std.proofs.Common.{◌≡◌, ◌≢◌, ◌≤◌, ℕ, suc, List, [], ◌∷◌, ◌++◌, length, Option, Some, None, Bool, true, false, cond, refl, ap, arith, ◌∙◌, sym, inl, inr}
+use Rattle.std.specs.Prelude.{◌+◌, option_map, ◌==◌, if◌then◌else◌, IsSome, insert, map, nat_lt, slice_get}
 use Rattle.std.specs.Option.{option_and_then}
-use Rattle.std.proofs.lemmas.Bool.{and_parts, cases_Bool}
+use Rattle.std.proofs.lemmas.Bool.{cases_Bool}
 use Rattle.std.proofs.lemmas.Bool.Decides.{nat_tests}
-use Rattle.std.proofs.lemmas.Iterator.Adapters.{position_from-zero}
-use Rattle.std.proofs.lemmas.List.Quantifiers.{position-Some}
-use Rattle.std.proofs.lemmas.List.Recursion.{is_count_by}
-use Rattle.tip_table.specs.declared.table.Entry.{Entry}
-use Rattle.tip_table.specs.Lists.{IsFirst}
-use Rattle.tip_table.specs.Entries.{Item, items_in, behind, standing_in, written_in}
+use Rattle.tip_table.specs.Entries.{AreByRealm, AreFrom, IsVisited, Item, Placed, behind, count_below, items_in, standing_in, written_in}
 use Rattle.tip_table.specs.Kept.{written, taken_out}
 
--- where an item stands is an entry
-pub standing-within : {T : Type 0} (entries : List (Entry T)) (place : ℕ) → IsSome (standing_in entries place) → place < length entries
-standing-within [] place there = cc
-standing-within (x ∷ xs) zero there = omega arith
-standing-within (x ∷ xs) (suc place) there = step (standing_in xs place) (standing-within xs place) there where
-  step : (o : Option Item) → (IsSome o → place < length xs) → IsSome (option_map (behind x.realm) o) → suc place < suc (length xs)
-  step None ih some = cc
-  step (Some item) ih some = let h = ih refl in omega arith
-
-length-items_in_cons : {T : Type 0} (realm : ℕ) (x : Entry T) (xs : List (Entry T)) → length (items_in (x ∷ xs) realm) ≡ cond (x.realm == realm) (1 + length (items_in xs realm)) (length (items_in xs realm))
-length-items_in_cons realm x xs = grind (arith, nat_tests)
-
--- how many items a realm has
-pub length-items_in : {T : Type 0} (realm : ℕ) (entries : List (Entry T)) → length (items_in entries realm) ≡ count_by (λ entry. entry.realm == realm) entries
-length-items_in realm entries = is_count_by (λ ys. length (items_in ys realm)) (λ entry. entry.realm == realm) refl (length-items_in_cons realm) entries
-
--- how many of them pass
-pub counted_in : {T : Type 0} (realm : ℕ) (test : T → Bool) (entries : List (Entry T)) → count_by (λ entry. (entry.realm == realm) && test entry.item) entries ≡ length (filter test (items_in entries realm))
-counted_in realm test entries = sym (is_count_by (λ ys. length (filter test (items_in ys realm))) (λ entry. (entry.realm == realm) && test entry.item) refl (λ x xs. grind (arith, nat_tests)) entries)
-
--- one entry more at the end
-pub items_in-push : {T : Type 0} (realm : ℕ) (entries : List (Entry T)) (entry : Entry T) → items_in (entries ++ entry ∷ []) realm ≡ (if entry.realm == realm then items_in entries realm ++ entry.item ∷ [] else items_in entries realm)
-items_in-push realm [] entry = grind (arith, nat_tests)
-items_in-push realm (x ∷ xs) entry = grind (arith, nat_tests, items_in-push realm xs entry)
-
-pub standing_in-push : {T : Type 0} (entries : List (Entry T)) (entry : Entry T) (place : ℕ) (item : Item) → standing_in entries place ≡ Some item → standing_in (entries ++ entry ∷ []) place ≡ Some item
-standing_in-push [] entry place item there = cc
-standing_in-push (x ∷ xs) entry zero item there = there
-standing_in-push (x ∷ xs) entry (suc place) item there = step (standing_in xs place) (standing_in-push xs entry place) there where
-  step : (o : Option Item) → ((before : Item) → o ≡ Some before → standing_in (xs ++ entry ∷ []) place ≡ Some before) → option_map (behind x.realm) o ≡ Some item → option_map (behind x.realm) (standing_in (xs ++ entry ∷ []) place) ≡ Some item
-  step None ih some = cc
-  step (Some before) ih some = rw (ih before refl) some
-
 -- the item at a place
-pub item-standing : {T : Type 0} (entries : List (Entry T)) (place : ℕ) (entry : Entry T) → slice_get entries place ≡ Some entry → option_and_then (λ item. slice_get (items_in entries item.realm) item.at) (standing_in entries place) ≡ Some entry.item
-item-standing [] place entry is = cc
-item-standing (x ∷ xs) zero entry is = grind (arith, nat_tests)
-item-standing (x ∷ xs) (suc place) entry is = step (standing_in xs place) (item-standing xs place entry is) where
-  step : (o : Option Item) → option_and_then (λ item. slice_get (items_in xs item.realm) item.at) o ≡ Some entry.item → option_and_then (λ item. slice_get (items_in (x ∷ xs) item.realm) item.at) (option_map (behind x.realm) o) ≡ Some entry.item
-  step None ih = cc
+abbrev pub item_in : {T : Type 0} → List (Placed T) → ℕ → Option T
+item_in [] place = None
+item_in (entry ∷ entries) place = if entry.place == place then Some entry.item else item_in entries place
+
+pub item-standing : {T : Type 0} (entries : List (Placed T)) (place : ℕ) → option_and_then (λ item. slice_get (items_in entries item.realm) item.at) (standing_in entries place) ≡ item_in entries place
+item-standing [] place = refl
+item-standing (x ∷ xs) place = elim (cases_Bool (x.place == place)) [
+  | inl here ↦ let own : (x.realm == x.realm) ≡ true = grind (arith, nat_tests) in simp (here, own) refl
+  | inr other ↦ simp other (step (standing_in xs place) (item-standing xs place))
+] where
+  step : (o : Option Item) → option_and_then (λ item. slice_get (items_in xs item.realm) item.at) o ≡ item_in xs place → option_and_then (λ item. slice_get (items_in (x ∷ xs) item.realm) item.at) (option_map (behind x.realm) o) ≡ item_in xs place
+  step None ih = ih
   step (Some item) ih = grind (arith, nat_tests, ih)
 
 -- an entry written
-pub items_in-written : {T : Type 0} (entries : List (Entry T)) (place : ℕ) (value : T) (realm : ℕ) → items_in (written_in entries place value) realm ≡ written (standing_in entries place) value realm (items_in entries realm)
+pub items_in-written : {T : Type 0} (entries : List (Placed T)) (place : ℕ) (value : T) (realm : ℕ) → items_in (written_in entries place value) realm ≡ written (standing_in entries place) value realm (items_in entries realm)
 items_in-written [] place value realm = refl
-items_in-written (x ∷ xs) zero value realm = grind (arith, nat_tests)
-items_in-written (x ∷ xs) (suc place) value realm = step (standing_in xs place) (items_in-written xs place value realm) where
+items_in-written (x ∷ xs) place value realm = elim (cases_Bool (x.place == place)) [
+  | inl here ↦ simp here (grind (arith, nat_tests))
+  | inr other ↦ simp other (step (standing_in xs place) (items_in-written xs place value realm))
+] where
   step : (o : Option Item) → items_in (written_in xs place value) realm ≡ written o value realm (items_in xs realm) → items_in (x ∷ written_in xs place value) realm ≡ written (option_map (behind x.realm) o) value realm (items_in (x ∷ xs) realm)
   step None ih = grind (arith, nat_tests, ih)
   step (Some item) ih = grind (arith, nat_tests, ih)
 
-pub standing_in-written : {T : Type 0} (entries : List (Entry T)) (place : ℕ) (value : T) (other : ℕ) → standing_in (written_in entries place value) other ≡ standing_in entries other
+pub standing_in-written : {T : Type 0} (entries : List (Placed T)) (place : ℕ) (value : T) (other : ℕ) → standing_in (written_in entries place value) other ≡ standing_in entries other
 standing_in-written [] place value other = refl
-standing_in-written (x ∷ xs) zero value zero = refl
-standing_in-written (x ∷ xs) zero value (suc other) = refl
-standing_in-written (x ∷ xs) (suc place) value zero = refl
-standing_in-written (x ∷ xs) (suc place) value (suc other) = ap (λ o. option_map (behind x.realm) o) (standing_in-written xs place value other)
+standing_in-written (x ∷ xs) place value other = elim (cases_Bool (x.place == place)) [
+  | inl here ↦ simp here refl
+  | inr apart ↦ simp apart (ap (λ o. if x.place == other then Some (record { realm = x.realm; at = 0 }) else option_map (behind x.realm) o) (standing_in-written xs place value other))
+]
 
-pub length-written_in : {T : Type 0} (entries : List (Entry T)) (place : ℕ) (value : T) → length (written_in entries place value) ≡ length entries
+pub length-written_in : {T : Type 0} (entries : List (Placed T)) (place : ℕ) (value : T) → length (written_in entries place value) ≡ length entries
 length-written_in [] place value = refl
-length-written_in (x ∷ xs) zero value = refl
-length-written_in (x ∷ xs) (suc place) value = ap suc (length-written_in xs place value)
-
-pub set-written_in : {T : Type 0} (entries : List (Entry T)) (place : ℕ) (default : Entry T) (value : T) → slice_set entries place (record (get_or entries place default) { item = value }) ≡ written_in entries place value
-set-written_in [] place default value = refl
-set-written_in (x ∷ xs) zero default value = refl
-set-written_in (x ∷ xs) (suc place) default value = ap (λ ys. x ∷ ys) (set-written_in xs place default value)
+length-written_in (x ∷ xs) place value = elim (cases_Bool (x.place == place)) [
+  | inl here ↦ simp here refl
+  | inr apart ↦ simp apart (ap suc (length-written_in xs place value))
+]
 
 -- an entry taken out
-pub items_in-removed : {T : Type 0} (entries : List (Entry T)) (place realm : ℕ) → items_in (remove entries place) realm ≡ taken_out (standing_in entries place) realm (items_in entries realm)
-items_in-removed [] zero realm = refl
-items_in-removed [] (suc place) realm = refl
-items_in-removed (x ∷ xs) zero realm = grind (arith, nat_tests)
-items_in-removed (x ∷ xs) (suc place) realm = step (standing_in xs place) (items_in-removed xs place realm) where
-  step : (o : Option Item) → items_in (remove xs place) realm ≡ taken_out o realm (items_in xs realm) → items_in (x ∷ remove xs place) realm ≡ taken_out (option_map (behind x.realm) o) realm (items_in (x ∷ xs) realm)
+abbrev pub taken_in : {T : Type 0} → List (Placed T) → ℕ → List (Placed T)
+taken_in [] place = []
+taken_in (x ∷ xs) place = if x.place == place then xs else x ∷ taken_in xs place
+
+pub items_in-taken : {T : Type 0} (entries : List (Placed T)) (place realm : ℕ) → items_in (taken_in entries place) realm ≡ taken_out (standing_in entries place) realm (items_in entries realm)
+items_in-taken [] place realm = refl
+items_in-taken (x ∷ xs) place realm = elim (cases_Bool (x.place == place)) [
+  | inl here ↦ simp here (grind (arith, nat_tests))
+  | inr apart ↦ simp apart (step (standing_in xs place) (items_in-taken xs place realm))
+] where
+  step : (o : Option Item) → items_in (taken_in xs place) realm ≡ taken_out o realm (items_in xs realm) → items_in (x ∷ taken_in xs place) realm ≡ taken_out (option_map (behind x.realm) o) realm (items_in (x ∷ xs) realm)
   step None ih = grind (arith, nat_tests, ih)
   step (Some item) ih = grind (arith, nat_tests, ih)
 
--- an entry that moves behind others is one of theirs
-pub moved-behind : {T : Type 0} (realm : ℕ) (before after : List (Entry T)) (entry : Entry T) → items_in (before ++ entry ∷ []) realm ++ items_in after realm ≡ items_in before realm ++ items_in (entry ∷ after) realm
-moved-behind realm [] after entry = grind (arith, nat_tests)
-moved-behind realm (x ∷ xs) after entry = grind (arith, nat_tests, moved-behind realm xs after entry)
+pub length-taken : {T : Type 0} (entries : List (Placed T)) (place : ℕ) → IsSome (standing_in entries place) → length entries ≡ suc (length (taken_in entries place))
+length-taken [] place some = absurd (cc)
+length-taken (x ∷ xs) place some = elim (cases_Bool (x.place == place)) [
+  | inl here ↦ simp here refl
+  | inr apart ↦ simp apart (ap suc (length-taken xs place (there (standing_in xs place) (simp apart at some))))
+] where
+  there : (o : Option Item) → IsSome (option_map (behind x.realm) o) → IsSome o
+  there None some = some
+  there (Some item) some = refl
 
--- one of another realm is none of this
-pub is-other : {T : Type 0} (realm : ℕ) (entry : Entry T) (after : List (Entry T)) → (entry.realm == realm) ≡ false → items_in (entry ∷ after) realm ≡ items_in after realm
-is-other realm entry after differs = rw differs refl
+-- ONE MORE, behind those of its realm and of all before it
+abbrev pub added_in : {T : Type 0} → Placed T → List (Placed T) → List (Placed T)
+added_in entry [] = entry ∷ []
+added_in entry (x ∷ xs) = if nat_lt entry.realm x.realm then entry ∷ x ∷ xs else x ∷ added_in entry xs
 
-pub is-own : {T : Type 0} (realm : ℕ) (entry : Entry T) (after : List (Entry T)) → (entry.realm == realm) ≡ true → items_in (entry ∷ after) realm ≡ entry.item ∷ items_in after realm
-is-own realm entry after same = rw same refl
+pub none_below : {T : Type 0} (bound : ℕ) (entries : List (Placed T)) (realm : ℕ) → AreFrom realm entries → bound ≤ realm → count_below bound entries ≡ 0
+none_below bound [] realm from_it below = refl
+none_below bound (x ∷ xs) realm from_it below =
+    let no : nat_lt x.realm bound ≡ false = grind (arith, nat_tests, from_it.0) in
+    simp no (none_below bound xs realm from_it.1 below)
 
--- what a search among the entries finds
-abbrev pub is_sought : {T : Type 0} → ℕ → (T → Bool) → Entry T → Bool
-is_sought realm test entry = (entry.realm == realm) && test entry.item
+pub insert-added : {T : Type 0} (entry : Placed T) (entries : List (Placed T)) → AreByRealm entries → insert entries (count_below (entry.realm + 1) entries) entry ≡ added_in entry entries
+insert-added entry [] by_realm = refl
+insert-added entry (x ∷ xs) by_realm = elim (cases_Bool (nat_lt entry.realm x.realm)) [
+  | inl later ↦
+      let no : nat_lt x.realm (entry.realm + 1) ≡ false = grind (arith, nat_tests, later) in
+      let none : count_below (entry.realm + 1) xs ≡ 0 = none_below (entry.realm + 1) xs x.realm by_realm.0 (grind (arith, nat_tests, later)) in
+      simp (later, no, none) refl
+  | inr no_later ↦
+      let yes : nat_lt x.realm (entry.realm + 1) ≡ true = grind (arith, nat_tests, no_later) in
+      simp (no_later, yes) (ap (λ ys. x ∷ ys) (insert-added entry xs by_realm.1))
+]
 
-is_first : {X : Type 0} (test : X → Bool) (xs : List X) (i : ℕ) (d : X) → i < length xs → test (get_or xs i d) ≡ true → ((k : ℕ) → k < i → test (get_or xs k d) ≡ false) → IsFirst test xs i
-is_first test [] i d within passes before = absurd (omega arith)
-is_first test (x ∷ xs) zero d within passes before = passes
-is_first test (x ∷ xs) (suc i) d within passes before = (before 0 (omega arith), is_first test xs i d (omega arith) passes (λ k less. before (suc k) (omega arith)))
+none_own : {T : Type 0} (realm : ℕ) (entries : List (Placed T)) (later : ℕ) → AreFrom later entries → suc realm ≤ later → items_in entries realm ≡ []
+none_own realm [] later from_it below = refl
+none_own realm (x ∷ xs) later from_it below =
+    let no : (x.realm == realm) ≡ false = grind (arith, nat_tests, from_it.0) in
+    simp no (none_own realm xs later from_it.1 below)
 
-is_first-position : {X : Type 0} (test : X → Bool) (xs : List X) (i : ℕ) → position test xs ≡ Some i → IsFirst test xs i
-is_first-position test [] i is = absurd (cc)
-is_first-position test (x ∷ xs) i is = let found = position-Some test (x ∷ xs) i x is in is_first test (x ∷ xs) i x found.0 found.1 found.2
+pub items_in-added : {T : Type 0} (entry : Placed T) (entries : List (Placed T)) → AreByRealm entries → items_in (added_in entry entries) entry.realm ≡ items_in entries entry.realm ++ entry.item ∷ []
+items_in-added entry [] by_realm = let own : (entry.realm == entry.realm) ≡ true = grind (arith, nat_tests) in simp own refl
+items_in-added entry (x ∷ xs) by_realm = elim (cases_Bool (nat_lt entry.realm x.realm)) [
+  | inl later ↦
+      let own : (entry.realm == entry.realm) ≡ true = grind (arith, nat_tests) in
+      let none : items_in (x ∷ xs) entry.realm ≡ [] = none_own entry.realm (x ∷ xs) x.realm ((let same : x.realm ≤ x.realm = omega arith in same), by_realm.0) (grind (arith, nat_tests, later)) in
+      simp later (ap (λ ys. cond (entry.realm == entry.realm) (entry.item ∷ ys) ys) none ∙ simp own refl ∙ ap (λ ys. ys ++ entry.item ∷ []) (sym none))
+  | inr no_later ↦ simp no_later (ap (λ ys. cond (x.realm == entry.realm) (x.item ∷ ys) ys) (items_in-added entry xs by_realm.1) ∙ either (x.realm == entry.realm) (items_in xs entry.realm))
+] where
+  either : (own : Bool) (ys : List _) → cond own (x.item ∷ ys ++ entry.item ∷ []) (ys ++ entry.item ∷ []) ≡ cond own (x.item ∷ ys) ys ++ entry.item ∷ []
+  either true ys = refl
+  either false ys = refl
 
-first-standing : {T : Type 0} (realm : ℕ) (test : T → Bool) (entries : List (Entry T)) (place : ℕ) → IsFirst (is_sought realm test) entries place → (at : ℕ) × (standing_in entries place ≡ Some (record { realm = realm; at = at })) × IsFirst test (items_in entries realm) at
-first-standing realm test [] place first = absurd first
-first-standing realm test (x ∷ xs) zero first =
-    let both = and_parts (x.realm == realm) (test x.item) first in
-    let same : x.realm ≡ realm = grind (arith, nat_tests, both.0) in
-    (0, ap (λ (r : ℕ). Some (record { realm = r; at = 0 })) same, rw both.0 both.1)
-first-standing realm test (x ∷ xs) (suc place) first =
-    let rest = first-standing realm test xs place first.1 in
-    elim (cases_Bool (x.realm == realm)) [
-      | inl own ↦
-          let fails : test x.item ≡ false = grind (arith, own, first.0) in
-          let same : (realm == x.realm) ≡ true = grind (arith, nat_tests, own) in
-          (suc rest.0, rw (rest.1, same) refl, rw own (fails, rest.2))
-      | inr other ↦
-          let differs : (realm == x.realm) ≡ false = grind (arith, nat_tests, other) in
-          (rest.0, rw (rest.1, differs) refl, rw other rest.2)
-    ]
+pub others-added : {T : Type 0} (entry : Placed T) (entries : List (Placed T)) (other : ℕ) → other ≢ entry.realm → items_in (added_in entry entries) other ≡ items_in entries other
+others-added entry [] other differs = let no : (entry.realm == other) ≡ false = grind (arith, nat_tests) in simp no refl
+others-added entry (x ∷ xs) other differs = elim (cases_Bool (nat_lt entry.realm x.realm)) [
+  | inl later ↦ let no : (entry.realm == other) ≡ false = grind (arith, nat_tests) in simp (later, no) refl
+  | inr no_later ↦ simp no_later (ap (λ ys. cond (x.realm == other) (x.item ∷ ys) ys) (others-added entry xs other differs))
+]
 
-none-sought_from : {T : Type 0} (realm : ℕ) (test : T → Bool) (from : ℕ) (entries : List (Entry T)) → position_from (is_sought realm test) from entries ≡ None → find test (items_in entries realm) ≡ None
-none-sought_from realm test from [] none = refl
-none-sought_from realm test from (x ∷ xs) none = grind (arith, nat_tests, none-sought_from realm test (from + 1) xs)
+-- those of later realms stand where they stood
+from_later : {T : Type 0} (entries : List (Placed T)) (later : ℕ) (place : ℕ) (item : Item) → AreFrom later entries → standing_in entries place ≡ Some item → later ≤ item.realm
+from_later [] later place item from_it there = absurd (cc)
+from_later (x ∷ xs) later place item from_it there = elim (cases_Bool (x.place == place)) [
+  | inl here ↦ grind (arith, from_it.0, (simp here at there))
+  | inr apart ↦ step (standing_in xs place) (λ before is. from_later xs later place before from_it.1 is) (simp apart at there)
+] where
+  step : (o : Option Item) → ((before : Item) → o ≡ Some before → later ≤ before.realm) → option_map (behind x.realm) o ≡ Some item → later ≤ item.realm
+  step None ih some = absurd (cc)
+  step (Some before) ih some = grind (arith, nat_tests, ih before refl, some)
 
-pub none-sought : {T : Type 0} (realm : ℕ) (test : T → Bool) (entries : List (Entry T)) → position (is_sought realm test) entries ≡ None → find test (items_in entries realm) ≡ None
-none-sought realm test entries none = none-sought_from realm test 0 entries (sym (position_from-zero (is_sought realm test) entries) ∙ none)
+pub standing_in-added : {T : Type 0} (entry : Placed T) (entries : List (Placed T)) (place : ℕ) (item : Item) → AreByRealm entries → (entry.place == place) ≡ false → standing_in entries place ≡ Some item → standing_in (added_in entry entries) place ≡ Some item
+standing_in-added entry [] place item by_realm apart there = absurd (cc)
+standing_in-added entry (x ∷ xs) place item by_realm apart there = elim (cases_Bool (nat_lt entry.realm x.realm)) [
+  | inl later ↦
+      let behind_it : x.realm ≤ item.realm = from_later (x ∷ xs) x.realm place item ((let same : x.realm ≤ x.realm = omega arith in same), by_realm.0) there in
+      let no : (item.realm == entry.realm) ≡ false = grind (arith, nat_tests, later, behind_it) in
+      simp (later, apart) (ap (option_map (behind entry.realm)) there ∙ simp no refl)
+  | inr no_later ↦ simp no_later (elim (cases_Bool (x.place == place)) [
+    | inl here ↦ simp here (simp here at there)
+    | inr other ↦ simp other (step (standing_in xs place) (λ before is. standing_in-added entry xs place before by_realm.1 apart is) (simp other at there))
+  ])
+] where
+  step : (o : Option Item) → ((before : Item) → o ≡ Some before → standing_in (added_in entry xs) place ≡ Some before) → option_map (behind x.realm) o ≡ Some item → option_map (behind x.realm) (standing_in (added_in entry xs) place) ≡ Some item
+  step None ih some = absurd (cc)
+  step (Some before) ih some = ap (option_map (behind x.realm)) (ih before refl) ∙ some
 
-pub sought : {T : Type 0} (realm : ℕ) (test : T → Bool) (entries : List (Entry T)) (place : ℕ) → position (is_sought realm test) entries ≡ Some place → (at : ℕ) × (standing_in entries place ≡ Some (record { realm = realm; at = at })) × IsFirst test (items_in entries realm) at
-sought realm test entries place is = first-standing realm test entries place (is_first-position (is_sought realm test) entries place is)
+pub length-added : {T : Type 0} (entry : Placed T) (entries : List (Placed T)) → length (added_in entry entries) ≡ suc (length entries)
+length-added entry [] = refl
+length-added entry (x ∷ xs) = elim (cases_Bool (nat_lt entry.realm x.realm)) [
+  | inl later ↦ simp later refl
+  | inr no_later ↦ simp no_later (ap suc (length-added entry xs))
+]
 
-pub ruleset of_entries = (items_in-push, standing_in-push, item-standing, items_in-removed, nat_tests)
+-- they stand by realm still
+from_added : {T : Type 0} (entry : Placed T) (entries : List (Placed T)) (realm : ℕ) → AreFrom realm entries → realm ≤ entry.realm → AreFrom realm (added_in entry entries)
+from_added entry [] realm from_it within = (within, tt)
+from_added entry (x ∷ xs) realm from_it within = elim (cases_Bool (nat_lt entry.realm x.realm)) [
+  | inl later ↦ simp later (within, from_it)
+  | inr no_later ↦ simp no_later (from_it.0, from_added entry xs realm from_it.1 within)
+]
+
+pub from_more : {T : Type 0} (entries : List (Placed T)) (realm later : ℕ) → AreFrom later entries → realm ≤ later → AreFrom realm entries
+from_more [] realm later from_it within = tt
+from_more (x ∷ xs) realm later from_it within = ((let less = from_it.0 in omega arith), from_more xs realm later from_it.1 within)
+
+pub by_realm-added : {T : Type 0} (entry : Placed T) (entries : List (Placed T)) → AreByRealm entries → AreByRealm (added_in entry entries)
+by_realm-added entry [] by_realm = (tt, tt)
+by_realm-added entry (x ∷ xs) by_realm = elim (cases_Bool (nat_lt entry.realm x.realm)) [
+  | inl later ↦
+      let less : entry.realm ≤ x.realm = grind (arith, nat_tests, later) in
+      simp later ((less, from_more xs entry.realm x.realm by_realm.0 less), by_realm)
+  | inr no_later ↦ simp no_later (from_added entry xs x.realm by_realm.0 (grind (arith, nat_tests, no_later)), by_realm-added entry xs by_realm.1)
+]
+
+from_taken : {T : Type 0} (entries : List (Placed T)) (place realm : ℕ) → AreFrom realm entries → AreFrom realm (taken_in entries place)
+from_taken [] place realm from_it = tt
+from_taken (x ∷ xs) place realm from_it = elim (cases_Bool (x.place == place)) [
+  | inl here ↦ simp here from_it.1
+  | inr apart ↦ simp apart (from_it.0, from_taken xs place realm from_it.1)
+]
+
+pub by_realm-taken : {T : Type 0} (entries : List (Placed T)) (place : ℕ) → AreByRealm entries → AreByRealm (taken_in entries place)
+by_realm-taken [] place by_realm = tt
+by_realm-taken (x ∷ xs) place by_realm = elim (cases_Bool (x.place == place)) [
+  | inl here ↦ simp here by_realm.1
+  | inr apart ↦ simp apart (from_taken xs place x.realm by_realm.0, by_realm-taken xs place by_realm.1)
+]
+
+from_written : {T : Type 0} (entries : List (Placed T)) (place : ℕ) (value : T) (realm : ℕ) → AreFrom realm entries → AreFrom realm (written_in entries place value)
+from_written [] place value realm from_it = tt
+from_written (x ∷ xs) place value realm from_it = elim (cases_Bool (x.place == place)) [
+  | inl here ↦ simp here from_it
+  | inr apart ↦ simp apart (from_it.0, from_written xs place value realm from_it.1)
+]
+
+pub by_realm-written : {T : Type 0} (entries : List (Placed T)) (place : ℕ) (value : T) → AreByRealm entries → AreByRealm (written_in entries place value)
+by_realm-written [] place value by_realm = tt
+by_realm-written (x ∷ xs) place value by_realm = elim (cases_Bool (x.place == place)) [
+  | inl here ↦ simp here by_realm
+  | inr apart ↦ simp apart (from_written xs place value x.realm by_realm.0, by_realm-written xs place value by_realm.1)
+]
+
+-- A VISIT of one realm's
+module _ {T : Type 0} (left : T → T) (realm : ℕ) where
+  -- the entry after it
+  abbrev pub visited_entry : Placed T → Placed T
+  visited_entry entry = if entry.realm == realm then record entry { item = left entry.item } else entry
+
+  items_of : (entries : List (Placed T)) → items_in (map visited_entry entries) realm ≡ map left (items_in entries realm)
+  items_of [] = refl
+  items_of (x ∷ xs) = elim (cases_Bool (x.realm == realm)) [
+    | inl own ↦ simp own (ap (λ ys. left x.item ∷ ys) (items_of xs))
+    | inr apart ↦ simp apart (items_of xs)
+  ]
+
+  others_of : (entries : List (Placed T)) (other : ℕ) → other ≢ realm → items_in (map visited_entry entries) other ≡ items_in entries other
+  others_of [] other differs = refl
+  others_of (x ∷ xs) other differs = elim (cases_Bool (x.realm == realm)) [
+    | inl own ↦
+        let not_there : (x.realm == other) ≡ false = grind (arith, nat_tests, own) in
+        simp (own, not_there) (others_of xs other differs)
+    | inr apart ↦ simp apart (ap (λ ys. cond (x.realm == other) (x.item ∷ ys) ys) (others_of xs other differs))
+  ]
+
+  standing_of : (entries : List (Placed T)) (place : ℕ) → standing_in (map visited_entry entries) place ≡ standing_in entries place
+  standing_of [] place = refl
+  standing_of (x ∷ xs) place = elim (cases_Bool (x.realm == realm)) [
+    | inl own ↦ rw own (ap (λ o. cond (x.place == place) (Some (record { realm = x.realm; at = 0 })) (option_map (behind x.realm) o)) (standing_of xs place))
+    | inr apart ↦ rw apart (ap (λ o. cond (x.place == place) (Some (record { realm = x.realm; at = 0 })) (option_map (behind x.realm) o)) (standing_of xs place))
+  ]
+
+  count_of : (entries : List (Placed T)) → length (map visited_entry entries) ≡ length entries
+  count_of [] = refl
+  count_of (x ∷ xs) = ap suc (count_of xs)
+
+  from_visited : (entries : List (Placed T)) (first : ℕ) → AreFrom first entries → AreFrom first (map visited_entry entries)
+  from_visited [] first from_it = tt
+  from_visited (x ∷ xs) first from_it = elim (cases_Bool (x.realm == realm)) [
+    | inl own ↦ simp own (from_it.0, from_visited xs first from_it.1)
+    | inr apart ↦ simp apart (from_it.0, from_visited xs first from_it.1)
+  ]
+
+  pub by_realm-visited : (entries : List (Placed T)) → AreByRealm entries → AreByRealm (map visited_entry entries)
+  by_realm-visited [] by_realm = tt
+  by_realm-visited (x ∷ xs) by_realm = elim (cases_Bool (x.realm == realm)) [
+    | inl own ↦ simp own (from_visited xs x.realm by_realm.0, by_realm-visited xs by_realm.1)
+    | inr apart ↦ simp apart (from_visited xs x.realm by_realm.0, by_realm-visited xs by_realm.1)
+  ]
+
+  pub visited_all : (old new : List (Placed T)) → new ≡ map visited_entry old → IsVisited left realm old new
+  visited_all old new same = rw same (record { items = items_of old; others = others_of old; standing = standing_of old; count = count_of old })

@@ -1,3 +1,7 @@
 pub mod EntryLemmas
+pub mod KeyLemmas
+pub mod OwnLemmas
+pub mod Shelving
+pub mod SlotLemmas
 pub mod Standing
 pub mod Visiting

@@ -1,13 +1,13 @@
 -- What stands at a place, told by the test that it is the first to pass.
-use Rattle.std.proofs.Common.{◌≡◌, ◌≢◌, ℕ, zero, suc, ◌+◌, List, [], ◌∷◌, ◌++◌, Option, Some, None, Bool, true, false, refl, ap, arith, ◌∙◌, sym, ◌↔◌}
-use Rattle.std.specs.Prelude.{◌==◌, IsSome, IfSome, position, slice_get, slice_set, remove}
+use Rattle.std.proofs.Common.{◌≡◌, ◌≢◌, ℕ, zero, suc, ◌+◌, List, [], ◌∷◌, ◌++◌, Some, None, Bool, true, false, refl, ap, arith, ◌∙◌, sym}
+use Rattle.std.specs.Prelude.{◌==◌, IsSome, slice_get, slice_set, remove}
 use Rattle.std.specs.List.{find}
 use Rattle.std.specs.Option.{option_and_then}
 use Rattle.std.proofs.lemmas.Bool.Decides.{nat_tests}
 use Rattle.tip_table.specs.Lists.{IsFirst, changed, without}
-use Rattle.tip_table.specs.Entries.{Item, items_in}
+use Rattle.tip_table.specs.Entries.{Item}
 use Rattle.tip_table.specs.Kept.{Kept, StandsAt, capacity, of, places, item_at, with_item_at, written, taken_out}
-use Rattle.tip_table.proofs.EntryLemmas.{items_in-written, length-written_in, standing_in-written, is_sought, sought, none-sought}
+use Rattle.tip_table.proofs.EntryLemmas.{items_in-written, length-written_in, standing_in-written}
 
 -- a write takes no room
 pub capacity-written : {T : Type 0} (kept : Kept T) (place : ℕ) (value : T) → capacity (with_item_at kept place value) ≡ capacity kept
@@ -20,7 +20,7 @@ find-first test [] at first = absurd first
 find-first test (x ∷ xs) zero first = rw first refl
 find-first test (x ∷ xs) (suc at) first = rw first.0 (find-first test xs at first.1)
 
-found-first : {T : Type 0} (test : T → Bool) (items : List T) (at : ℕ) → IsFirst test items at → find test items ≡ None → ⊥
+pub found-first : {T : Type 0} (test : T → Bool) (items : List T) (at : ℕ) → IsFirst test items at → find test items ≡ None → ⊥
 found-first test [] at first none = first
 found-first test (x ∷ xs) zero first none = cc
 found-first test (x ∷ xs) (suc at) first none = found-first test xs at first.1 (rw first.0 at none)
@@ -44,14 +44,6 @@ stands kept realm test place here = rw here.there refl
 -- it is the first that passes
 pub found : {T : Type 0} (kept : Kept T) (realm : ℕ) (test : T → Bool) (place : ℕ) → StandsAt kept realm test place → find test (of kept realm) ≡ item_at kept place
 found kept realm test place here = rw here.there (find-first test (of kept realm) here.at here.first)
-
--- what a search finds
-pub searched : {T : Type 0} (kept : Kept T) (realm : ℕ) (test : T → Bool) (result : Option ℕ) → result ≡ position (is_sought realm test) kept.entries → ((result ≡ None) ↔ (find test (of kept realm) ≡ None)) × IfSome result (StandsAt kept realm test)
-unfolding of places
-searched kept realm test None is = ((λ _. none-sought realm test kept.entries (sym is), λ _. refl), tt)
-searched kept realm test (Some place) is =
-    let first = sought realm test kept.entries place (sym is) in
-    ((λ some. cc, λ none. absurd (found-first test (items_in kept.entries realm) first.0 first.2 none)), record { at = first.0; there = first.1; first = first.2 })
 
 -- what a write makes of each realm
 pub of-written : {T : Type 0} (kept : Kept T) (place : ℕ) (value : T) (realm : ℕ) → of (with_item_at kept place value) realm ≡ written (places kept place) value realm (of kept realm)

@@ -2,12 +2,11 @@
 use Rattle.std.specs.Prelude.{◌≡◌, ℕ, ◌+◌, Bool, ◌==◌, if◌then◌else◌, List, Option, Some, None, length, slice_get, slice_set, remove}
 use Rattle.std.specs.Option.{option_and_then}
 use Rattle.tip_table.specs.Lists.{IsFirst}
-use Rattle.tip_table.specs.Entries.{Item, items_in, standing_in, written_in}
-use Rattle.tip_table.specs.declared.table.Entry.{Entry}
+use Rattle.tip_table.specs.Entries.{Item, Placed, items_in, standing_in, written_in}
 
 -- How the entries lie is the table's own affair: what is promised is said by `of`, `places` and `free`.
 pub record Kept (T : Type 0) : Type 0 where
-  pub entries : List (Entry T)
+  pub entries : List (Placed T)
   -- how many items can be added without memory
   pub free : ℕ
 

@@ -3,6 +3,7 @@
 
 mod items;
 pub mod laws;
+mod order;
 mod table;
 mod test;
 mod visit;

@@ -1,23 +1,34 @@
-use Rattle.std.proofs.Common.{List, refl, ap, arith, ◌∙◌, ◌-◌, length}
-use Rattle.std.specs.Prelude.{slice_set, vec_capacity, vec_len}
-use Rattle.std.proofs.lemmas.Option.{slice_get_read}
-use Rattle.tip_table.specs.declared.table.Entry.{Entry}
+use Rattle.std.proofs.Common.{◌∙◌, ◌-◌, List, ap, min, refl, vec_capacity, vec_len}
+use Rattle.std.specs.Prelude.{option_map}
+use Rattle.slab.specs.Slab.{slab_len, with_value}
+use Rattle.tip_table.specs.Entries.{Placed, placed_at}
 use Rattle.tip_table.specs.Kept.{Kept, of, places, with_item_at}
-use Rattle.tip_table.proofs.EntryLemmas.{standing-within, item-standing, set-written_in}
+use Rattle.tip_table.proofs.EntryLemmas.{item-standing}
+use Rattle.tip_table.proofs.Shelving.{order-set, placed-set}
+use Rattle.tip_table.proofs.SlotLemmas.{get-standing, item-get, len-written}
 use Rattle.tip_table.proofs.table.Table.item_mut.Goals as goal
 
 pub index_mut-entry-requires : goal.index_mut-entry-requires
 unfolding places
-index_mut-entry-requires g c = omega (arith, standing-within c.self.inside.entries.items c.args.place (rw (← c.self.view_is) at c.requires))
+index_mut-entry-requires g c = get-standing c.self.inside.slots c.self.inside.order.items c.args.place (rw (← c.self.view_is) at c.requires)
+
+pub invariant_of-self-lent : goal.invariant_of-self-lent
+invariant_of-self-lent g c = λ w. order-set c.self.inside.slots c.self.inside.order.items c.self.invariant c.args.place c.index_mut-entry.result.now c.index_mut-entry.ensures.value w
 
 pub returns : goal.returns
 unfolding of places with_item_at
 returns g c =
-    let xs = c.self.inside.entries.items in
-    let now = c.index_mut-entry.result.now in
-    let same = c.index_mut-entry.ensures.value in
-    let within = standing-within xs c.args.place (rw (← c.self.view_is) at c.requires) in
-    let make : List (Entry g.row.T.Denot) → Kept g.row.T.Denot = λ ys. record { entries = ys; free = vec_capacity c.self.inside.entries - vec_len c.self.inside.entries } in (
-      (refl, λ w. rw (← c.self.view_is) (ap make (ap (λ (x : Entry g.row.T.Denot). slice_set xs c.args.place (record x { item = w })) same ∙ set-written_in xs c.args.place now w))),
-      record { writes_back = tt; value = rw (← c.self.view_is) (item-standing xs c.args.place now (slice_get_read xs (length xs) c.args.place now refl within same)) },
+    let slots = c.self.inside.slots in
+    let keys = c.self.inside.order.items in
+    let entry = c.index_mut-entry.result.now in
+    let there = rw (← c.self.view_is) at c.requires in
+    let room = vec_capacity c.self.inside.order - vec_len c.self.inside.order in
+    let make : List (Placed g.row.T.Denot) → Kept g.row.T.Denot = λ es. record { entries = es; free = min (slots.capacity - slab_len slots) room } in (
+      (
+        refl,
+        λ w. rw (← c.self.view_is) (
+            ap (λ n. record { entries = placed_at (with_value slots c.args.place (record entry { item = w })) keys; free = min (slots.capacity - n) room }) (len-written slots c.args.place (record entry { item = w }) (get-standing slots keys c.args.place there)) ∙
+            ap make (placed-set slots keys c.self.invariant c.args.place entry c.index_mut-entry.ensures.value w)),
+      ),
+      record { writes_back = tt; value = rw (← c.self.view_is) (item-standing (placed_at slots keys) c.args.place ∙ item-get slots keys c.args.place there ∙ ap (option_map (λ e. e.item)) c.index_mut-entry.ensures.value) },
     )
