@@ -18,7 +18,7 @@ use Rattle.tip_machine.specs.Honest.{brings_no_party, is_honest, is_run}
 use Rattle.tip_machine.specs.Invariants.{IsSound}
 use Rattle.tip_machine.specs.Invariants.Bounds.{is_spelled}
 use Rattle.tip_machine.specs.Invariants.Parties.{are_out}
-use Rattle.tip_machine.specs.Moves.{Move, World, drops_here, gone_for, led_to, lost_from, moved, renewed, restarted_from, stepped}
+use Rattle.tip_machine.specs.Moves.{Move, World, drops_here, gone_for, led_to, lost_from, moved, picked, renewed, restarted_from, stepped}
 use Rattle.tip_machine.specs.Outputs.{Output, drops_of}
 use Rattle.tip_machine.specs.Returns.{Back, event_of}
 use Rattle.tip_machine.specs.Starting.{IsStart}
@@ -35,6 +35,7 @@ use Rattle.tip_agreement.specs.Truth.{IsTrueTo, Word, fits, word_of}
 use Rattle.tip_agreement.proofs.Errands.{out_behind, first_due}
 use Rattle.tip_agreement.proofs.Holding.{back_true, event_true, lost_true, still_true}
 use Rattle.tip_agreement.proofs.Kept.{moved_sound}
+use Rattle.tip_agreement.proofs.Picking.{picked_out, picked_true}
 use Rattle.tip_agreement.proofs.Renewing.{renewed_true}
 use Rattle.tip_agreement.proofs.Restarts.{start_sound}
 use Rattle.tip_agreement.proofs.Speaking.{over_fits}
@@ -68,13 +69,13 @@ start_true world start = subst (λ ps. IsTrueTo [] (record { state = world.state
 
 -- EACH MOVE
 
-gone_true : (back : Back) (outcome : Outcome) (world : World) (errands : List PartyNotes) (shown : List Output) → IsSound world → are_out world.state errands ≡ true → IsTrueTo shown (record { state = world.state; rows = world.rows; errands = errands }) → world.errands ≡ errands → IsTrueTo (shown ++ (gone_for errands back outcome world).shown) (gone_for errands back outcome world).world
-gone_true back outcome world [] shown sound out true_to same = subst (λ xs. IsTrueTo xs world) (sym (append-nil shown)) (subst (λ ps. IsTrueTo shown (record { state = world.state; rows = world.rows; errands = ps })) (sym same) true_to)
-gone_true back outcome world (party ∷ errands) shown sound out true_to same = back_true world sound party errands out (first_due world.state party errands out) shown true_to back outcome
+gone_true : (back : Back) (outcome : Outcome) (world : World) (errands : List PartyNotes) (shown : List Output) → IsSound world → are_out world.state errands ≡ true → IsTrueTo shown world → ((party : PartyNotes) (rest : List PartyNotes) → errands ≡ party ∷ rest → IsTrueTo shown (record { state = world.state; rows = world.rows; errands = party ∷ rest })) → IsTrueTo (shown ++ (gone_for errands back outcome world).shown) (gone_for errands back outcome world).world
+gone_true back outcome world [] shown sound out true_to among = subst (λ xs. IsTrueTo xs world) (sym (append-nil shown)) true_to
+gone_true back outcome world (party ∷ errands) shown sound out true_to among = back_true world sound party errands out (first_due world.state party errands out) shown (among party errands refl) back outcome
 
-lose_true : (world : World) (errands : List PartyNotes) (shown : List Output) → IsSound world → are_out world.state errands ≡ true → IsTrueTo shown (record { state = world.state; rows = world.rows; errands = errands }) → world.errands ≡ errands → IsTrueTo (shown ++ (lost_from errands world).shown) (lost_from errands world).world
-lose_true world [] shown sound out true_to same = subst (λ xs. IsTrueTo xs world) (sym (append-nil shown)) (subst (λ ps. IsTrueTo shown (record { state = world.state; rows = world.rows; errands = ps })) (sym same) true_to)
-lose_true world (party ∷ errands) shown sound out true_to same = lost_true world sound party errands out (first_due world.state party errands out) shown true_to
+lose_true : (world : World) (errands : List PartyNotes) (shown : List Output) → IsSound world → are_out world.state errands ≡ true → IsTrueTo shown world → ((party : PartyNotes) (rest : List PartyNotes) → errands ≡ party ∷ rest → IsTrueTo shown (record { state = world.state; rows = world.rows; errands = party ∷ rest })) → IsTrueTo (shown ++ (lost_from errands world).shown) (lost_from errands world).world
+lose_true world [] shown sound out true_to among = subst (λ xs. IsTrueTo xs world) (sym (append-nil shown)) true_to
+lose_true world (party ∷ errands) shown sound out true_to among = lost_true world sound party errands out (first_due world.state party errands out) shown (among party errands refl)
 
 -- all that are out are lost
 all_lost_true : (world : World) (errands : List PartyNotes) (shown : List Output) → IsSound world → are_out world.state errands ≡ true → IsTrueTo shown (record { state = world.state; rows = world.rows; errands = errands }) → IsTrueTo (shown ++ flat_map drops_of errands) (record { state = world.state; rows = world.rows; errands = [] })
@@ -102,8 +103,8 @@ renew_true boxes NoChange world shown sound true_to can = absurd (cc)
 
 pub moved_true : (move : Move) (world : World) (shown : List Output) → IsSound world → IsTrueTo shown world → is_honest move world ≡ true → IsTrueTo (shown ++ (moved move world).shown) (moved move world).world
 moved_true (Move.Step event outcome) world shown sound true_to honest = event_true world sound event outcome shown true_to (and_parts (brings_no_party event) _ honest).0
-moved_true (Move.Go back outcome) world shown sound true_to honest = gone_true back outcome world world.errands shown sound sound.out true_to refl
-moved_true Move.Lose world shown sound true_to honest = lose_true world world.errands shown sound sound.out true_to refl
+moved_true (Move.Go place back outcome) world shown sound true_to honest = gone_true back outcome world (picked place world.errands) shown sound (picked_out place world.state world.errands sound.out) true_to (picked_true place world shown true_to)
+moved_true (Move.Lose place) world shown sound true_to honest = lose_true world (picked place world.errands) shown sound (picked_out place world.state world.errands sound.out) true_to (picked_true place world shown true_to)
 moved_true (Move.Restart boxes) world shown sound true_to honest =
     let lost = all_lost_true world world.errands shown sound sound.out true_to in
     subst (λ xs. IsTrueTo xs (record { state = restarted_from boxes world; rows = world.rows; errands = [] })) (append_assoc shown (flat_map drops_of world.errands) (drops_here world.state))
@@ -141,8 +142,8 @@ name_renewed boxes NoChange world = refl
 pub name_moved : (move : Move) (world : World) → (moved move world).world.state.head.name ≡ world.state.head.name
 unfolding stepped
 name_moved (Move.Step event outcome) world = name_stepped world.state event outcome
-name_moved (Move.Go back outcome) world = name_gone back outcome world.errands world
-name_moved Move.Lose world = name_lost world.errands world
+name_moved (Move.Go place back outcome) world = name_gone back outcome (picked place world.errands) world
+name_moved (Move.Lose place) world = name_lost (picked place world.errands) world
 name_moved (Move.Restart boxes) world = refl
 name_moved (Move.Renew boxes outcome) world = name_renewed boxes outcome world
 

@@ -24,7 +24,7 @@ use Rattle.tip_machine.specs.Honest.{brings_no_party, is_honest, is_run}
 use Rattle.tip_machine.specs.Invariants.{IsSound}
 use Rattle.tip_machine.specs.Invariants.Bounds.{is_spelled}
 use Rattle.tip_machine.specs.Invariants.Parties.{are_out, is_due}
-use Rattle.tip_machine.specs.Moves.{Move, Moved, World, drops_at, drops_here, gone_for, lost_from, moved, renewed, rows_after, stepped}
+use Rattle.tip_machine.specs.Moves.{Move, Moved, World, drops_at, drops_here, gone_for, lost_from, moved, picked, renewed, rows_after, stepped}
 use Rattle.tip_machine.specs.Order.{ordered, turn}
 use Rattle.tip_machine.specs.Outputs.{Output, brought, drops_of, outputs}
 use Rattle.tip_machine.specs.Requests.{strange}
@@ -56,6 +56,7 @@ use Rattle.tip_agreement.proofs.Lasting.{next_fits}
 use Rattle.tip_agreement.proofs.Moving.{due_awaited, sound_whole}
 use Rattle.tip_agreement.proofs.Occurring.{back_goes, event_goes}
 use Rattle.tip_agreement.proofs.Onward.{is_committed, row_in, says, tells_commit}
+use Rattle.tip_agreement.proofs.Picking.{all_picked, any_picked, picked_out}
 use Rattle.tip_agreement.proofs.Restarts.{start_sound}
 use Rattle.tip_agreement.proofs.Rows.{Says, stored_at, to_says}
 use Rattle.tip_agreement.proofs.Spoken.{IsQuiet, spelled_there, spoke_ends, spoke_ordered}
@@ -247,17 +248,20 @@ module _ (realm : List ℕ) (now : ℕ) (k : Key) (fine : is_spelled k ≡ true)
 
   -- Each move
 
-  gone_backs : (world : World) (back : Back) (outcome : Outcome) → IsSound world → world.state.head.name ≡ realm → (errands : List PartyNotes) → are_out world.state errands ≡ true → list_all is_uncalled errands ≡ true → world.errands ≡ errands → Backs world (gone_for errands back outcome world)
-  gone_backs world back outcome sound named [] is_out uncalled same = record { told = λ is. absurd (let wrong : false ≡ true = is in cc); out = λ is. inl is }
-  gone_backs world back outcome sound named (party ∷ rest) is_out uncalled same =
+  gone_backs : (world : World) (back : Back) (outcome : Outcome) → IsSound world → world.state.head.name ≡ realm → (errands : List PartyNotes) → are_out world.state errands ≡ true → list_all is_uncalled errands ≡ true → ((party : PartyNotes) (rest : List PartyNotes) → errands ≡ party ∷ rest → will (party ∷ rest) ≡ true → will world.errands ≡ true) → Backs world (gone_for errands back outcome world)
+  gone_backs world back outcome sound named [] is_out uncalled among = record { told = λ is. absurd (let wrong : false ≡ true = is in cc); out = λ is. inl is }
+  gone_backs world back outcome sound named (party ∷ rest) is_out uncalled among =
       let backs = back_backs world sound named party rest is_out (first_due world.state party rest is_out) (and_parts (is_uncalled party) (list_all is_uncalled rest) uncalled).0 back outcome in
-      subst (λ ps. Backs (record { state = world.state; rows = world.rows; errands = ps }) (stepped (event_of party back) outcome (record world { errands = rest }))) (sym same) backs
+      record { told = λ is. met_before (among party rest refl) (backs.told is); out = λ is. met_before (among party rest refl) (backs.out is) } where
+        met_before : {X : Type 0} → (will (party ∷ rest) ≡ true → will world.errands ≡ true) → (will (party ∷ rest) ≡ true) ⊎ X → (will world.errands ≡ true) ⊎ X
+        met_before among (inl out) = inl (among out)
+        met_before among (inr else) = inr else
 
-  lost_backs : (world : World) (errands : List PartyNotes) → world.errands ≡ errands → Backs world (lost_from errands world)
-  lost_backs world [] same = record { told = λ is. absurd (let wrong : false ≡ true = is in cc); out = λ is. inl is }
-  lost_backs world (party ∷ rest) same = record {
+  lost_backs : (world : World) (errands : List PartyNotes) → ((party : PartyNotes) (rest : List PartyNotes) → errands ≡ party ∷ rest → will (party ∷ rest) ≡ true → will world.errands ≡ true) → Backs world (lost_from errands world)
+  lost_backs world [] among = record { told = λ is. absurd (let wrong : false ≡ true = is in cc); out = λ is. inl is }
+  lost_backs world (party ∷ rest) among = record {
     told = λ is. absurd (none_dropped party is);
-    out = λ is. inl (subst (λ ps. will ps ≡ true) (sym same) (or_right (will_tell is_commit now id party) _ is));
+    out = λ is. inl (among party rest refl (or_right (will_tell is_commit now id party) _ is));
   }
 
   renewed_backs : (boxes : Key → List Badge) (outcome : Outcome) (world : World) → Backs world (renewed boxes outcome world)
@@ -267,8 +271,8 @@ module _ (realm : List ℕ) (now : ℕ) (k : Key) (fine : is_spelled k ≡ true)
 
   pub moved_backs : (move : Move) (world : World) → IsSound world → world.state.head.name ≡ realm → list_all is_uncalled world.errands ≡ true → is_honest move world ≡ true → Backs world (moved move world)
   moved_backs (Move.Step event outcome) world sound named uncalled honest = event_backs world sound named event outcome (and_parts (brings_no_party event) _ honest).0
-  moved_backs (Move.Go back outcome) world sound named uncalled honest = gone_backs world back outcome sound named world.errands sound.out uncalled refl
-  moved_backs Move.Lose world sound named uncalled honest = lost_backs world world.errands refl
+  moved_backs (Move.Go place back outcome) world sound named uncalled honest = gone_backs world back outcome sound named (picked place world.errands) (picked_out place world.state world.errands sound.out) (all_picked is_uncalled place world.errands uncalled) (λ party rest at is. sym (any_picked (will_tell is_commit now id) place world.errands party rest at) ∙ is)
+  moved_backs (Move.Lose place) world sound named uncalled honest = lost_backs world (picked place world.errands) (λ party rest at is. sym (any_picked (will_tell is_commit now id) place world.errands party rest at) ∙ is)
   moved_backs (Move.Restart boxes) world sound named uncalled honest = record {
     told = λ is. absurd (elim (told_either is_commit realm id (flat_map drops_of world.errands) (drops_here world.state) is) [ inl first ↦ none_lost world.errands first | inr later ↦ none_here world.state.transactions later ]);
     out = λ is. absurd (let wrong : false ≡ true = is in cc);

@@ -20,7 +20,7 @@ use Rattle.tip_machine.specs.Answers.{identifier}
 use Rattle.tip_machine.specs.Honest.{is_honest, is_run}
 use Rattle.tip_machine.specs.Invariants.{IsSound}
 use Rattle.tip_machine.specs.Invariants.Bounds.{is_spelled}
-use Rattle.tip_machine.specs.Moves.{Move, World, gone_for, led_to, lost_from, moved, renewed, rows_after, stepped}
+use Rattle.tip_machine.specs.Moves.{Move, World, gone_for, led_to, lost_from, moved, picked, renewed, rows_after, stepped}
 use Rattle.tip_machine.specs.Outputs.{Output, brought, drops_of, outputs}
 use Rattle.tip_machine.specs.Returns.{Back, event_of}
 use Rattle.tip_machine.specs.Starting.{IsStart}
@@ -125,8 +125,8 @@ module _ (realm : List ℕ) (k : Key) (fine : is_spelled k ≡ true) where
 
   pub moved_by : (move : Move) (world : World) → is_rising world.rows ≡ true → StoredBy world (moved move world).shown (moved move world).world.rows
   moved_by (Move.Step event outcome) world rising is = stepped_by event outcome world rising is
-  moved_by (Move.Go back outcome) world rising is = gone_by back outcome world.errands world rising is
-  moved_by Move.Lose world rising is = lost_by world.errands world is
+  moved_by (Move.Go place back outcome) world rising is = gone_by back outcome (picked place world.errands) world rising is
+  moved_by (Move.Lose place) world rising is = lost_by (picked place world.errands) world is
   moved_by (Move.Restart boxes) world rising is = inl is
   moved_by (Move.Renew boxes outcome) world rising is = renewed_by boxes outcome world is
 

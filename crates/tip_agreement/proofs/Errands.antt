@@ -1,5 +1,5 @@
 -- The parties that are out: one that is lost.
-use Rattle.std.proofs.Common.{◌≡◌, Bool, true, false, List, [], ◌∷◌, cond}
+use Rattle.std.proofs.Common.{◌≡◌, ℕ, Bool, true, false, List, [], ◌∷◌, cond}
 use Rattle.std.specs.Prelude.{filter}
 use Rattle.std.specs.List.{list_all}
 use Rattle.std.specs.Str.{bytes_eq}
@@ -8,8 +8,9 @@ use Rattle.tip_branch.specs.Notes.{PartyNotes}
 use Rattle.tip_machine.specs.Invariants.{IsSound}
 use Rattle.tip_machine.specs.Invariants.Links.{are_distinct}
 use Rattle.tip_machine.specs.Invariants.Parties.{are_out, is_due, is_of_this_start}
-use Rattle.tip_machine.specs.Moves.{World, lost_from}
+use Rattle.tip_machine.specs.Moves.{World, lost_from, picked}
 use Rattle.tip_machine.specs.States.{State}
+use Rattle.tip_agreement.proofs.Picking.{picked_out}
 
 -- without the first, what is kept of the others is apart still
 apart_behind : (test same : Bool) (state : State) (party : PartyNotes) (errands : List PartyNotes) → are_distinct (λ (this that : PartyNotes). bytes_eq this.id that.id) (cond test (party ∷ filter (is_of_this_start state) errands) (filter (is_of_this_start state) errands)) ≡ true → are_distinct (λ (this that : PartyNotes). bytes_eq this.id that.id) (filter (is_of_this_start state) errands) ≡ true
@@ -39,5 +40,5 @@ lost_from_sound (party ∷ errands) world out sound = record {
   stored = sound.stored;
 }
 
-pub lost_sound : (world : World) → IsSound world → IsSound (lost_from world.errands world).world
-lost_sound world sound = lost_from_sound world.errands world sound.out sound
+pub lost_sound : (place : ℕ) (world : World) → IsSound world → IsSound (lost_from (picked place world.errands) world).world
+lost_sound place world sound = lost_from_sound (picked place world.errands) world (picked_out place world.state world.errands sound.out) sound

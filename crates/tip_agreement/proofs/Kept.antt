@@ -5,11 +5,12 @@ use Rattle.tip_branch.specs.Notes.{PartyNotes}
 use Rattle.tip_machine.specs.Honest.{brings_no_party, is_honest, is_run}
 use Rattle.tip_machine.specs.Invariants.{IsSound}
 use Rattle.tip_machine.specs.Invariants.Parties.{are_out}
-use Rattle.tip_machine.specs.Moves.{Move, World, gone_for, led_to, moved}
+use Rattle.tip_machine.specs.Moves.{Move, World, gone_for, led_to, moved, picked}
 use Rattle.tip_machine.specs.Returns.{Back}
 use Rattle.tip_machine.specs.Starting.{IsStart}
 use Rattle.tip_machine.specs.declared.event.Outcome.{Outcome}
 use Rattle.tip_agreement.proofs.Errands.{lost_sound, first_due}
+use Rattle.tip_agreement.proofs.Picking.{picked_out}
 use Rattle.tip_agreement.proofs.Lasting.{back_sound, event_sound}
 use Rattle.tip_agreement.proofs.Restarts.{renewing_sound, restarting_sound, start_sound}
 
@@ -19,8 +20,8 @@ gone_sound back outcome world (party ∷ errands) sound out = back_sound world p
 
 pub moved_sound : (move : Move) (world : World) → IsSound world → is_honest move world ≡ true → IsSound (moved move world).world
 moved_sound (Move.Step event outcome) world sound honest = event_sound world event outcome sound (and_parts (brings_no_party event) _ honest).0
-moved_sound (Move.Go back outcome) world sound honest = gone_sound back outcome world world.errands sound sound.out
-moved_sound Move.Lose world sound honest = lost_sound world sound
+moved_sound (Move.Go place back outcome) world sound honest = gone_sound back outcome world (picked place world.errands) sound (picked_out place world.state world.errands sound.out)
+moved_sound (Move.Lose place) world sound honest = lost_sound place world sound
 moved_sound (Move.Restart boxes) world sound honest = restarting_sound boxes world sound honest
 moved_sound (Move.Renew boxes outcome) world sound honest = renewing_sound boxes outcome world sound honest
 

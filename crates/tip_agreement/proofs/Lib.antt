@@ -39,6 +39,7 @@ pub mod Occurring
 pub mod Onward
 pub mod Owned
 pub mod Parting
+pub mod Picking
 pub mod Proceeding
 pub mod Pulling
 pub mod Pursuing

@@ -23,8 +23,8 @@ pub fn a_start_has_the_invariants()
     ensures { (world : World) → IsStart world → IsSound world }
 {}
 
-/// Each move of an honest run keeps the invariants: an event and whatever becomes of its change, a party that
-/// comes back as its branches can answer or is lost, a restart of the process and a renewal of the realm.
+/// Each move of an honest run keeps the invariants: an event and whatever becomes of its change, any party that
+/// is out, which comes back as its branches can answer or is lost, a restart of the process and a renewal of the realm.
 pub fn each_move_keeps_the_invariants()
     ensures { (move : Move) (world : World) → IsSound world → is_honest move world ≡ true →
         IsSound (moved move world).world }

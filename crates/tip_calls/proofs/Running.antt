@@ -23,7 +23,7 @@ use Rattle.tip_machine.proofs.Stepping.{step-epoch, step-named}
 use Rattle.tip_machine.proofs.Storing.{same_rows}
 use Rattle.tip_machine.specs.Heads.{starting}
 use Rattle.tip_machine.specs.Honest.{brings_no_party, is_honest, is_run}
-use Rattle.tip_machine.specs.Moves.{Move, World, drops_here, gone_for, led_to, lost_from, moved, risen, rows_after, stepped}
+use Rattle.tip_machine.specs.Moves.{Move, World, drops_here, gone_for, led_to, lost_from, moved, picked, risen, rows_after, stepped}
 use Rattle.tip_machine.specs.Outputs.{Output, drops_of, outputs}
 use Rattle.tip_machine.specs.Recovery.{restarted}
 use Rattle.tip_machine.specs.Returns.{can_answer}
@@ -97,8 +97,8 @@ is_move world came left (inl (none, same)) fit = record {
   honest = and_from (brings_no_party came.event) _ none fit;
   goes = ap (λ e. stepped came.event came.outcome (record world { errands = e })) (sym same);
 }
-is_move world came left (inr (party, back, out, can, is)) fit = record {
-  move = Move.Go back came.outcome;
+is_move world came left (inr (spot, party, back, out, can, is)) fit = record {
+  move = Move.Go spot back came.outcome;
   honest = rw out (and_from (can_answer party.errand back party.members) _ can (ap (λ e. fits (wants world.state e) came.outcome) (sym is) ∙ fit));
   goes = ap (λ e. gone_for e back came.outcome world) out ∙ ap (λ e. stepped e came.outcome (record world { errands = left })) (sym is);
 }
@@ -209,9 +209,9 @@ module _ {S : Type 0} (stands may_leave : S → Log → Type 0) (is_true : S →
 
     own_loss : (party : PartyNotes) → IsLetGo old new place party → (shown : List Output) → shown ≡ drops_of party → GoesOn new place world shown
     own_loss party is shown shows_it =
-        let out : world.errands ≡ party ∷ new.out place = sym hosted.out ∙ is.was in
-        let lost : moved Move.Lose world ≡ record { shown = drops_of party; world = record world { errands = new.out place } } = ap (λ e. lost_from e world) out in
-        one_move new place world shown Move.Lose refl (ap (λ m. m.shown) lost ∙ sym shows_it)
+        let out : picked is.spot world.errands ≡ party ∷ new.out place = ap (picked is.spot) (sym hosted.out) ∙ is.was in
+        let lost : moved (Move.Lose is.spot) world ≡ record { shown = drops_of party; world = record world { errands = new.out place } } = ap (λ e. lost_from e world) out in
+        one_move new place world shown (Move.Lose is.spot) refl (ap (λ m. m.shown) lost ∙ sym shows_it)
         (subst (IsHosted stands new place) (sym (ap (λ m. m.world) lost)) (record {
           state = ap (λ c. realm c place) is.core ∙ hosted.state;
           out = refl;

@@ -1,4 +1,5 @@
--- CALLS OF A HOST one after another (ours), over any store, by a caller that brings parties back as their errands leave them.
+-- CALLS OF A HOST one after another (ours), over any store, by a caller that brings parties back as their errands leave them,
+-- in any order.
 use Rattle.std.specs.Prelude.{◌≡◌, ◌≢◌, ◌⊎◌, ◌==◌, ◌<◌, ◌+◌, ℕ, Bool, true, List, [], ◌∷◌, ◌++◌, Option, Some, None, Ok, if◌then◌else◌, is_some, option_map, slice_get}
 use Rattle.std.specs.List.{flat_map}
 use Rattle.std.specs.Option.{option_to_list}
@@ -15,7 +16,7 @@ use Rattle.tip_machine.specs.Agreement.Traces.{shown_in, traced}
 use Rattle.tip_machine.specs.Heads.{starting}
 use Rattle.tip_machine.specs.Honest.{brings_no_party, is_run}
 use Rattle.tip_machine.specs.Invariants.{are_known_once}
-use Rattle.tip_machine.specs.Moves.{Move, World, drops_here, led_to, loaded}
+use Rattle.tip_machine.specs.Moves.{Move, World, drops_here, led_to, loaded, picked}
 use Rattle.tip_machine.specs.Outputs.{Output, drops_of, outputs}
 use Rattle.tip_machine.specs.Recovery.{restarted}
 use Rattle.tip_machine.specs.Returns.{Back, can_answer, event_of}
@@ -47,11 +48,11 @@ pub record Came : Type 0 where
   pub outcome : Outcome
   pub answer : Answer
 
--- the parties that are out once an event has come: the caller makes none, and brings the oldest back as its branches can answer
+-- the parties that are out once an event has come: the caller makes none, and brings any one of them back, as its branches can answer
 abbrev pub Brings : List PartyNotes → Event → List PartyNotes → Type 0
 Brings out event left =
     ((brings_no_party event ≡ true) × (left ≡ out))
-    ⊎ ((party : PartyNotes) × (back : Back) × (out ≡ party ∷ left) × (can_answer party.errand back party.members ≡ true) × (event ≡ event_of party back))
+    ⊎ ((spot : ℕ) × (party : PartyNotes) × (back : Back) × (picked spot out ≡ party ∷ left) × (can_answer party.errand back party.members ≡ true) × (event ≡ event_of party back))
 
 -- what Host::step says of it
 pub record IsStepped {S : Type 0} (stands may_leave : S → Log → Type 0) (is_true : S → Type 0) (faults : S → ℕ) (is_due : S → List ℕ → Bool) (old new : Around S) (came : Came) : Type 0 where
@@ -68,11 +69,12 @@ pub record IsStepped {S : Type 0} (stands may_leave : S → Log → Type 0) (is_
 
 -- The other calls
 
--- the oldest party that is out of a realm is let go, which is no call of the host
+-- a party that is out of a realm is let go, which is no call of the host
 pub record IsLetGo {S : Type 0} (old new : Around S) (place : ℕ) (party : PartyNotes) : Type 0 where
   pub core : new.core ≡ old.core
   pub store : new.store ≡ old.store
-  pub was : old.out place ≡ party ∷ new.out place
+  pub spot : ℕ
+  pub was : picked spot (old.out place) ≡ party ∷ new.out place
   pub others : (other : ℕ) → other ≢ place → new.out other ≡ old.out other
 
 -- these realms start from what a store has: Host::load or Host::restart, boxes for each row, and Recovering::begin. No party is out

@@ -19,7 +19,7 @@ use tip_rows::RowLog;
 
 /// ISOLATION AND AGREEMENT of whoever calls a host, over any store that may be relied on: however the events of all realms are
 /// interleaved, over restarts and renewals, what is called is a run of each realm's own machine, of which agreement holds, where the
-/// caller brings its parties back as their errands leave them.
+/// caller brings its parties back as their errands leave them, in any order.
 pub fn a_list_of_calls_is_each_realms_own_run<S: RowLog>()
     ensures { (old new : Around S) (calls : List (ℕ → List Output)) (place : ℕ) (start : World)
         (moves : List Move) → IsStart start → is_run start moves ≡ true → HaveNames old.core →

@@ -93,10 +93,10 @@ last world (Happens other) event outcome is fit =
       shown = shows.2;
       rows = rows_of event outcome world;
     })
-last world (Returns back) event outcome (party, errands, out, met, can) fit =
+last world (Returns place back) event outcome (party, errands, out, met, can) fit =
     let there : World = record world { errands = errands } in
     let shows = shows_brought event outcome there in
-    let goes : moved (Move.Go back outcome) world ≡ stepped event outcome there = ap (λ e. gone_for e back outcome world) out ∙ ap (λ e. stepped e outcome there) (sym met) in
+    let goes : moved (Move.Go place back outcome) world ≡ stepped event outcome there = ap (λ e. gone_for e back outcome world) out ∙ ap (λ e. stepped e outcome there) (sym met) in
     record {
       honest = rw out (and_from (can_answer party.errand back party.members) _ can (ap (λ e. fits (wants world.state e) outcome) (sym met) ∙ fit));
       before = shows.0;

@@ -6,7 +6,7 @@ use Rattle.tip_machine.specs.Agreement.{IsAgreed}
 use Rattle.tip_machine.specs.Agreement.Traces.{shown_in, traced}
 use Rattle.tip_machine.specs.Agreement.Verdicts.{is_unanimous, told}
 use Rattle.tip_machine.specs.Honest.{brings_no_party, is_run}
-use Rattle.tip_machine.specs.Moves.{Move, World, led_to, rows_after}
+use Rattle.tip_machine.specs.Moves.{Move, World, led_to, picked, rows_after}
 use Rattle.tip_machine.specs.Outputs.{brought}
 use Rattle.tip_machine.specs.Returns.{Back, can_answer, event_of}
 use Rattle.tip_machine.specs.Steps.{wants}
@@ -14,19 +14,19 @@ use Rattle.tip_machine.specs.Types.{Event}
 use Rattle.tip_machine.specs.declared.event.Outcome.{Outcome}
 use Rattle.tip_machine.specs.declared.event.Outcome.TheVariants.{Stored}
 
--- what was under way: an event of a caller, or the oldest errand's party that comes back
+-- what was under way: an event of a caller, or a party that comes back, from the errand at a place
 pub data Under : Type 0 where
   Happens : Event → Under
-  Returns : Back → Under
+  Returns : ℕ → Back → Under
 
 -- the event of it, and the realm as the event meets it: a party that comes back is not out any more
 abbrev pub IsUnder : World → Under → Event → Type 0
 IsUnder world (Happens event) met = (met ≡ event) × (brings_no_party event ≡ true)
-IsUnder world (Returns back) met = (party : _) × (errands : _) × (world.errands ≡ party ∷ errands) × (met ≡ event_of party back) × (can_answer party.errand back party.members ≡ true)
+IsUnder world (Returns place back) met = (party : _) × (errands : _) × (picked place world.errands ≡ party ∷ errands) × (met ≡ event_of party back) × (can_answer party.errand back party.members ≡ true)
 
 abbrev pub move_of : Under → Outcome → Move
 move_of (Happens event) outcome = Move.Step event outcome
-move_of (Returns back) outcome = Move.Go back outcome
+move_of (Returns place back) outcome = Move.Go place back outcome
 
 -- WHAT IS LEFT of the realm's rows: those of before, or those with the change that the event wants
 abbrev pub IsLeft : World → Event → List (Key × Row) → Type 0

@@ -17,7 +17,7 @@ use Rattle.tip_line.specs.declared.refusal.Refusal.TheVariants.{EpochEnd}
 use Rattle.tip_machine.specs.Heads.{is_within}
 use Rattle.tip_machine.specs.Honest.{brings_no_party, can_start, is_honest, is_run}
 use Rattle.tip_machine.specs.Invariants.{IsSound}
-use Rattle.tip_machine.specs.Moves.{Move, World, gone_for, led_to, lost_from, moved, stepped}
+use Rattle.tip_machine.specs.Moves.{Move, World, gone_for, led_to, lost_from, moved, picked, stepped}
 use Rattle.tip_machine.specs.Outputs.{Output, drops_of}
 use Rattle.tip_machine.specs.Returns.{can_answer, event_of}
 use Rattle.tip_machine.specs.Steps.{fits, wants}
@@ -189,13 +189,13 @@ did_go_from (party ∷ errands) acting done out is = at (are_foretold party) is 
   went = happens (event_of party (answers_of party)) from
 
   move : Move
-  move = Move.Go (answers_of party) (outcome_in from (event_of party (answers_of party)))
+  move = Move.Go 0 (answers_of party) (outcome_in from (event_of party (answers_of party)))
 
   goes : moved move acting.world ≡ stepped (event_of party (answers_of party)) (outcome_in from (event_of party (answers_of party))) from.world
-  goes = ap (λ e. gone_for e (answers_of party) (outcome_in from (event_of party (answers_of party))) acting.world) out
+  goes = ap (λ e. gone_for e (answers_of party) (outcome_in from (event_of party (answers_of party))) acting.world) (ap (picked 0) out)
 
   honest : is_honest move acting.world ≡ true
-  honest = rw out (and_from (can_answer party.errand (answers_of party) party.members) _ (can_be_answered party) (fits_due acting.due (wants acting.world.state (event_of party (answers_of party)))))
+  honest = rw (ap (picked 0) out) (and_from (can_answer party.errand (answers_of party) party.members) _ (can_be_answered party) (fits_due acting.due (wants acting.world.state (event_of party (answers_of party)))))
 
   at : (told : Bool) → cond told (Some went) None ≡ Some done → Did acting done
   at true is = subst (Did acting) (same_Some went done is) (subst (λ m. Did acting (record { printed = shown_text acting.name m.shown; acting = went.acting })) goes (did_move move acting went.acting honest (sym (ap (λ m. m.world) goes)) refl))
@@ -207,9 +207,9 @@ did_go acting done is = did_go_from acting.world.errands acting done refl is
 did_drop_from : (errands : List PartyNotes) (acting : Acting) → acting.world.errands ≡ errands → Did acting (drops_from errands acting)
 did_drop_from [] acting none = record { moves = []; said = Idles ∷ []; run = refl; led = refl; shown = refl; text = sym (flat_map-cons (saying_text acting.name) Idles [] ∙ append-nil _); named = refl }
 did_drop_from (party ∷ errands) acting out =
-    let loses_it : moved Move.Lose acting.world ≡ record { shown = drops_of party; world = record acting.world { errands = errands } } = ap (λ e. lost_from e acting.world) out in
+    let loses_it : moved (Move.Lose 0) acting.world ≡ record { shown = drops_of party; world = record acting.world { errands = errands } } = ap (λ e. lost_from e acting.world) (ap (picked 0) out) in
     subst (λ m. Did acting (record { printed = shown_text acting.name m.shown; acting = record acting { world = record acting.world { errands = errands } } })) loses_it
-    (did_move Move.Lose acting (record acting { world = record acting.world { errands = errands } }) refl (sym (ap (λ m. m.world) loses_it)) refl)
+    (did_move (Move.Lose 0) acting (record acting { world = record acting.world { errands = errands } }) refl (sym (ap (λ m. m.world) loses_it)) refl)
 
 pub did_drop : (acting : Acting) → Did acting (drops_from acting.world.errands acting)
 did_drop acting = did_drop_from acting.world.errands acting refl

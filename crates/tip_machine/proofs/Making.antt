@@ -4,7 +4,7 @@ use Rattle.tip_branch.specs.Notes.{PartyNotes}
 use Rattle.tip_branch.specs.declared.branch.Badge.{Badge}
 use Rattle.tip_rows.specs.Keys.{Key}
 use Rattle.tip_machine.specs.Given.{was_given}
-use Rattle.tip_machine.specs.Moves.{Move, World, gone_for, led_to, lost_from, moved, renewed, restarted_from, stepped}
+use Rattle.tip_machine.specs.Moves.{Move, World, gone_for, led_to, lost_from, moved, picked, renewed, restarted_from, stepped}
 use Rattle.tip_machine.specs.Returns.{Back}
 use Rattle.tip_machine.specs.Types.{Event}
 use Rattle.tip_machine.specs.declared.event.Outcome.{Outcome}
@@ -34,8 +34,8 @@ module _ (key : Key) where
 
   moved-given : (move : Move) (world : World) → was_given world.state key ≡ true → was_given (moved move world).world.state key ≡ true
   moved-given (Move.Step event outcome) world given = stepped-given event outcome world given
-  moved-given (Move.Go back outcome) world given = gone-given world.errands back outcome world given
-  moved-given Move.Lose world given = lost-given world.errands world given
+  moved-given (Move.Go place back outcome) world given = gone-given (picked place world.errands) back outcome world given
+  moved-given (Move.Lose place) world given = lost-given (picked place world.errands) world given
   moved-given (Move.Restart boxes) world given = started-given boxes world given
   moved-given (Move.Renew boxes outcome) world given = renewed-given boxes outcome world given
 

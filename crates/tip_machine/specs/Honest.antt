@@ -6,7 +6,7 @@ use Rattle.tip_branch.specs.declared.branch.Badge.{Badge}
 use Rattle.tip_rows.specs.Keys.{Key}
 use Rattle.tip_rows.specs.Logs.{last_epoch}
 use Rattle.tip_machine.specs.Types.{Event}
-use Rattle.tip_machine.specs.Moves.{Move, World, moved}
+use Rattle.tip_machine.specs.Moves.{Move, World, moved, picked}
 use Rattle.tip_machine.specs.Returns.{Back, can_answer, event_of}
 use Rattle.tip_machine.specs.Starting.{are_adopted}
 use Rattle.tip_machine.specs.Steps.{fits, wants}
@@ -24,7 +24,7 @@ brings_no_party other = true
 abbrev pub can_start : (Key → List Badge) → World → Bool
 can_start boxes world = nat_lt world.state.head.epoch last_epoch && are_adopted boxes world.rows
 
--- the oldest errand comes back as its branches can answer
+-- the first errand comes back as its branches can answer
 abbrev pub can_go : List PartyNotes → Back → Outcome → World → Bool
 can_go [] back outcome world = true
 can_go (party ∷ errands) back outcome world =
@@ -33,8 +33,8 @@ can_go (party ∷ errands) back outcome world =
 -- A MOVE IS HONEST in the world that it meets. A renewal that is refused for another reason than by the store is no move
 abbrev pub is_honest : Move → World → Bool
 is_honest (Move.Step event outcome) world = brings_no_party event && fits (wants world.state event) outcome
-is_honest (Move.Go back outcome) world = can_go world.errands back outcome world
-is_honest Move.Lose world = true
+is_honest (Move.Go place back outcome) world = can_go (picked place world.errands) back outcome world
+is_honest (Move.Lose place) world = true
 is_honest (Move.Restart boxes) world = can_start boxes world
 is_honest (Move.Renew boxes NoChange) world = false
 is_honest (Move.Renew boxes Stored) world = can_start boxes world

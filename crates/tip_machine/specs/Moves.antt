@@ -1,5 +1,5 @@
 -- A realm with what is around it: its stored rows, and the parties that are out (ours).
-use Rattle.std.specs.Prelude.{◌+◌, List, [], ◌∷◌, ◌++◌, map, flat_map, Option, Some, if◌then◌else◌}
+use Rattle.std.specs.Prelude.{ℕ, zero, suc, ◌+◌, List, [], ◌∷◌, ◌++◌, map, flat_map, Option, Some, if◌then◌else◌}
 use Rattle.std.specs.Option.{option_to_list}
 use Rattle.tip_branch.specs.Notes.{PartyNotes}
 use Rattle.tip_branch.specs.declared.branch.Badge.{Badge}
@@ -29,10 +29,10 @@ pub record World : Type 0 where
 pub data Move : Type 0 where
   -- an event, and what becomes of the change that it wants
   Step : Event → Outcome → Move
-  -- the oldest errand is over: what its branches answered, or that nobody was called
-  Go : Back → Outcome → Move
-  -- the oldest errand is lost: its party does not come back
-  Lose : Move
+  -- the errand at a place, the oldest at 0, is over: what its branches answered, or that nobody was called
+  Go : ℕ → Back → Outcome → Move
+  -- the errand at a place is lost: its party does not come back
+  Lose : ℕ → Move
   -- the process starts again; these boxes are adopted for the branches of each row
   Restart : (Key → List Badge) → Move
   -- the realm alone starts again, if the store lets its epoch rise
@@ -74,11 +74,23 @@ stepped event outcome world =
 
 -- Errands
 
--- the oldest errand's party comes back
+-- a party behind the first of others, if there are any
+abbrev pub behind_first : PartyNotes → List PartyNotes → List PartyNotes
+behind_first party [] = []
+behind_first party (first ∷ others) = first ∷ party ∷ others
+
+-- the errand at a place, and then all others, the oldest first; none where there is no such place
+abbrev pub picked : ℕ → List PartyNotes → List PartyNotes
+picked place [] = []
+picked zero (party ∷ errands) = party ∷ errands
+picked (suc place) (party ∷ errands) = behind_first party (picked place errands)
+
+-- the first errand's party comes back
 abbrev pub gone_for : List PartyNotes → Back → Outcome → World → Moved
 gone_for [] back outcome world = record { shown = []; world = world }
 gone_for (party ∷ errands) back outcome world = stepped (event_of party back) outcome (record world { errands = errands })
 
+-- it is lost
 abbrev pub lost_from : List PartyNotes → World → Moved
 lost_from [] world = record { shown = []; world = world }
 lost_from (party ∷ errands) world = record { shown = drops_of party; world = record world { errands = errands } }
@@ -112,8 +124,8 @@ renewed boxes other world = record { shown = Output.Refused refusal.Refused ∷ 
 -- ONE MOVE
 abbrev pub moved : Move → World → Moved
 moved (Step event outcome) world = stepped event outcome world
-moved (Go back outcome) world = gone_for world.errands back outcome world
-moved Lose world = lost_from world.errands world
+moved (Go place back outcome) world = gone_for (picked place world.errands) back outcome world
+moved (Lose place) world = lost_from (picked place world.errands) world
 moved (Restart boxes) world = record {
   shown = flat_map drops_of world.errands ++ drops_here world.state;
   world = record { state = restarted_from boxes world; rows = world.rows; errands = [] };

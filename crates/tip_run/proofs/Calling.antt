@@ -66,12 +66,12 @@ module _ {S : Type 0} (stands may_leave : S → Log → Type 0) (is_true : S →
   goes : (old new : Around S) (place : ℕ) (out : List PartyNotes) (one : Option Shown) → Goes stands may_leave is_true faults is_due old new place out one → Calls old new (option_to_list one)
   goes old new place [] one (none, same) = subst (λ (o : Option Shown). Calls old new (option_to_list o)) (sym none) (still old new same)
   goes old new place (party ∷ left) None is = absurd is
-  goes old new place (party ∷ left) (Some one) (back, done, is) = comes old new place (event_of party back) one is
+  goes old new place (party ∷ left) (Some one) (back, done, is, others) = comes old new place (event_of party back) one is
 
   loses : (old new : Around S) (place : ℕ) (out : List PartyNotes) (one : Option Shown) → Loses old new place out one → Calls old new (option_to_list one)
   loses old new place [] one (none, same) = subst (λ (o : Option Shown). Calls old new (option_to_list o)) (sym none) (still old new same)
   loses old new place (party ∷ left) None is = absurd is
-  loses old new place (party ∷ left) (Some one) (is, realm_is, shows) = LetGo place party is (λ here. shown_one here place one (drops_of party) realm_is shows)
+  loses old new place (party ∷ left) (Some one) (is, others, realm_is, shows) = LetGo place party is (λ here. shown_one here place one (drops_of party) realm_is shows)
 
   renews : (old new : Around S) (place : ℕ) (boxes : List (List _)) (one : Shown) → Renews stands is_true old new place boxes one → Calls old new (one ∷ [])
   renews old new place boxes one is = Renewed place is.state is.is (λ here. shown_one here place one _ is.realm_is is.shows)

@@ -1,6 +1,6 @@
 -- An event has come to a host at work.
 use Rattle.std.proofs.Common.{◌≡◌, ◌≢◌, ◌∷◌, ◌∙◌, ℕ, Bool, true, List, [], Option, Some, None, inl, inr, ap, refl, subst, sym}
-use Rattle.std.specs.Prelude.{is_some, map, Result, Ok, Err, IfOk, IfSome}
+use Rattle.std.specs.Prelude.{is_some, Result, Ok, Err, IfOk, IfSome}
 use Rattle.std.specs.List.{flat_map}
 use Rattle.std.specs.Option.{option_to_list}
 use Rattle.std.proofs.lemmas.Bool.{cases_eq, true≢false}
@@ -8,8 +8,10 @@ use Rattle.std.proofs.lemmas.Option.{none-some}
 use Rattle.tip_branch.specs.Notes.{PartyNotes}
 use Rattle.tip_calls.specs.Calls.{Around, Came}
 use Rattle.tip_core.specs.Hosted.{Hosted, Steps, realm}
+use Rattle.tip_host.specs.Errands.{was_done}
 use Rattle.tip_host.specs.Keeping.{Keeps}
 use Rattle.tip_machine.specs.Honest.{brings_no_party}
+use Rattle.tip_machine.specs.Moves.{picked}
 use Rattle.tip_machine.specs.Outputs.{drops_of}
 use Rattle.tip_machine.specs.Returns.{Back, can_answer, event_of}
 use Rattle.tip_machine.specs.States.{State}
@@ -20,7 +22,7 @@ use Rattle.tip_machine.specs.declared.event.Outcome.{Outcome}
 use Rattle.tip_rows.specs.Logs.{Log}
 use Rattle.tip_table.specs.Kept.{Kept, of}
 use Rattle.tip_run.proofs.Leaving.{spent_shown}
-use Rattle.tip_run.specs.Runs.{AreOfRealms, Comes, Happens, Loses, Running}
+use Rattle.tip_run.specs.Runs.{AreOfRealms, Comes, Goes, Happens, Loses, Running}
 use Rattle.tip_run.specs.Showing.{outputs_of}
 use Rattle.tip_run.specs.declared.shown.Shown.{Shown}
 
@@ -90,29 +92,34 @@ module _ {S : Type 0} (stands may_leave : S → Log → Type 0) (is_true : S →
   }
 
   -- the oldest party comes back
-  pub came_back : (old between new : Around S) (place : ℕ) (party : PartyNotes) (back : Back) (one : Shown) → between.core ≡ old.core → between.store ≡ old.store → old.out place ≡ party ∷ between.out place → ((other : ℕ) → other ≢ place → between.out other ≡ old.out other) → can_answer party.errand back party.members ≡ true → Happens stands may_leave is_true faults is_due between new place (event_of party back) one → Comes stands may_leave is_true faults is_due old new place (event_of party back) one
-  came_back old between new place party back one core store out others can is = record {
-    came = came_of between new place (event_of party back) one is;
-    is = record {
-      steps = subst (λ c. Steps c new.core place (event_of party back) is.outcome is.answer) core is.steps;
-      wanted = λ state there. is.wanted state (ap (λ c. realm c place) core ∙ there);
-      fits = is.fits;
-      keeps = λ state there. subst (λ s. Keeps stands may_leave is_true faults is_due state.head.name is.change is.outcome s new.store) store (is.keeps state (ap (λ c. realm c place) core ∙ there));
-      absent = λ none. is.absent (ap (λ c. realm c place) core ∙ none) ∙ store;
-      names = is.names;
-      left = between.out place;
-      brings = inr (party, back, out, can, refl);
-      out = is.out;
-      others = λ other differ. is.others other differ ∙ others other differ;
-    };
-    place_is = refl;
-    event_is = refl;
-    realm_is = is.realm_is;
-    shows = is.shows;
-  }
+  pub came_back : (old between new : Around S) (place : ℕ) (party : PartyNotes) (back : Back) (one : Shown) → between.core ≡ old.core → between.store ≡ old.store → old.out place ≡ party ∷ between.out place → ((other : ℕ) → other ≢ place → between.out other ≡ old.out other) → was_done party.errand back ≡ true → can_answer party.errand back party.members ≡ true → Happens stands may_leave is_true faults is_due between new place (event_of party back) one → Goes stands may_leave is_true faults is_due old new place (old.out place) (Some one)
+  came_back old between new place party back one core store out others done can is = subst (λ out. Goes stands may_leave is_true faults is_due old new place out (Some one)) (sym out) (
+    back,
+    done,
+    record {
+      came = came_of between new place (event_of party back) one is;
+      is = record {
+        steps = subst (λ c. Steps c new.core place (event_of party back) is.outcome is.answer) core is.steps;
+        wanted = λ state there. is.wanted state (ap (λ c. realm c place) core ∙ there);
+        fits = is.fits;
+        keeps = λ state there. subst (λ s. Keeps stands may_leave is_true faults is_due state.head.name is.change is.outcome s new.store) store (is.keeps state (ap (λ c. realm c place) core ∙ there));
+        absent = λ none. is.absent (ap (λ c. realm c place) core ∙ none) ∙ store;
+        names = is.names;
+        left = between.out place;
+        brings = inr (0, party, back, ap (picked 0) out, can, refl);
+        out = is.out;
+        others = λ other differ. is.others other differ ∙ others other differ;
+      };
+      place_is = refl;
+      event_is = refl;
+      realm_is = is.realm_is;
+      shows = is.shows;
+    },
+    refl,
+  )
 
 -- the oldest party is let go
 pub has_lost : {S : Type 0} (old new : Around S) (place : ℕ) (found : Option PartyNotes) (one : Shown) (copies : List PartyNotes) → is_some found ≡ true → new.core ≡ old.core → new.store ≡ old.store → IfSome found (λ party. old.out place ≡ party ∷ new.out place) → ((other : ℕ) → other ≢ place → new.out other ≡ old.out other) → one.realm ≡ place → outputs_of one ≡ flat_map drops_of copies → copies ≡ option_to_list found → Loses old new place (old.out place) (Some one)
 has_lost old new place None one copies some core store was others realm_is shows same = absurd (true≢false (sym some))
 has_lost old new place (Some party) one copies some core store was others realm_is shows same =
-    subst (λ out. Loses old new place out (Some one)) (sym was) (record { core = core; store = store; was = was; others = others }, realm_is, shows ∙ spent_shown copies (Some party) same)
+    subst (λ out. Loses old new place out (Some one)) (sym was) (record { core = core; store = store; spot = 0; was = ap (picked 0) was; others = others }, refl, realm_is, shows ∙ spent_shown copies (Some party) same)

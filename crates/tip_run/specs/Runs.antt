@@ -75,18 +75,18 @@ pub record Comes {S : Type 0} (stands may_leave : S → Log → Type 0) (is_true
 
 -- Errands
 
--- the oldest party that is out does its errand and comes back; where none is out, nothing happens
+-- the oldest party that is out does its errand and comes back, and the others stay out; where none is out, nothing happens
 abbrev pub Goes : {S : Type 0} → (stands may_leave : S → Log → Type 0) → (is_true : S → Type 0) → (faults : S → ℕ) → (is_due : S → List ℕ → Bool) → Around S → Around S → ℕ → List PartyNotes → Option Shown → Type 0
 Goes stands may_leave is_true faults is_due old new place [] shown = (shown ≡ None) × (new ≡ old)
 Goes stands may_leave is_true faults is_due old new place (party ∷ left) None = ⊥
 Goes stands may_leave is_true faults is_due old new place (party ∷ left) (Some shown) =
-    (back : Back) × (was_done party.errand back ≡ true) × Comes stands may_leave is_true faults is_due old new place (event_of party back) shown
+    (back : Back) × (was_done party.errand back ≡ true) × (comes : Comes stands may_leave is_true faults is_due old new place (event_of party back) shown) × (comes.is.left ≡ left)
 
--- it is let go, its errand undone
+-- it is let go, its errand undone, and the others stay out
 abbrev pub Loses : {S : Type 0} → Around S → Around S → ℕ → List PartyNotes → Option Shown → Type 0
 Loses old new place [] shown = (shown ≡ None) × (new ≡ old)
 Loses old new place (party ∷ left) None = ⊥
-Loses old new place (party ∷ left) (Some shown) = IsLetGo old new place party × (shown.realm ≡ place) × (outputs_of shown ≡ drops_of party)
+Loses old new place (party ∷ left) (Some shown) = IsLetGo old new place party × (new.out place ≡ left) × (shown.realm ≡ place) × (outputs_of shown ≡ drops_of party)
 
 -- Starts
 

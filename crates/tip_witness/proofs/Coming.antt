@@ -51,6 +51,7 @@ use Rattle.tip_agreement.proofs.Returned.{awaited_at, out_to_abort, owner_found,
 use Rattle.tip_witness.proofs.Bases.{Alters, base_altered, base_entered, fits_row, stored_committed}
 use Rattle.tip_witness.proofs.Happening.{again}
 use Rattle.tip_witness.proofs.Keeping.{AreCared, AreShown, Base, has_done, is_cared, is_shown, waits_among}
+use Rattle.tip_witness.proofs.Picked.{IsPicked, in_picked, out_picked}
 use Rattle.tip_witness.proofs.Walking.{In, in_found}
 
 -- A BRANCH IS TOLD
@@ -140,7 +141,7 @@ calls_shown test realm id party (m ∷ members) branch named is = step m.call (o
 
 -- BEFORE IT GOES ON
 
-module _ (world : World) (sound : IsSound world) (party : PartyNotes) (rest : List PartyNotes) (out : world.errands ≡ party ∷ rest) (moments : List Moment) (moment : Moment) (back : Back)
+module _ (world : World) (sound : IsSound world) (party : PartyNotes) (rest : List PartyNotes) (out : IsPicked world.errands party rest) (moments : List Moment) (moment : Moment) (back : Back)
     (shown : AreShown world.state.head.name (moments ++ moment ∷ []) world.state.transactions) (cared : AreCared world.state.head.name (moments ++ moment ∷ []) world.state.head.epoch world.state.transactions world.errands world.rows)
     (brings : (test : Output → Bool) → list_any test (calls_of (back_of party back)) ≡ true → list_any test moment.shown ≡ true)
     (t : Transaction) (owned : owner (back_of party back) world.state ≡ Some t) (e : Errand) (at : t.place ≡ Out e) where
@@ -172,7 +173,7 @@ module _ (world : World) (sound : IsSound world) (party : PartyNotes) (rest : Li
   named = subst (λ x. bytes_eq x party.id ≡ true) (same_text party.id id its_id) (bytes_eq-self party.id)
 
   pub are_out_now : are_out world.state (party ∷ rest) ≡ true
-  are_out_now = subst (λ ps. are_out world.state ps ≡ true) out sound.out
+  are_out_now = out_picked world.state world.errands party rest out sound.out
 
   pub its_errand : party.errand ≡ e
   its_errand = awaited_at party.errand e (subst (λ p. is_out_for party.errand p ≡ true) at ((due_awaited party world.state (first_due world.state party rest are_out_now)).due t owned))
@@ -216,12 +217,12 @@ module _ (world : World) (sound : IsSound world) (party : PartyNotes) (rest : Li
       | inl still ↦ or_right (has_done realm all id b) _ still
       | inr done ↦ or_left (has_done realm all id b) _ (shown_now b (brings (is_called realm id is_done_commit b.0) (calls_shown is_done_commit realm id (back_of party back) (back_of party back).members b named done)))
     ]
-  ]) ((cared t listed branches subs there).out e at party (subst (In party) (sym out) (inl refl)) named its_epoch) where
+  ]) ((cared t listed branches subs there).out e at party (in_picked world.errands party rest out party (inl refl)) named its_epoch) where
     shown_now : (b : ℕ × List ℕ) → list_any (is_called realm id is_done_commit b.0) moment.shown ≡ true → has_done realm all id b ≡ true
     shown_now b is = ap (list_any (is_called realm id is_done_commit b.0)) (flat_map-append (λ (m : Moment). m.shown) moments (moment ∷ [])) ∙ (list_any-append (is_called realm id is_done_commit b.0) (shown_in moments) (shown_in (moment ∷ [])) ∙ or_right (list_any (is_called realm id is_done_commit b.0) (shown_in moments)) _ (ap (list_any (is_called realm id is_done_commit b.0)) (append-nil moment.shown) ∙ is))
 
   here_again : Base realm all now (alter t.key (standing_at (Here (back_of party back))) (entered world.state)) rest world.rows
-  here_again = base_altered realm all now (entered world.state) world.errands rest world.rows t.key (standing_at (Here (back_of party back))) (λ u. refl) (λ p is. subst (In p) (sym out) (inr is)) base (λ u is. subst (Alters realm all now rest world.rows (standing_at (Here (back_of party back)))) (same_Some t u (sym found ∙ is)) (record {
+  here_again = base_altered realm all now (entered world.state) world.errands rest world.rows t.key (standing_at (Here (back_of party back))) (λ u. refl) (λ p is. in_picked world.errands party rest out p (inr is)) base (λ u is. subst (Alters realm all now rest world.rows (standing_at (Here (back_of party back)))) (same_Some t u (sym found ∙ is)) (record {
     own = λ p here. sym (ap (λ (q : PartyNotes). q.id) (party_is (back_of party back) p here)) ∙ same_text party.id id its_id;
     free = λ p here. apart_from;
     shown = shown t listed;

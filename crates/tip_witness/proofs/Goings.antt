@@ -23,7 +23,7 @@ use Rattle.tip_machine.specs.Answers.{identifier}
 use Rattle.tip_machine.specs.Given.{was_given}
 use Rattle.tip_machine.specs.Honest.{brings_no_party, is_honest}
 use Rattle.tip_machine.specs.Invariants.{IsSound}
-use Rattle.tip_machine.specs.Moves.{Move, World, gone_for, lost_from, restarted_from, rows_after, stepped}
+use Rattle.tip_machine.specs.Moves.{Move, World, gone_for, lost_from, picked, restarted_from, rows_after, stepped}
 use Rattle.tip_machine.specs.Order.{ordered}
 use Rattle.tip_machine.specs.Outputs.{Output, brought, drops_of, outputs}
 use Rattle.tip_machine.specs.Returns.{Back, event_of}
@@ -40,6 +40,7 @@ use Rattle.tip_txn.specs.Parts.{answer_at}
 use Rattle.tip_txn.specs.declared.answer.Ballot.{Ballot}
 use Rattle.tip_txn.specs.declared.answer.Phase.TheVariants.{Aborted}
 use Rattle.tip_witness.proofs.Linking.{answers_well, party_answers_well}
+use Rattle.tip_witness.proofs.Picked.{IsPicked, in_picked}
 use Rattle.tip_witness.proofs.Returning.{back_passes, silent_move}
 use Rattle.tip_witness.proofs.Asking.{none_heard}
 use Rattle.tip_witness.proofs.Outcomes.{brings_so}
@@ -142,14 +143,14 @@ module _ (world : World) (sound : IsSound world) (branches : List (ℕ × List �
   }
 
   -- A party that comes back
-  module _ (party : PartyNotes) (rest : List PartyNotes) (out : world.errands ≡ party ∷ rest) (back : Back) (outcome : Outcome) where
+  module _ (party : PartyNotes) (rest : List PartyNotes) (out : IsPicked world.errands party rest) (back : Back) (outcome : Outcome) where
     abbrev event : Event
     event = event_of party back
 
     in_rest : (p : PartyNotes) → In p rest → In p world.errands
-    in_rest p is = subst (In p) (sym out) (inr is)
+    in_rest p is = in_picked world.errands party rest out p (inr is)
 
-    back_goes_on : (moment : Moment) → moment.world ≡ world → moment.move ≡ Move.Go back outcome → moment.shown ≡ (stepped event outcome (record world { errands = rest })).shown → IsSound (stepped event outcome (record world { errands = rest })).world → (u : Transaction) → In u (stepped event outcome (record world { errands = rest })).world.state.transactions → Goes_on moment (stepped event outcome (record world { errands = rest })).world.errands u
+    back_goes_on : (moment : Moment) → moment.world ≡ world → moment.move ≡ Move.Go out.0 back outcome → moment.shown ≡ (stepped event outcome (record world { errands = rest })).shown → IsSound (stepped event outcome (record world { errands = rest })).world → (u : Transaction) → In u (stepped event outcome (record world { errands = rest })).world.state.transactions → Goes_on moment (stepped event outcome (record world { errands = rest })).world.errands u
     unfolding stepped ordered
     back_goes_on moment met move shows after u there = step (is_open world.state) refl shows after there where
       step : (b : Bool) → is_open world.state ≡ b → moment.shown ≡ outputs event (cond b (wanted (attempt event (entered world.state))) None) outcome (cond b (ordered world.state (chosen (attempt event (entered world.state)) outcome)) (frozen event world.state)).answer →
@@ -162,7 +163,7 @@ module _ (world : World) (sound : IsSound world) (branches : List (ℕ × List �
       step false full shows after there =
           stays moment (rest ++ option_to_list (frozen event world.state).answer.work) (λ p is. in_rest p (subst (In p) (append-nil rest) (subst (λ o. In p (rest ++ option_to_list o)) (returned-silent Frozen event).1 is))) (frozen_unheard event outcome moment shows) u there
 
-    back_steps : (moment : Moment) → moment.world ≡ world → moment.move ≡ Move.Go back outcome → moment.shown ≡ (stepped event outcome (record world { errands = rest })).shown → moment.after ≡ (stepped event outcome (record world { errands = rest })).world → IsSound (stepped event outcome (record world { errands = rest })).world → Steps moment
+    back_steps : (moment : Moment) → moment.world ≡ world → moment.move ≡ Move.Go out.0 back outcome → moment.shown ≡ (stepped event outcome (record world { errands = rest })).shown → moment.after ≡ (stepped event outcome (record world { errands = rest })).world → IsSound (stepped event outcome (record world { errands = rest })).world → Steps moment
     unfolding stepped
     back_steps moment met move shows after sound_after = record {
       epoch = ap (λ (w : World). w.state.head.epoch) after ∙ step-epoch world.state event outcome;
@@ -175,18 +176,18 @@ module _ (world : World) (sound : IsSound world) (branches : List (ℕ × List �
   silent : (moment : Moment) → moment.world ≡ world → came_in moment.move world.state ≡ None → (id : List ℕ) (q : ℕ) → heard_answer realm id q moment ≡ None
   silent moment met none = silent_move moment world.state (ap (λ (w : World). w.state) met) none realm
 
-  gone_steps : (back : Back) (outcome : Outcome) (errands : List PartyNotes) → world.errands ≡ errands → (moment : Moment) → moment.world ≡ world → moment.move ≡ Move.Go back outcome → moment.shown ≡ (gone_for errands back outcome world).shown → moment.after ≡ (gone_for errands back outcome world).world → IsSound (gone_for errands back outcome world).world → Steps moment
-  gone_steps back outcome [] out moment met move shows after sound_after = stays_steps moment (ap (λ (w : World). w.state) after) (λ party is. subst (λ (w : World). In party w.errands) after is) (silent moment met (ap (λ m. came_in m world.state) move))
-  gone_steps back outcome (party ∷ rest) out moment met move shows after sound_after = back_steps party rest out back outcome moment met move shows after sound_after
+  gone_steps : (place : ℕ) (back : Back) (outcome : Outcome) (errands : List PartyNotes) → picked place world.errands ≡ errands → (moment : Moment) → moment.world ≡ world → moment.move ≡ Move.Go place back outcome → moment.shown ≡ (gone_for errands back outcome world).shown → moment.after ≡ (gone_for errands back outcome world).world → IsSound (gone_for errands back outcome world).world → Steps moment
+  gone_steps place back outcome [] out moment met move shows after sound_after = stays_steps moment (ap (λ (w : World). w.state) after) (λ party is. subst (λ (w : World). In party w.errands) after is) (silent moment met (ap (λ m. came_in m world.state) move))
+  gone_steps place back outcome (party ∷ rest) out moment met move shows after sound_after = back_steps party rest (place, out) back outcome moment met move shows after sound_after
 
-  lost_steps : (errands : List PartyNotes) → world.errands ≡ errands → (moment : Moment) → moment.world ≡ world → moment.move ≡ Move.Lose → moment.after ≡ (lost_from errands world).world → Steps moment
-  lost_steps [] out moment met move after = stays_steps moment (ap (λ (w : World). w.state) after) (λ party is. subst (λ (w : World). In party w.errands) after is) (silent moment met (ap (λ m. came_in m world.state) move))
-  lost_steps (party ∷ rest) out moment met move after = stays_steps moment (ap (λ (w : World). w.state) after) (λ p is. subst (In p) (sym out) (inr (subst (λ (w : World). In p w.errands) after is))) (silent moment met (ap (λ m. came_in m world.state) move))
+  lost_steps : (place : ℕ) (errands : List PartyNotes) → picked place world.errands ≡ errands → (moment : Moment) → moment.world ≡ world → moment.move ≡ Move.Lose place → moment.after ≡ (lost_from errands world).world → Steps moment
+  lost_steps place [] out moment met move after = stays_steps moment (ap (λ (w : World). w.state) after) (λ party is. subst (λ (w : World). In party w.errands) after is) (silent moment met (ap (λ m. came_in m world.state) move))
+  lost_steps place (party ∷ rest) out moment met move after = stays_steps moment (ap (λ (w : World). w.state) after) (λ p is. in_picked world.errands party rest (place, out) p (inr (subst (λ (w : World). In p w.errands) after is))) (silent moment met (ap (λ m. came_in m world.state) move))
 
   pub moves_on : (move : Move) → is_honest move world ≡ true → Steps (moment_of move world) ⊎ Starts (moment_of move world)
   moves_on (Move.Step event outcome) honest = inl (event_steps event outcome honest)
-  moves_on (Move.Go back outcome) honest = inl (gone_steps back outcome world.errands refl (moment_of (Move.Go back outcome) world) refl refl refl refl (moved_sound (Move.Go back outcome) world sound honest))
-  moves_on Move.Lose honest = inl (lost_steps world.errands refl (moment_of Move.Lose world) refl refl refl)
+  moves_on (Move.Go place back outcome) honest = inl (gone_steps place back outcome (picked place world.errands) refl (moment_of (Move.Go place back outcome) world) refl refl refl refl (moved_sound (Move.Go place back outcome) world sound honest))
+  moves_on (Move.Lose place) honest = inl (lost_steps place (picked place world.errands) refl (moment_of (Move.Lose place) world) refl refl refl)
   moves_on (Move.Restart boxes) honest = inr (record { boxes = boxes; state = refl; rows = refl; unheard = silent (moment_of (Move.Restart boxes) world) refl refl })
   moves_on (Move.Renew boxes Stored) honest = inr (record { boxes = boxes; state = refl; rows = refl; unheard = silent (moment_of (Move.Renew boxes Stored) world) refl refl })
   moves_on (Move.Renew boxes Refused) honest = inl (stays_steps (moment_of (Move.Renew boxes Refused) world) refl (λ party is. is) (silent (moment_of (Move.Renew boxes Refused) world) refl refl))

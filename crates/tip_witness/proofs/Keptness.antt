@@ -12,7 +12,7 @@ use Rattle.tip_machine.specs.Agreement.{is_denied, is_kept, of_this_start, remov
 use Rattle.tip_machine.specs.Agreement.Traces.{Moment, at_each_behind, shown_in, traced}
 use Rattle.tip_machine.specs.Honest.{brings_no_party, can_start, is_honest, is_run}
 use Rattle.tip_machine.specs.Invariants.{IsSound}
-use Rattle.tip_machine.specs.Moves.{Move, World, drops_here, gone_for, lost_from, moved, restarted_from, risen, stepped}
+use Rattle.tip_machine.specs.Moves.{Move, World, drops_here, gone_for, lost_from, moved, picked, restarted_from, risen, stepped}
 use Rattle.tip_machine.specs.Outputs.{Output, drops_of}
 use Rattle.tip_machine.specs.Returns.{Back, event_of}
 use Rattle.tip_machine.specs.Starting.{IsStart, are_adopted}
@@ -28,6 +28,7 @@ use Rattle.tip_agreement.proofs.Rows.{to_says}
 use Rattle.tip_witness.proofs.Beginning.{restarted_cared, restarted_shown}
 use Rattle.tip_witness.proofs.Denying.{is_undenied, moved_undenied}
 use Rattle.tip_witness.proofs.Outcomes.{none_removed_dropped, none_removed_here, none_removed_lost}
+use Rattle.tip_witness.proofs.Picked.{in_picked}
 use Rattle.tip_witness.proofs.Walking.{In}
 use Rattle.tip_witness.proofs.Witnessed.{In_world, IsDone, Leaves, Witnessed, back_leaves, event_leaves, moment_of, none_is_done, witnessed_fewer, witnessed_more}
 
@@ -76,20 +77,20 @@ module _ (world : World) (sound : IsSound world) (moments : List Moment) (was : 
       let moment = moment_of (Move.Step event outcome) world in
       leaves_so world moments moment (step-named world.state event outcome) (step-epoch world.state event outcome) (event_leaves world sound moments was event outcome moment refl refl refl (and_parts (brings_no_party event) _ honest).0 (moved_sound (Move.Step event outcome) world sound honest))
 
-  gone_moves : (back : Back) (outcome : Outcome) → is_honest (Move.Go back outcome) world ≡ true → (errands : List PartyNotes) → world.errands ≡ errands → (moment : Moment) → moment.world ≡ world → moment.shown ≡ (gone_for errands back outcome world).shown → moment.after ≡ (gone_for errands back outcome world).world → IsSound (gone_for errands back outcome world).world → Moves world moments moment
+  gone_moves : (place : ℕ) (back : Back) (outcome : Outcome) → is_honest (Move.Go place back outcome) world ≡ true → (errands : List PartyNotes) → picked place world.errands ≡ errands → (moment : Moment) → moment.world ≡ world → moment.shown ≡ (gone_for errands back outcome world).shown → moment.after ≡ (gone_for errands back outcome world).world → IsSound (gone_for errands back outcome world).world → Moves world moments moment
   unfolding stepped
-  gone_moves back outcome honest [] out moment met shows after sound_after = stays_moves moment (ap (λ (w : World). w.state) after) (ap (λ (w : World). w.rows) after) (λ party is. subst (λ (w : World). In party w.errands) after is) (λ id. ap (list_any (removes world.state.head.name id)) shows)
-  gone_moves back outcome honest (party ∷ rest) out moment met shows after sound_after =
-      leaves_so world moments moment (named (event_of party back) rest after) (dated (event_of party back) rest after) (subst (Leaves world (moments ++ moment ∷ []) moment) (sym after) (back_leaves world sound moments was party rest out back outcome moment met shows sound_after)) where
+  gone_moves place back outcome honest [] out moment met shows after sound_after = stays_moves moment (ap (λ (w : World). w.state) after) (ap (λ (w : World). w.rows) after) (λ party is. subst (λ (w : World). In party w.errands) after is) (λ id. ap (list_any (removes world.state.head.name id)) shows)
+  gone_moves place back outcome honest (party ∷ rest) out moment met shows after sound_after =
+      leaves_so world moments moment (named (event_of party back) rest after) (dated (event_of party back) rest after) (subst (Leaves world (moments ++ moment ∷ []) moment) (sym after) (back_leaves world sound moments was party rest (place, out) back outcome moment met shows sound_after)) where
         named : (event : Event) (rest : List PartyNotes) → moment.after ≡ (stepped event outcome (record world { errands = rest })).world → moment.after.state.head.name ≡ world.state.head.name
         named event rest after = ap (λ (w : World). w.state.head.name) after ∙ step-named world.state event outcome
 
         dated : (event : Event) (rest : List PartyNotes) → moment.after ≡ (stepped event outcome (record world { errands = rest })).world → moment.after.state.head.epoch ≡ world.state.head.epoch
         dated event rest after = ap (λ (w : World). w.state.head.epoch) after ∙ step-epoch world.state event outcome
 
-  lost_moves : (errands : List PartyNotes) → world.errands ≡ errands → (moment : Moment) → moment.shown ≡ (lost_from errands world).shown → moment.after ≡ (lost_from errands world).world → Moves world moments moment
-  lost_moves [] out moment shows after = stays_moves moment (ap (λ (w : World). w.state) after) (ap (λ (w : World). w.rows) after) (λ party is. subst (λ (w : World). In party w.errands) after is) (λ id. ap (list_any (removes world.state.head.name id)) shows)
-  lost_moves (party ∷ rest) out moment shows after = stays_moves moment (ap (λ (w : World). w.state) after) (ap (λ (w : World). w.rows) after) (λ p is. subst (In p) (sym out) (inr (subst (λ (w : World). In p w.errands) after is))) (λ id. ap (list_any (removes world.state.head.name id)) shows ∙ none_removed_dropped world.state.head.name id party)
+  lost_moves : (place : ℕ) (errands : List PartyNotes) → picked place world.errands ≡ errands → (moment : Moment) → moment.shown ≡ (lost_from errands world).shown → moment.after ≡ (lost_from errands world).world → Moves world moments moment
+  lost_moves place [] out moment shows after = stays_moves moment (ap (λ (w : World). w.state) after) (ap (λ (w : World). w.rows) after) (λ party is. subst (λ (w : World). In party w.errands) after is) (λ id. ap (list_any (removes world.state.head.name id)) shows)
+  lost_moves place (party ∷ rest) out moment shows after = stays_moves moment (ap (λ (w : World). w.state) after) (ap (λ (w : World). w.rows) after) (λ p is. in_picked world.errands party rest (place, out) p (inr (subst (λ (w : World). In p w.errands) after is))) (λ id. ap (list_any (removes world.state.head.name id)) shows ∙ none_removed_dropped world.state.head.name id party)
 
   renewed_moves : (boxes : Key → List Badge) (outcome : Outcome) → is_honest (Move.Renew boxes outcome) world ≡ true → Moves world moments (moment_of (Move.Renew boxes outcome) world)
   renewed_moves boxes Stored can = restart_moves world sound moments (moment_of (Move.Renew boxes Stored) world) boxes can refl refl (λ id. none_removed_here world.state.head.name id world.state.transactions)
@@ -98,8 +99,8 @@ module _ (world : World) (sound : IsSound world) (moments : List Moment) (was : 
 
   pub moves_so : (move : Move) → is_honest move world ≡ true → Moves world moments (moment_of move world)
   moves_so (Move.Step event outcome) honest = event_moves event outcome honest
-  moves_so (Move.Go back outcome) honest = gone_moves back outcome honest world.errands refl (moment_of (Move.Go back outcome) world) refl refl refl (moved_sound (Move.Go back outcome) world sound honest)
-  moves_so Move.Lose honest = lost_moves world.errands refl (moment_of Move.Lose world) refl refl
+  moves_so (Move.Go place back outcome) honest = gone_moves place back outcome honest (picked place world.errands) refl (moment_of (Move.Go place back outcome) world) refl refl refl (moved_sound (Move.Go place back outcome) world sound honest)
+  moves_so (Move.Lose place) honest = lost_moves place (picked place world.errands) refl (moment_of (Move.Lose place) world) refl refl
   moves_so (Move.Restart boxes) honest = restart_moves world sound moments (moment_of (Move.Restart boxes) world) boxes honest refl refl (λ id. none_either world.state.head.name id (flat_map drops_of world.errands) (drops_here world.state) (none_removed_lost world.state.head.name id world.errands) (none_removed_here world.state.head.name id world.state.transactions))
   moves_so (Move.Renew boxes outcome) honest = renewed_moves boxes outcome honest
 

@@ -14,6 +14,7 @@ pub mod Linking
 pub mod Naming
 pub mod Outcomes
 pub mod Passing
+pub mod Picked
 pub mod Returning
 pub mod Walking
 pub mod Willing

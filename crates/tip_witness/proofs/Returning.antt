@@ -44,6 +44,7 @@ use Rattle.tip_witness.proofs.Coming.{are_out_now, base_again, called_among, cal
 use Rattle.tip_witness.proofs.Happening.{Came as CameBack, again, returns_so}
 use Rattle.tip_witness.proofs.Keeping.{Base, in_apart, sent_from}
 use Rattle.tip_witness.proofs.Passing.{Covers, Passed, covers_fewer, covers_on}
+use Rattle.tip_witness.proofs.Picked.{IsPicked, in_picked}
 use Rattle.tip_witness.proofs.Walking.{In, Lasts, Walks, Was, in_changed, in_found, open_same, open_then}
 use Rattle.tip_witness.proofs.Willing.{heard_answer, lasts_some, or_else}
 use Rattle.tip_witness.proofs.Witnessed.{In_world}
@@ -65,7 +66,7 @@ local_answer b a [] is = absurd (none-some a is)
 local_answer b a (p ∷ ps) is = same_Some b a is
 
 module _ (world : World) (sound : IsSound world) (branches : List (ℕ × List ℕ)) (mine : List Moment) (moment : Moment) (met : moment.world ≡ world) (was : In_world world (mine ++ moment ∷ [])) (made : Transaction → List Moment)
-    (party : PartyNotes) (rest : List PartyNotes) (out : world.errands ≡ party ∷ rest) (back : Back) (outcome : Outcome) (go : moment.move ≡ Move.Go back outcome) (brings : (test : Output → Bool) → list_any test (calls_of (back_of party back)) ≡ true → list_any test moment.shown ≡ true)
+    (party : PartyNotes) (rest : List PartyNotes) (out : IsPicked world.errands party rest) (back : Back) (outcome : Outcome) (go : moment.move ≡ Move.Go out.0 back outcome) (brings : (test : Output → Bool) → list_any test (calls_of (back_of party back)) ≡ true → list_any test moment.shown ≡ true)
     (covered : (t : Transaction) → In t world.state.transactions → (t.key.epoch == world.state.head.epoch) ≡ true → Covers world.state.head.epoch branches world.errands (identifier world.state.head.name t.key) t.place) where
   abbrev realm : List ℕ
   realm = world.state.head.name
@@ -92,7 +93,7 @@ module _ (world : World) (sound : IsSound world) (branches : List (ℕ × List �
   unheard = silent_move moment world.state (ap (λ (w : World). w.state) met) (ap (λ m. came_in m world.state) go) realm
 
   in_rest : (p : PartyNotes) → In p rest → In p world.errands
-  in_rest p is = subst (In p) (sym out) (inr is)
+  in_rest p is = in_picked world.errands party rest out p (inr is)
 
   covered_rest : (t : Transaction) → In t world.state.transactions → (t.key.epoch == now) ≡ true → Covers now branches rest (identifier realm t.key) t.place
   covered_rest t listed this = covers_fewer now branches world.errands rest (identifier realm t.key) t.place in_rest (covered t listed this)
@@ -163,7 +164,7 @@ module _ (world : World) (sound : IsSound world) (branches : List (ℕ × List �
       other errand.Abort b differ is = one_other (standing_at (Here came_back)) (λ x. refl) world.state.transactions b differ is
 
       its_cover : (t.key.epoch == now) ≡ true → covers party.members branches ≡ true
-      its_cover this = (covered t its_listed this).out party (subst (In party) (sym out) (inl refl)) (named world sound party rest out mine moment back was.shown was.cared brings t came.owned e came.out) (its_epoch world sound party rest out mine moment back was.shown was.cared brings t came.owned e came.out)
+      its_cover this = (covered t its_listed this).out party (in_picked world.errands party rest out party (inl refl)) (named world sound party rest out mine moment back was.shown was.cared brings t came.owned e came.out) (its_epoch world sound party rest out mine moment back was.shown was.cared brings t came.owned e came.out)
 
       -- where it voted, each branch was called
       voted_called : e ≡ errand.Vote → (t.key.epoch == now) ≡ true → is_willing (party_answer came_back) ≡ true → Called t

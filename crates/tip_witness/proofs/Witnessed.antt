@@ -51,6 +51,7 @@ use Rattle.tip_witness.proofs.Happening.{Doubted, EndsSo, Says, ends_so, happens
 use Rattle.tip_witness.proofs.Hearing.{base_noted, noted_partly}
 use Rattle.tip_witness.proofs.Keeping.{AreCared, AreShown, Base, Finished, are_shown_more, cares_more, ends_cared, ends_shown, in_all, removed_done, removed_spelled}
 use Rattle.tip_witness.proofs.Outcomes.{brings_so, none_refused, removed_so}
+use Rattle.tip_witness.proofs.Picked.{IsPicked, in_picked}
 use Rattle.tip_witness.proofs.Walking.{Asked, In}
 
 -- ALL THAT WAS HEARD is shown
@@ -175,7 +176,7 @@ module _ (world : World) (sound : IsSound world) (moments : List Moment) (moment
             })
 
   -- A PARTY THAT COMES BACK
-  module _ (party : PartyNotes) (rest : List PartyNotes) (out : world.errands ≡ party ∷ rest) (back : Back) (outcome : Outcome) (was : Here all) where
+  module _ (party : PartyNotes) (rest : List PartyNotes) (out : IsPicked world.errands party rest) (back : Back) (outcome : Outcome) (was : Here all) where
     abbrev event : Event
     event = event_of party back
 
@@ -264,14 +265,14 @@ module _ (world : World) (sound : IsSound world) (moments : List Moment) (was : 
       done = change_is_done world sound (moments ++ moment ∷ []) moment met event None outcome (frozen event world.state).answer shows (λ key is. absurd (none-some (Remove key) is));
     }
 
-  pub back_leaves : (party : PartyNotes) (rest : List PartyNotes) → world.errands ≡ party ∷ rest → (back : Back) (outcome : Outcome) (moment : Moment) → moment.world ≡ world → moment.shown ≡ (stepped (event_of party back) outcome (record world { errands = rest })).shown → IsSound (stepped (event_of party back) outcome (record world { errands = rest })).world → Leaves world (moments ++ moment ∷ []) moment (stepped (event_of party back) outcome (record world { errands = rest })).world
+  pub back_leaves : (party : PartyNotes) (rest : List PartyNotes) → IsPicked world.errands party rest → (back : Back) (outcome : Outcome) (moment : Moment) → moment.world ≡ world → moment.shown ≡ (stepped (event_of party back) outcome (record world { errands = rest })).shown → IsSound (stepped (event_of party back) outcome (record world { errands = rest })).world → Leaves world (moments ++ moment ∷ []) moment (stepped (event_of party back) outcome (record world { errands = rest })).world
   unfolding stepped ordered
   back_leaves party rest out back outcome moment met shows after = step (is_open world.state) refl shows after where
     now_was : In_world world (moments ++ moment ∷ [])
     now_was = witnessed_more world.state.head.name world.state.head.epoch moments (moment ∷ []) world.state.transactions world.errands world.rows was
 
     fewer : Witnessed world.state.head.name world.state.head.epoch (moments ++ moment ∷ []) world.state.transactions rest world.rows
-    fewer = witnessed_fewer world.state.head.name world.state.head.epoch (moments ++ moment ∷ []) world.state.transactions world.errands rest world.rows (λ p is. subst (In p) (sym out) (inr is)) now_was
+    fewer = witnessed_fewer world.state.head.name world.state.head.epoch (moments ++ moment ∷ []) world.state.transactions world.errands rest world.rows (λ p is. in_picked world.errands party rest out p (inr is)) now_was
 
     step : (b : Bool) → is_open world.state ≡ b → moment.shown ≡ outputs (event_of party back) (cond b (wanted (attempt (event_of party back) (entered world.state))) None) outcome (cond b (ordered world.state (chosen (attempt (event_of party back) (entered world.state)) outcome)) (frozen (event_of party back) world.state)).answer →
         IsSound (record { state = (cond b (ordered world.state (chosen (attempt (event_of party back) (entered world.state)) outcome)) (frozen (event_of party back) world.state)).state; rows = rows_after (cond b (wanted (attempt (event_of party back) (entered world.state))) None) outcome world.rows; errands = rest ++ option_to_list (cond b (ordered world.state (chosen (attempt (event_of party back) (entered world.state)) outcome)) (frozen (event_of party back) world.state)).answer.work }) →

@@ -117,17 +117,17 @@ abbrev pub happens : Outcome → Event → World → Move
 happens outcome event world = Move.Step event (of_change outcome (wants world.state event))
 
 abbrev pub goes : Outcome → List PartyNotes → World → Move
-goes outcome [] world = Move.Lose
+goes outcome [] world = Move.Lose 0
 goes outcome (party ∷ errands) world =
     let back = answered_by party.errand party.members in
-    Move.Go back (of_change outcome (wants world.state (event_of party back)))
+    Move.Go 0 back (of_change outcome (wants world.state (event_of party back)))
 
 abbrev pub move_of : Line → World → Move
 move_of (Happens event) world = happens Stored event world
 move_of (HappensRefused event) world = happens Refused event world
 move_of Goes world = goes Stored world.errands world
 move_of GoesRefused world = goes Refused world.errands world
-move_of Loses world = Move.Lose
+move_of Loses world = Move.Lose 0
 move_of Restarts world = Move.Restart (adopted world.rows)
 move_of Renews world = Move.Renew (adopted world.rows) Stored
 
