@@ -316,3 +316,39 @@ out_of_turn = record {
       Output.Called id 1 (read_only 11) (call.Vote vote.ReadOnly) ∷
       say 1 said.Committed ∷ []));
 }
+
+-- of two transactions the one that goes out second comes back first, to vote and to commit: both commit
+abbrev pub overtaken : Example
+overtaken = record {
+  head = north;
+  lines =
+      connects (at 1 1) None (yes 11 ∷ []) ++ (
+      hears (at 1 1) command.Begin ∷
+      connects (at 1 2) None (yes 21 ∷ []) ++ (
+      hears (at 1 2) command.Begin ∷
+      hears (at 1 1) command.Commit ∷
+      hears (at 1 2) command.Commit ∷
+      Line.GoesAt 1 ∷
+      Line.Goes ∷
+      Line.GoesAt 1 ∷
+      Line.Goes ∷ []));
+  shown =
+      connected (at 1 1) ++ (
+      say 1 (said.Begun t) ∷
+      connected (at 1 2) ++ (
+      say 2 (said.Begun (key 1 2 1)) ∷
+      Output.Works id errand.Vote ∷
+      Output.Works (name (key 1 2 1)) errand.Vote ∷
+      Output.Called (name (key 1 2 1)) 1 (yes 21) (call.Vote vote.Yes) ∷
+      put (key 1 2 1) (row.Committed ((1, codes "b1") ∷ []) []) ∷
+      say 2 said.Committed ∷
+      Output.Works (name (key 1 2 1)) errand.Commit ∷
+      Output.Called id 1 (yes 11) (call.Vote vote.Yes) ∷
+      put t (row.Committed ((1, codes "b1") ∷ []) []) ∷
+      say 1 said.Committed ∷
+      Output.Works id errand.Commit ∷
+      Output.Called id 1 (yes 11) (call.Commit Done) ∷
+      remove t ∷
+      Output.Called (name (key 1 2 1)) 1 (yes 21) (call.Commit Done) ∷
+      remove (key 1 2 1) ∷ []));
+}

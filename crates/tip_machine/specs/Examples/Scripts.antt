@@ -24,7 +24,7 @@ use Rattle.tip_machine.specs.Agreement.{IsAgreed}
 use Rattle.tip_machine.specs.Answers.{identifier}
 use Rattle.tip_machine.specs.Honest.{is_run}
 use Rattle.tip_machine.specs.Invariants.{IsSound}
-use Rattle.tip_machine.specs.Moves.{Move, World, fresh, moved}
+use Rattle.tip_machine.specs.Moves.{Move, World, fresh, moved, picked}
 use Rattle.tip_machine.specs.Outputs.{Output}
 use Rattle.tip_machine.specs.Returns.{Back, event_of}
 use Rattle.tip_machine.specs.Starting.{IsStart}
@@ -84,7 +84,9 @@ pub data Line : Type 0 where
   Happens : Event → Line
   -- the store refuses the change that the event wants
   HappensRefused : Event → Line
+  -- the oldest errand is done, or the one at a place
   Goes : Line
+  GoesAt : ℕ → Line
   GoesRefused : Line
   Loses : Line
   Restarts : Line
@@ -116,17 +118,18 @@ of_change outcome (Some change) = outcome
 abbrev pub happens : Outcome → Event → World → Move
 happens outcome event world = Move.Step event (of_change outcome (wants world.state event))
 
-abbrev pub goes : Outcome → List PartyNotes → World → Move
-goes outcome [] world = Move.Lose 0
-goes outcome (party ∷ errands) world =
+abbrev pub goes : Outcome → ℕ → List PartyNotes → World → Move
+goes outcome place [] world = Move.Lose place
+goes outcome place (party ∷ errands) world =
     let back = answered_by party.errand party.members in
-    Move.Go 0 back (of_change outcome (wants world.state (event_of party back)))
+    Move.Go place back (of_change outcome (wants world.state (event_of party back)))
 
 abbrev pub move_of : Line → World → Move
 move_of (Happens event) world = happens Stored event world
 move_of (HappensRefused event) world = happens Refused event world
-move_of Goes world = goes Stored world.errands world
-move_of GoesRefused world = goes Refused world.errands world
+move_of Goes world = goes Stored 0 world.errands world
+move_of (GoesAt place) world = goes Stored place (picked place world.errands) world
+move_of GoesRefused world = goes Refused 0 world.errands world
 move_of Loses world = Move.Lose 0
 move_of Restarts world = Move.Restart (adopted world.rows)
 move_of Renews world = Move.Renew (adopted world.rows) Stored
