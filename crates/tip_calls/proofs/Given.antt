@@ -12,6 +12,7 @@ use Rattle.tip_machine.proofs.Storing.{before_apart}
 use Rattle.tip_machine.specs.Moves as Moves
 use Rattle.tip_machine.specs.Starting as Starting
 use Rattle.tip_recovery.specs.Adopting.{Unfinished, adopted_all, adopting, are_adopted, are_for, are_for_all, fault_of, is_named, loaded, refusal_of, unadopted, waits, with_boxes}
+use Rattle.tip_recovery.proofs.Rereading.{again_count}
 use Rattle.tip_recovery.specs.Renewing.{are_again, is_again, taking_all}
 use Rattle.tip_recovery.specs.declared.unfinished.AdoptFault.TheVariants.{NotInDoubt, WrongCount}
 use Rattle.tip_rows.specs.Keys.{Key, comes_before, is_same}
@@ -113,9 +114,6 @@ given_boxes name (stored ∷ all) (row ∷ rows) are adopted =
       given_boxes name all rows are.1 parts.1,
     )
 
-both_same : (a b c : ℕ) → (a == b) ≡ true → (b == c) ≡ true → (a == c) ≡ true
-both_same a b c first second = same_count a c ((unsigned_Decides a b).0 first ∙ (unsigned_Decides b c).0 second)
-
 -- so have those that are read again, with the boxes of the earlier reading
 pub taken_boxes : (name : List ℕ) (all : List (Key × Row)) (read earlier : List Unfinished) → AreGiven read earlier → are_adopted earlier ≡ true → are_again earlier (map (unadopted name) all) ≡ true → HaveBoxes all (taking_all earlier (map (unadopted name) all))
 taken_boxes name [] [] [] are adopted again = tt
@@ -126,11 +124,11 @@ taken_boxes name (stored ∷ all) [] (e ∷ earlier) are adopted again = absurd 
 taken_boxes name (stored ∷ all) (r ∷ read) (e ∷ earlier) are adopted again =
     let parts = and_parts (not (waits e)) (are_adopted earlier) adopted in
     let same = and_parts (is_again e (unadopted name stored)) (are_again earlier (map (unadopted name) all)) again in
-    let counts = and_parts (is_same e.key stored.0) (length (branches_of e.row) == length (branches_of stored.1)) same.0 in (
+    let counts : length (branches_of e.row) ≡ length (branches_of stored.1) = again_count e (unadopted name stored) same.0 in (
       record {
         key = refl;
         row_is = refl;
-        fits = both_same (length (unwrap_or e.boxes [])) (length (branches_of e.row)) (length (branches_of stored.1)) (enough e.boxes e.row are.0.fits parts.0) counts.1;
+        fits = subst (λ n. (length (unwrap_or e.boxes []) == n) ≡ true) counts (enough e.boxes e.row are.0.fits parts.0);
       },
       taken_boxes name all read earlier are.1 parts.1 same.1,
     )

@@ -19,7 +19,7 @@ use Rattle.tip_machine.specs.declared.event.Outcome.{Outcome}
 use Rattle.tip_machine.specs.declared.head.Head.{Head}
 use Rattle.tip_recovery.specs.Adopting.{Recovery, loaded}
 use Rattle.tip_desk.proofs.Journals.{number_bare}
-use Rattle.tip_desk.specs.Entries.{AreKept, Enters, IsJournalOf, IsKept, Journal, Noted, bare, replayed, takes_entry}
+use Rattle.tip_desk.specs.Entries.{AreKept, Enters, IsJournalOf, IsKept, Journal, Noted, bare, began, replayed, takes_entry}
 use Rattle.tip_desk.specs.Openings.{opened}
 use Rattle.tip_desk.specs.declared.entry.Entry.{Entry}
 
@@ -32,6 +32,17 @@ went_entries state v (inr opens) = ap (λ (h : Head). h.entries) opens.head
 -- an event that takes an entry counts it
 open_entries : (state : State) (event : Event) (outcome : Outcome) → is_open state ≡ true → (step state event outcome).state.head.entries ≡ state.head.entries + 1
 open_entries state event outcome may = rw may (went_entries state _ (step-went state event outcome))
+
+-- what a realm began with is counted in no event
+abbrev bare_head : Head → Head
+bare_head head = record head { given = 0; entries = 0 }
+
+went_head : (state : State) (v : Work) → Went (entered state) v → bare_head v.state.head ≡ bare_head state.head
+went_head state v (inl goes) = ap bare_head goes.head
+went_head state v (inr opens) = ap bare_head opens.head
+
+open_head : (state : State) (event : Event) (outcome : Outcome) → is_open state ≡ true → bare_head (step state event outcome).state.head ≡ bare_head state.head
+open_head state event outcome may = rw may (went_head state _ (step-went state event outcome))
 
 -- one that takes none leaves the realm
 closed_state : (state : State) (event : Event) (outcome : Outcome) → is_open state ≡ false → (step state event outcome).state ≡ state
@@ -48,9 +59,10 @@ kept_open : (state : State) (journal : Journal) (event : Event) (outcome : Outco
 kept_open state journal event outcome may is = record {
   epoch = is.epoch ∙ sym (step-epoch state event outcome);
   count = length-append journal.entries (entry_of event outcome ∷ []) ∙ ap (λ n. n + 1) is.count ∙ sym (open_entries state event outcome may);
-  first = is.first;
-  begins = is.begins;
-  leads = ap (λ s. (step s event outcome).state) is.leads ∙ sym (replayed_one is.first journal.entries (entry_of event outcome));
+  leads =
+      ap (λ s. (step s event outcome).state) is.leads ∙
+      sym (replayed_one (began state.head journal) journal.entries (entry_of event outcome)) ∙
+      ap (λ h. replayed (restarted h journal.start) (journal.entries ++ entry_of event outcome ∷ [])) (sym (open_head state event outcome may));
 }
 
 module _ (old new : Hosted) (journals : List (List Journal)) (place : ℕ) (event : Event) (outcome : Outcome) (answer : Answer) (steps : Steps old new place event outcome answer) (kept : AreKept old journals) where
@@ -142,7 +154,10 @@ current_opened [] place = refl
 current_opened (recovery ∷ realms) zero = refl
 current_opened (recovery ∷ realms) (suc place) = current_opened realms place
 
-kept_first : (found : Option Recovery) (was now : Option State) → now ≡ recovered found was → ((state : State) → now ≡ Some state → (recovery : Recovery) × (found ≡ Some recovery) × (state.head.epoch ≡ recovery.epoch) × (state.head.entries ≡ 0)) → (now ≡ None → found ≡ None) → IsKept now (option_map first_of found)
+counted_none : (head : Head) → head.given ≡ 0 → head.entries ≡ 0 → head ≡ record head { given = 0; entries = 0 }
+counted_none head given entries = λ i. record head { given = given i; entries = entries i }
+
+kept_first : (found : Option Recovery) (was now : Option State) → now ≡ recovered found was → ((state : State) → now ≡ Some state → (recovery : Recovery) × (found ≡ Some recovery) × (state.head.epoch ≡ recovery.epoch) × (state.head.given ≡ 0) × (state.head.entries ≡ 0)) → (now ≡ None → found ≡ None) → IsKept now (option_map first_of found)
 kept_first found was None is each others = subst (λ f. IsKept None (option_map first_of f)) (sym (others refl)) tt
 kept_first None was (Some state) is each others = absurd (none-some state (sym is))
 kept_first (Some recovery) None (Some state) is each others = absurd (none-some state (sym is))
@@ -151,10 +166,12 @@ kept_first (Some recovery) (Some was) (Some state) is each others =
     let same : recovery ≡ own.0 = cc in
     record {
       epoch = ap (λ (r : Recovery). r.epoch) same ∙ sym own.2;
-      count = sym own.3;
-      first = state;
-      begins = let made : state ≡ restarted was.head (map loaded recovery.rows) = cc in ap (λ (s : State). s.connections) made;
-      leads = refl;
+      count = sym own.4;
+      leads =
+          let made : state ≡ restarted was.head (map loaded recovery.rows) = cc in
+          let head : state.head ≡ was.head = ap (λ (s : State). s.head) made in
+          let nothing : was.head ≡ record state.head { given = 0; entries = 0 } = sym head ∙ counted_none state.head own.3 own.4 in
+          made ∙ ap (λ h. restarted h (map loaded recovery.rows)) nothing;
     }
 
 -- a host that begins is where the journals lead that begin with it

@@ -75,12 +75,12 @@ withdrawable P (history ∷ journals) zero epoch start some = record {
 }
 withdrawable P (history ∷ journals) (suc place) epoch start some = withdrawable P journals place epoch start some
 
-module _ (old new : Hosted) (journals : List (List Journal)) (place : ℕ) (state : State) (epoch : ℕ) (start rows : List Loaded) (kept : AreKept old (bare journals)) (here : realm old place ≡ Some state) (later : epoch ≡ state.head.epoch + 1) (own : realm new place ≡ Some (restarted (risen state.head) rows)) (others : (other : ℕ) → other ≢ place → realm new other ≡ realm old other) where
+module _ (old new : Hosted) (journals : List (List Journal)) (place : ℕ) (state : State) (epoch : ℕ) (start rows : List Loaded) (kept : AreKept old (bare journals)) (here : realm old place ≡ Some state) (later : epoch ≡ state.head.epoch + 1) (same : rows ≡ start) (own : realm new place ≡ Some (restarted (risen state.head) rows)) (others : (other : ℕ) → other ≢ place → realm new other ≡ realm old other) where
   begins : List (List Journal)
   begins = renewed place (begun epoch start) (bare journals)
 
   first_kept : IsJournalOf (restarted (risen state.head) rows) (begun epoch start)
-  first_kept = record { epoch = later; count = refl; first = restarted (risen state.head) rows; begins = refl; leads = refl }
+  first_kept = record { epoch = later; count = refl; leads = ap (restarted (risen state.head)) same }
 
   all_kept : AreKept new begins
   unfolding begins

@@ -4,9 +4,10 @@ use Rattle.tip_core.specs.Hosted.{Hosted, realm}
 use Rattle.tip_journal.specs.Journal.{Written, with_entry, with_room}
 use Rattle.tip_journal.specs.Journals.{current, epoch_at, last_number, with_current}
 use Rattle.tip_journal.specs.declared.pass.Noted as notes
-use Rattle.tip_machine.specs.Recovery.{Loaded}
+use Rattle.tip_machine.specs.Recovery.{Loaded, restarted}
 use Rattle.tip_machine.specs.States.{State}
 use Rattle.tip_machine.specs.Steps.{is_open, step}
+use Rattle.tip_machine.specs.declared.head.Head.{Head}
 use Rattle.tip_desk.specs.declared.entry.Entry.{Entry}
 
 abbrev pub Journal : Type 0
@@ -20,13 +21,15 @@ abbrev pub replayed : State → List Entry → State
 replayed state [] = state
 replayed state (entry ∷ entries) = replayed (step state entry.event entry.outcome).state entries
 
--- A REALM IS WHERE ITS JOURNAL LEADS: its entries are all that came since it began this epoch, without a connection
+-- what recovery makes of the rows and boxes that a journal begins with, in a realm that has counted nothing yet
+abbrev pub began : Head → Journal → State
+began head journal = restarted (record head { given = 0; entries = 0 }) journal.start
+
+-- A REALM IS WHERE ITS JOURNAL LEADS: its entries are all that came since it began this epoch, by the journal's rows and boxes
 pub record IsJournalOf (state : State) (journal : Journal) : Type 0 where
   pub epoch : journal.epoch ≡ state.head.epoch
   pub count : length journal.entries ≡ state.head.entries
-  pub first : State
-  pub begins : first.connections ≡ []
-  pub leads : state ≡ replayed first journal.entries
+  pub leads : state ≡ replayed (began state.head journal) journal.entries
 
 -- a realm has a journal, and nobody else has
 abbrev pub IsKept : Option State → Option Journal → Type 0

@@ -51,15 +51,15 @@ all_taken core now realms begun done to_come place = elim (cases_lt place (lengt
       to_come place more ∙ nobody ∙ sym (ap (λ found. recovered found (realm core place)) none)
 ]
 
--- a realm that was taken up is in the epoch of its rows, and has counted no entry yet
-anew_at : (found : Option Recovery) (there : Option State) (state : State) → HasBegun there found → recovered found there ≡ Some state → (recovery : Recovery) × (found ≡ Some recovery) × (state.head.epoch ≡ recovery.epoch) × (state.head.entries ≡ 0)
+-- a realm that was taken up is in the epoch of its rows, and has counted no connection and no entry yet
+anew_at : (found : Option Recovery) (there : Option State) (state : State) → HasBegun there found → recovered found there ≡ Some state → (recovery : Recovery) × (found ≡ Some recovery) × (state.head.epoch ≡ recovery.epoch) × (state.head.given ≡ 0) × (state.head.entries ≡ 0)
 anew_at None there state begun is = absurd (none-some state is)
 anew_at (Some recovery) None state begun is = absurd (none-some state is)
 anew_at (Some recovery) (Some was) state begun is =
     let taken : restarted was.head (map loaded recovery.rows) ≡ state = same_Some _ _ is in
     let fresh : was ≡ started (starting begun.0) = same_Some _ _ begun.1 in
     let head : state.head ≡ starting begun.0 = ap (λ (s : State). s.head) (sym taken) ∙ ap (λ (s : State). s.head) fresh in
-    (recovery, refl, ap (λ (h : Head). h.epoch) head ∙ begun.2.epoch, ap (λ (h : Head). h.entries) head)
+    (recovery, refl, ap (λ (h : Head). h.epoch) head ∙ begun.2.epoch, ap (λ (h : Head). h.given) head, ap (λ (h : Head). h.entries) head)
 
 nobody_at : (found : Option Recovery) (there : Option State) → HasBegun there found → recovered found there ≡ None → found ≡ None
 nobody_at None there begun none = refl

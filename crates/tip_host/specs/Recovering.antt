@@ -59,9 +59,9 @@ abbrev pub count_rows : List Recovery → ℕ
 count_rows [] = 0
 count_rows (recovery ∷ realms) = length recovery.rows + count_rows realms
 
--- each realm begins in the epoch of its rows, and no entry was counted yet; there are no rows of any other
+-- each realm begins in the epoch of its rows, and no connection and no entry was counted yet; there are no rows of any other
 pub record AreAnew (realms : List Recovery) (core : Hosted) : Type 0 where
-  pub each : (place : ℕ) (state : State) → realm core place ≡ Some state → (recovery : Recovery) × (slice_get realms place ≡ Some recovery) × (state.head.epoch ≡ recovery.epoch) × (state.head.entries ≡ 0)
+  pub each : (place : ℕ) (state : State) → realm core place ≡ Some state → (recovery : Recovery) × (slice_get realms place ≡ Some recovery) × (state.head.epoch ≡ recovery.epoch) × (state.head.given ≡ 0) × (state.head.entries ≡ 0)
   pub others : (place : ℕ) → realm core place ≡ None → slice_get realms place ≡ None
 
 -- each realm has just started, and there is room for the transactions of all rows

@@ -10,6 +10,7 @@ use Rattle.tip_rows.specs.Keys.{is_same}
 use Rattle.tip_rows.specs.Rows.{branches_of}
 use Rattle.tip_recovery.specs.Adopting.{Unfinished, AreOf, adopted_all, are_adopted, fit, given, waits}
 use Rattle.tip_recovery.specs.Renewing.{are_again, is_again, taking, taking_all}
+use Rattle.tip_recovery.proofs.Rereading.{again_count}
 
 length_behind : {T : Type 0} (xs ys : List T) → length (xs ++ ys) ≡ length xs + length ys
 length_behind [] ys = grind (arith)
@@ -139,9 +140,7 @@ taking_all_of realm (e ∷ earlier) (row ∷ rows) own = (own.0, taking_all_of r
 
 -- no row waits that has the boxes of an earlier reading which did not wait
 one_adopted : (earlier row : Unfinished) → is_again earlier row ≡ true → waits (taking earlier row) ≡ waits earlier
-one_adopted earlier row again =
-    let same : length (branches_of earlier.row) ≡ length (branches_of row.row) = grind (arith, nat_tests, (and_parts (is_same earlier.key row.key) (length (branches_of earlier.row) == length (branches_of row.row)) again).1) in
-    ap (λ n. not (n == 0) && is_none earlier.boxes) (sym same)
+one_adopted earlier row again = ap (λ n. not (n == 0) && is_none earlier.boxes) (sym (again_count earlier row again))
 
 pub all_adopted : (earlier rows : List Unfinished) → are_again earlier rows ≡ true → are_adopted earlier ≡ true → are_adopted (taking_all earlier rows) ≡ true
 all_adopted [] [] again adopted = refl

@@ -1,3 +1,4 @@
 pub mod Giving
+pub mod Rereading
 pub mod Looking
 pub mod Readying

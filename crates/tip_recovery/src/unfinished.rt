@@ -7,7 +7,7 @@ ghost use Rattle.tip_machine.specs.Answers.{identifier};
 ghost use Rattle.tip_machine.specs.Recovery.{reopened};
 ghost use Rattle.tip_machine.specs.Types.{seen};
 ghost use Rattle.tip_machine.specs.declared.head.Head.{Head};
-ghost use Rattle.tip_recovery.specs.Renewing.{is_again, taking};
+ghost use Rattle.tip_recovery.specs.Renewing.{is_again, is_row_again, taking};
 ghost use Rattle.tip_recovery.specs.Adopting.{adopting, are_for, fault_of, is_named, loaded, origin_of, phase_of, subordinates_of, unadopted, waits, with_boxes};
 
 use std::alloc::{AllocError, Global};
@@ -160,14 +160,15 @@ impl Unfinished {
         true
     }
 
-    /// Whether it is a later reading of the same transaction's row, with as many branches.
+    /// Whether it is a later reading of the same transaction's row, which has not changed since.
     pub(crate) fn is_again(&self, earlier: &Unfinished) -> bool
         ensures { result ≡ is_again earlier.now self.now }
     {
-        self.key == earlier.key && self.numbers.len() == earlier.numbers.len()
+        earlier.key == self.key && is_row_again(&earlier.row, &self.row)
     }
 
     /// The boxes that were adopted for an earlier reading, if any, are adopted for this one.
+    #[tactic(auto, using(crate::proofs::Rereading::again_count))]
     pub fn take_boxes(&mut self, earlier: Unfinished)
         requires { is_again earlier self.old ≡ true }
         ensures { self.new ≡ taking earlier self.old }
@@ -243,6 +244,47 @@ fn numbers_of(alloc: Global, branches: &[(u8, Label)]) -> Result<Vec<u8>, AllocE
         numbers.push_reserved(*number);
     }
     Ok(numbers)
+}
+
+/// Whether two rows are the same, word for word.
+fn is_row_again(earlier: &Row, row: &Row) -> bool
+    ensures { result ≡ is_row_again earlier.now row.now }
+{
+    match (earlier, row) {
+        (
+            Row::Prepared {
+                address,
+                superior,
+                branches,
+                subordinates,
+            },
+            Row::Prepared {
+                address: now_at,
+                superior: now_of,
+                branches: now_with,
+                subordinates: now_over,
+            },
+        ) => {
+            (address == now_at && superior == now_of)
+                && (branches.as_slice() == now_with.as_slice()
+                    && subordinates.as_slice() == now_over.as_slice())
+        }
+        (
+            Row::Committed {
+                branches,
+                subordinates,
+            },
+            Row::Committed {
+                branches: now_with,
+                subordinates: now_over,
+            },
+        ) => {
+            branches.as_slice() == now_with.as_slice()
+                && subordinates.as_slice() == now_over.as_slice()
+        }
+        (Row::Prepared { .. }, Row::Committed { .. })
+        | (Row::Committed { .. }, Row::Prepared { .. }) => false,
+    }
 }
 
 /// Where a row's transaction comes from, and its branches. It takes no memory.

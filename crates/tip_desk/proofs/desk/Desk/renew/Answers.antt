@@ -7,6 +7,7 @@ use Rattle.tip_journal.specs.Journal.{begun}
 use Rattle.tip_journal.specs.Journals.{IsWithdrawable, changed_at, renewed, without_last}
 use Rattle.tip_machine.specs.States.{State}
 use Rattle.tip_recovery.specs.Adopting.{loaded}
+use Rattle.tip_recovery.proofs.Rereading.{again_rows, read_again}
 use Rattle.tip_recovery.specs.Renewing.{taking_all}
 use Rattle.tip_desk.proofs.Desks.{kept_same}
 use Rattle.tip_desk.proofs.Journals.{bare_renewed}
@@ -28,7 +29,7 @@ invariant_of-self-in-Ok-renew g c =
     let found = next_state c.self.inside.host.is_stopped (realm c.self.inside.host.core c.args.realm) c.in-Some.epoch (rw (← c.self.view_is) at c.in-Some.ensures) in
     let again = c.in-Ok-renew.ensures.renewed found.0 found.1 in
     subst (λ js. AreKept c.renew-2.new.self.core (bare js)) (sym c.in-Ok.ensures.begun)
-    (kept_renewed c.self.inside.host.core c.renew-2.new.self.core c.self.inside.journals c.args.realm found.0 c.in-Some.epoch (map loaded c.args.recovery.rows) (map loaded (taking_all c.args.recovery.rows again.fresh.rows)) c.self.invariant found.1 found.2 again.state_is c.in-Ok-renew.ensures.others)
+    (kept_renewed c.self.inside.host.core c.renew-2.new.self.core c.self.inside.journals c.args.realm found.0 c.in-Some.epoch (map loaded c.args.recovery.rows) (map loaded (taking_all c.args.recovery.rows again.fresh.rows)) c.self.invariant found.1 found.2 (read_again c.args.recovery.rows again.fresh.rows (again_rows c.args.recovery again.fresh again.again)) again.state_is c.in-Ok-renew.ensures.others)
 
 pub withdraw-requires : goal.withdraw-requires
 withdraw-requires g c =
