@@ -4,6 +4,7 @@ mod boxes;
 mod commits;
 mod desks;
 mod ends;
+mod errands;
 mod journals;
 mod openings;
 mod renewals;

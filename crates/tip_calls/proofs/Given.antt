@@ -11,9 +11,8 @@ use Rattle.tip_agreement.proofs.Keys.{key_self}
 use Rattle.tip_machine.proofs.Storing.{before_apart}
 use Rattle.tip_machine.specs.Moves as Moves
 use Rattle.tip_machine.specs.Starting as Starting
-use Rattle.tip_recovery.specs.Adopting.{Unfinished, adopted_all, adopting, are_adopted, are_for, are_for_all, fault_of, is_named, loaded, refusal_of, unadopted, waits, with_boxes}
-use Rattle.tip_recovery.proofs.Rereading.{again_count}
-use Rattle.tip_recovery.specs.Renewing.{are_again, is_again, taking_all}
+use Rattle.tip_recovery.specs.Adopting.{Unfinished, adopted_all, adopting, are_adopted, are_for, are_for_all, fault_of, is_named, loaded, refusal_of, stored_of, unadopted, waits, with_boxes}
+use Rattle.tip_recovery.proofs.Looking.{stored-unadopted}
 use Rattle.tip_recovery.specs.declared.unfinished.AdoptFault.TheVariants.{NotInDoubt, WrongCount}
 use Rattle.tip_rows.specs.Keys.{Key, comes_before, is_same}
 use Rattle.tip_rows.specs.Logs.{is_rising}
@@ -99,39 +98,24 @@ enough : (boxes : Option (List Badge)) (row : Row) → MatchOption boxes (Unit {
 enough (Some boxes) row fits adopted = same_count (length boxes) (length (branches_of row)) fits
 enough None row fits adopted = none_for (length (branches_of row)) adopted
 
--- all that were read have their boxes once no row waits
-pub given_boxes : (name : List ℕ) (all : List (Key × Row)) (rows : List Unfinished) → AreGiven (map (unadopted name) all) rows → are_adopted rows ≡ true → HaveBoxes all rows
-given_boxes name [] [] are adopted = tt
-given_boxes name [] (row ∷ rows) are adopted = absurd are
-given_boxes name (stored ∷ all) [] are adopted = absurd are
-given_boxes name (stored ∷ all) (row ∷ rows) are adopted =
-    let parts = and_parts (not (waits row)) (are_adopted rows) adopted in (
-      record {
-        key = are.0.key;
-        row_is = are.0.row;
-        fits = subst (λ r. (length (unwrap_or row.boxes []) == length (branches_of r)) ≡ true) are.0.row (enough row.boxes row.row are.0.fits parts.0);
-      },
-      given_boxes name all rows are.1 parts.1,
-    )
+-- all have their boxes once no row waits
+pub adopted_boxes : (read rows : List Unfinished) → AreGiven read rows → are_adopted rows ≡ true → HaveBoxes (stored_of rows) rows
+adopted_boxes [] [] are adopted = tt
+adopted_boxes [] (row ∷ rows) are adopted = absurd are
+adopted_boxes (r ∷ read) [] are adopted = absurd are
+adopted_boxes (r ∷ read) (row ∷ rows) are adopted =
+    let parts = and_parts (not (waits row)) (are_adopted rows) adopted in
+    (record { key = refl; row_is = refl; fits = enough row.boxes row.row are.0.fits parts.0 }, adopted_boxes read rows are.1 parts.1)
 
--- so have those that are read again, with the boxes of the earlier reading
-pub taken_boxes : (name : List ℕ) (all : List (Key × Row)) (read earlier : List Unfinished) → AreGiven read earlier → are_adopted earlier ≡ true → are_again earlier (map (unadopted name) all) ≡ true → HaveBoxes all (taking_all earlier (map (unadopted name) all))
-taken_boxes name [] [] [] are adopted again = tt
-taken_boxes name [] (r ∷ read) [] are adopted again = absurd are
-taken_boxes name [] read (e ∷ earlier) are adopted again = absurd (cc)
-taken_boxes name (stored ∷ all) read [] are adopted again = absurd (cc)
-taken_boxes name (stored ∷ all) [] (e ∷ earlier) are adopted again = absurd are
-taken_boxes name (stored ∷ all) (r ∷ read) (e ∷ earlier) are adopted again =
-    let parts = and_parts (not (waits e)) (are_adopted earlier) adopted in
-    let same = and_parts (is_again e (unadopted name stored)) (are_again earlier (map (unadopted name) all)) again in
-    let counts : length (branches_of e.row) ≡ length (branches_of stored.1) = again_count e (unadopted name stored) same.0 in (
-      record {
-        key = refl;
-        row_is = refl;
-        fits = subst (λ n. (length (unwrap_or e.boxes []) == n) ≡ true) counts (enough e.boxes e.row are.0.fits parts.0);
-      },
-      taken_boxes name all read earlier are.1 parts.1 same.1,
-    )
+given_stored : (read rows : List Unfinished) → AreGiven read rows → stored_of rows ≡ stored_of read
+given_stored [] [] are = refl
+given_stored [] (row ∷ rows) are = absurd are
+given_stored (r ∷ read) [] are = absurd are
+given_stored (r ∷ read) (row ∷ rows) are = λ i. (are.0.key i, are.0.row i) ∷ given_stored read rows are.1 i
+
+-- so have those that were loaded
+pub given_boxes : (name : List ℕ) (all : List (Key × Row)) (rows : List Unfinished) → AreGiven (map (unadopted name) all) rows → are_adopted rows ≡ true → HaveBoxes all rows
+given_boxes name all rows are adopted = subst (λ stored. HaveBoxes stored rows) (given_stored (map (unadopted name) all) rows are ∙ stored-unadopted name all) (adopted_boxes (map (unadopted name) all) rows are adopted)
 
 -- What adoption gives
 

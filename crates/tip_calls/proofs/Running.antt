@@ -1,6 +1,6 @@
 -- The calls of a realm are a run of its own machine.
 use Rattle.std.proofs.Common.{◌≡◌, ◌≢◌, ◌<◌, ◌+◌, ◌++◌, ◌∷◌, ◌==◌, inl, inr, ℕ, Bool, true, false, cond, zero, suc, List, [], Option, Some, None, map, refl, ap, arith, sym, subst, ◌∙◌}
-use Rattle.std.specs.Prelude.{◌&&◌, is_some, nat_lt, option_map, slice_get}
+use Rattle.std.specs.Prelude.{is_some, nat_lt, option_map, slice_get}
 use Rattle.std.specs.Cmp.{unsigned_Decides}
 use Rattle.std.specs.List.{flat_map}
 use Rattle.std.specs.Option.{option_to_list}
@@ -33,14 +33,15 @@ use Rattle.tip_machine.specs.Steps.{fits, step, wants}
 use Rattle.tip_machine.specs.Types.{Event}
 use Rattle.tip_machine.specs.declared.event.Outcome.{Outcome}
 use Rattle.tip_machine.specs.declared.event.Outcome.TheVariants.{Stored}
-use Rattle.tip_recovery.specs.Adopting.{Recovery, Unfinished, unadopted}
+use Rattle.tip_recovery.proofs.Looking.{stored-unadopted}
+use Rattle.tip_recovery.proofs.Rereading.{again_rows}
+use Rattle.tip_recovery.specs.Adopting.{Recovery, Unfinished, stored_of, unadopted}
 use Rattle.tip_recovery.specs.Adopting as Adopting
-use Rattle.tip_recovery.specs.Renewing.{are_again, taking_all}
 use Rattle.tip_rows.specs.Keys.{Key}
 use Rattle.tip_rows.specs.Logs.{IsPart, Log, last_epoch, raised_number, with_raised}
 use Rattle.tip_rows.specs.declared.row.Row.{Row}
 use Rattle.tip_witness.proofs.Asked.{run_is_agreed}
-use Rattle.tip_calls.proofs.Given.{boxes_at, given_boxes, gives, taken_boxes}
+use Rattle.tip_calls.proofs.Given.{HaveBoxes, adopted_boxes, boxes_at, given_boxes, gives}
 use Rattle.tip_calls.specs.Calls.{AreCalls, AreRun, Around, Brings, Came, IsCall, IsHosted, HasStarted, IsBegun, IsLetGo, IsRestarted, IsRisen, IsStepped, IsStill, drops_in, shown_of}
 use Rattle.tip_calls.specs.Calls.IsCall.{Stepped, LetGo, Restarted, Renewed, Stays}
 use Rattle.tip_calls.specs.Giving.{AreEachGiven, AreGiven}
@@ -230,17 +231,16 @@ module _ {S : Type 0} (stands may_leave : S → Log → Type 0) (is_true : S →
         let fresh = own.renewed.fresh in
         let read = own.renewed.read hosted.log hosted.stood truth in
         let rows : fresh.rows ≡ map (unadopted name) world.rows = read.unadopted ∙ ap (map (unadopted name)) (same_rows read.rows world.rows read.part.rising hosted.rows.rising (λ key. read.part.same key ∙ sym (hosted.rows.same key))) in
-        let again = (and_parts (bytes_eq own.recovery.realm fresh.realm && (own.recovery.epoch == fresh.epoch)) (are_again own.recovery.rows fresh.rows) own.renewed.again).1 in
-        let taken = taking_all own.recovery.rows (map (unadopted name) world.rows) in
-        let have = taken_boxes name world.rows own.read own.recovery.rows own.given own.renewed.adopted (subst (λ r. are_again own.recovery.rows r ≡ true) rows again) in
-        let boxes = boxes_at taken in
-        let given = gives world.rows taken have hosted.rows.rising in
+        let stored : stored_of own.recovery.rows ≡ world.rows = again_rows own.recovery fresh own.renewed.again ∙ ap stored_of rows ∙ stored-unadopted name world.rows in
+        let have = subst (λ all. HaveBoxes all own.recovery.rows) stored (adopted_boxes own.read own.recovery.rows own.given own.renewed.adopted) in
+        let boxes = boxes_at own.recovery.rows in
+        let given = gives world.rows own.recovery.rows have hosted.rows.rising in
         let less : nat_lt world.state.head.epoch last_epoch ≡ true = grind (arith, nat_tests, own.renewed.rises) in
         let number : raised_number world.state.head.epoch ≡ world.state.head.epoch + 1 = rises hosted.log name world.state.head.epoch world.rows hosted.rows hosted.known (grind (arith, nat_tests, own.renewed.rises)) in
         one_move new place world shown (Move.Renew boxes Stored) (and_from (nat_lt world.state.head.epoch last_epoch) _ less given.0)
         (ap drops_here (sym same) ∙ sym shows_it)
         (record {
-          state = own.renewed.state_is ∙ ap (λ r. Some (restarted (risen world.state.head) r)) (ap (λ r. map Adopting.loaded (taking_all own.recovery.rows r)) rows ∙ sym given.1);
+          state = own.renewed.state_is ∙ ap (λ r. Some (restarted (risen world.state.head) r)) (sym given.1);
           out = own.out place ∙ hosted.out;
           log = with_raised name hosted.log;
           stood = own.rows hosted.log hosted.stood;

@@ -9,9 +9,10 @@ use Rattle.tip_machine.specs.Types.{Event}
 use Rattle.tip_machine.specs.declared.event.Outcome.{Outcome}
 use Rattle.tip_machine.specs.declared.head.Head.{Head}
 use Rattle.tip_desk.proofs.Journals.{bare_entry, epoch_bare, number_bare}
-use Rattle.tip_desk.specs.Entries.{Enters, Journal, Noted, bare, takes_entry}
+use Rattle.tip_honest.specs.Honesty.{Journal}
+use Rattle.tip_desk.specs.Entries.{Enters, Noted, bare, takes_entry}
 use Rattle.tip_desk.specs.Notings.{AreOf}
-use Rattle.tip_desk.specs.declared.entry.Entry.{Entry}
+use Rattle.tip_honest.specs.declared.entry.Entry.{Entry}
 use Rattle.tip_desk.specs.declared.noting.Noting.{Noting}
 
 abbrev entry_of : Event → Outcome → Entry

@@ -6,8 +6,9 @@ use Rattle.std.proofs.lemmas.List.{length-map, map-append}
 use Rattle.std.proofs.lemmas.Option.{slice_get-map}
 use Rattle.tip_journal.specs.Journal.{with_entry, with_room}
 use Rattle.tip_journal.specs.Journals.{changed_at, current, entries_of, epoch_at, epoch_of, last_number, last_of, renewed, with_current, with_last}
-use Rattle.tip_desk.specs.Entries.{Journal, bare}
-use Rattle.tip_desk.specs.declared.entry.Entry.{Entry}
+use Rattle.tip_honest.specs.Honesty.{Journal}
+use Rattle.tip_desk.specs.Entries.{bare}
+use Rattle.tip_honest.specs.declared.entry.Entry.{Entry}
 
 -- a change that is not seen
 same_changed : {A B : Type 0} (f : A → B) (g : A → A) → ((x : A) → f (g x) ≡ f x) → (i : ℕ) (xs : List A) → map f (changed_at i g xs) ≡ map f xs

@@ -1,7 +1,10 @@
 pub mod Batches
 pub mod Journals
 pub mod Entering
-pub mod Desks
+pub mod Honestly
+pub mod Taking
+pub mod Ending
+pub mod Beginning
 pub mod Renewals
-pub mod Serving
+pub mod Served
 pub mod Dropping

@@ -1,23 +1,34 @@
 -- A realm that starts again at a desk.
-use Rattle.std.proofs.Common.{◌≡◌, ◌≢◌, ◌<◌, ◌+◌, ◌==◌, ◌∷◌, ◌∙◌, if◌then◌else◌, ℕ, zero, suc, Bool, false, true, List, [], Option, None, Some, Result, Ok, Err, length, length-append, ap, arith, refl, subst, sym, inl, inr}
-use Rattle.std.specs.Prelude.{IfOk, IsSomeAnd, OnOk, slice_get}
+use Rattle.std.proofs.Common.{◌≡◌, ◌≢◌, ◌<◌, ◌+◌, ◌==◌, ◌++◌, ◌∷◌, ◌∙◌, if◌then◌else◌, ℕ, zero, suc, Bool, false, true, List, [], Option, None, Some, Result, Ok, Err, length, length-append, map, ap, arith, refl, subst, sym, inl}
+use Rattle.std.specs.Prelude.{IfErr, IfOk, IsSomeAnd, OnOk, slice_get}
 use Rattle.std.specs.Option.{option_and_then, option_map}
-use Rattle.std.proofs.lemmas.Bool.{cases_eq}
 use Rattle.std.proofs.lemmas.Bool.Decides.{nat_tests}
 use Rattle.std.proofs.lemmas.Option.{none-some, same_Some}
 use Rattle.tip_core.specs.Hosted.{Hosted, realm}
-use Rattle.tip_journal.proofs.LawLemmas.{renewed-current, renewed-others}
+use Rattle.tip_honest.proofs.Hosting.{all_renewed}
+use Rattle.tip_honest.specs.Honesty.{Journal, StandsFor, are_boxed}
+use Rattle.tip_journal.proofs.HistoryLemmas.{length-changed_at}
+use Rattle.tip_journal.proofs.LawLemmas.{renewed-current, renewed-withdrawn}
 use Rattle.tip_journal.specs.Journal.{Written, begun, with_room}
-use Rattle.tip_journal.specs.Journals.{IsWithdrawable, current, last_of, renewed}
+use Rattle.tip_journal.specs.Journals.{IsWithdrawable, changed_at, current, last_of, renewed, without_last}
 use Rattle.tip_machine.specs.Moves.{risen}
-use Rattle.tip_machine.specs.Recovery.{Loaded, restarted}
+use Rattle.tip_kept.specs.Keeping.{rows_at}
+use Rattle.tip_machine.specs.Recovery.{restarted}
 use Rattle.tip_machine.specs.States.{State}
 use Rattle.tip_machine.specs.declared.head.Head.{Head}
-use Rattle.tip_rows.specs.Logs.{last_epoch}
-use Rattle.tip_desk.proofs.Desks.{is_within}
+use Rattle.tip_host.specs.Renewing.{IsReasonToRenew}
+use Rattle.tip_host.specs.declared.renewing.RenewFault.{RenewFault}
+use Rattle.tip_recovery.specs.Adopting.{Recovery, Unfinished, loaded, stored_of}
+use Rattle.tip_rows.specs.Keys.{Key}
+use Rattle.tip_rows.specs.declared.row.Row.{Row}
+use Rattle.tip_rows.specs.Logs.{Log, is_rising, last_epoch}
+use Rattle.tip_table.specs.Kept.{of}
 use Rattle.tip_desk.proofs.Journals.{bare_renewed, current_bare}
-use Rattle.tip_desk.specs.Entries.{AreKept, IsJournalOf, IsKept, Journal, bare}
-use Rattle.tip_desk.specs.Renewals.{next_epoch}
+use Rattle.tip_desk.proofs.Honestly.{stands_here}
+use Rattle.tip_desk.proofs.Beginning.{rows_again}
+use Rattle.tip_desk.specs.Books.{Books, IsHonest, known_by, out_of}
+use Rattle.tip_desk.specs.Entries.{bare}
+use Rattle.tip_desk.specs.Renewals.{IsReason, next_epoch}
 
 abbrev after : Head → Option ℕ
 after head = if head.epoch == last_epoch then None else Some (head.epoch + 1)
@@ -52,14 +63,14 @@ never_renewed (Ok x) false None Q none here running renewed rises P = absurd (he
 never_renewed (Ok x) false (Some state) Q none here running renewed rises P =
     absurd (let last = none_chosen state (state.head.epoch == last_epoch) none in let less = rises state x (renewed state refl) in grind (arith, nat_tests))
 
-later_as : (stopped : Bool) (s : Option State) (epoch : ℕ) → Some epoch ≡ next_epoch stopped s → (j : Option Journal) → IsKept s (option_map (with_room 0) j) → IsSomeAnd j (λ journal. journal.epoch < epoch)
-later_as stopped s epoch is j kept = by (next_state stopped s epoch is) j kept where
-  by : (state : State) × (s ≡ Some state) × (epoch ≡ state.head.epoch + 1) → (j : Option Journal) → IsKept s (option_map (with_room 0) j) → IsSomeAnd j (λ journal. journal.epoch < epoch)
-  by found None kept = absurd (subst (λ t. IsKept t None) found.1 kept)
-  by found (Some journal) kept = let own : IsKept (Some found.0) (Some (with_room 0 journal)) = subst (λ t. IsKept t (Some (with_room 0 journal))) found.1 kept in omega (arith, own.epoch, found.2)
+later_as : (state : State) (epoch : ℕ) → epoch ≡ state.head.epoch + 1 → (j : Option Journal) → IsSomeAnd (option_map (with_room 0) j) (StandsFor state) → IsSomeAnd j (λ journal. journal.epoch < epoch)
+later_as state epoch is None stands = absurd stands
+later_as state epoch is (Some journal) stands = omega (arith, stands.epoch, is)
 
-pub later_so : (core : Hosted) (journals : List (List Journal)) (place : ℕ) (stopped : Bool) (epoch : ℕ) → AreKept core (bare journals) → Some epoch ≡ next_epoch stopped (realm core place) → IsSomeAnd (current journals place) (λ journal. journal.epoch < epoch)
-later_so core journals place stopped epoch kept is = later_as stopped (realm core place) epoch is (current journals place) (subst (IsKept (realm core place)) (current_bare journals place) (kept place))
+pub later_so : (core : Hosted) (books : Books) (place : ℕ) (stopped : Bool) (epoch : ℕ) → IsHonest core books → Some epoch ≡ next_epoch stopped (realm core place) → IsSomeAnd (current books.journals place) (λ journal. journal.epoch < epoch)
+later_so core books place stopped epoch honest is =
+    let found = next_state stopped (realm core place) epoch is in
+    later_as found.0 epoch found.2 (current books.journals place) (subst (λ j. IsSomeAnd j (StandsFor found.0)) (current_bare books.journals place) (stands_here core books honest place found.0 found.1))
 
 -- Its journals
 
@@ -75,25 +86,42 @@ withdrawable P (history ∷ journals) zero epoch start some = record {
 }
 withdrawable P (history ∷ journals) (suc place) epoch start some = withdrawable P journals place epoch start some
 
-module _ (old new : Hosted) (journals : List (List Journal)) (place : ℕ) (state : State) (epoch : ℕ) (start rows : List Loaded) (kept : AreKept old (bare journals)) (here : realm old place ≡ Some state) (later : epoch ≡ state.head.epoch + 1) (same : rows ≡ start) (own : realm new place ≡ Some (restarted (risen state.head) rows)) (others : (other : ℕ) → other ≢ place → realm new other ≡ realm old other) where
-  begins : List (List Journal)
-  begins = renewed place (begun epoch start) (bare journals)
+-- THE REALM IS RENEWED by its stored rows
+module _ (core core' : Hosted) (old begun_now new : Books) (place : ℕ) (state : State) (epoch : ℕ) (rows : List Unfinished) (honest : IsHonest core old) (here : realm core place ≡ Some state) (later : epoch ≡ state.head.epoch + 1)
+    (same : rows_at old.rows place ≡ stored_of rows) (rising : is_rising (stored_of rows) ≡ true) (boxed : are_boxed (map loaded rows) ≡ true) (rises : state.head.epoch < last_epoch)
+    (own : realm core' place ≡ Some (restarted (risen state.head) (map loaded rows))) (others : (other : ℕ) → other ≢ place → realm core' other ≡ realm core other)
+    (begins : begun_now.journals ≡ renewed place (begun epoch (map loaded rows)) old.journals) (journals : new.journals ≡ begun_now.journals) (kept : new.rows ≡ old.rows) (work : new.work ≡ old.work) (out : new.out ≡ old.out) where
+  begins_bare : bare new.journals ≡ renewed place (begun (state.head.epoch + 1) (map loaded rows)) (bare old.journals)
+  begins_bare = ap bare (journals ∙ begins) ∙ bare_renewed old.journals place (begun epoch (map loaded rows)) ∙ ap (λ e. renewed place (begun e (map loaded rows)) (bare old.journals)) later
 
-  first_kept : IsJournalOf (restarted (risen state.head) rows) (begun epoch start)
-  first_kept = record { epoch = later; count = refl; leads = ap (restarted (risen state.head)) same }
+  same_out : (other : ℕ) → out_of new other ≡ out_of old other
+  same_out other = λ i. of (out i) other ++ of (work i) other
 
-  all_kept : AreKept new begins
-  unfolding begins
-  all_kept at = elim (cases_eq at place) [
-    | inl same ↦
-        subst (λ p. IsKept (realm new p) (current begins p)) (sym same)
-        (subst (λ s. IsKept s (current begins place)) (sym own) (subst (IsKept (Some (restarted (risen state.head) rows))) (sym (renewed-current (bare journals) place (begun epoch start) (is_within old (bare journals) kept place state here))) first_kept))
-    | inr differ ↦
-        subst (λ s. IsKept s (current begins at)) (sym (others at differ))
-        (subst (IsKept (realm old at)) (sym (ap (option_and_then last_of) (renewed-others (bare journals) place at (begun epoch start) differ))) (kept at))
-  ]
+  pub renewed_honest : IsHonest core' new
+  renewed_honest = record {
+    all = all_renewed (known_by core old) (known_by core' new) place honest.all state (map loaded rows) (record {
+      here = here;
+      of_rows = rows_again rows ∙ sym same;
+      rising = ap is_rising (rows_again rows) ∙ rising;
+      boxed = boxed;
+      rises = rises;
+      after = own;
+      out_is = same_out place;
+      rows_are = ap (λ k. rows_at k place) kept;
+      begun = begins_bare;
+      others = λ other differ. (others other differ, same_out other, ap (λ k. rows_at k other) kept);
+    });
+    each = ap length kept ∙ honest.each ∙ sym (ap length (journals ∙ begins) ∙ length-changed_at old.journals place (λ history. history ++ begun epoch (map loaded rows) ∷ []));
+  }
 
-  -- each realm is where its journal leads, the one that started again too
-  pub kept_renewed : AreKept new (bare (renewed place (begun epoch start) journals))
-  unfolding begins
-  kept_renewed = subst (AreKept new) (sym (bare_renewed journals place (begun epoch start))) all_kept
+-- what the host says of a fault
+pub as_host_says : {T : Type 0} (result : Result T (RenewFault × Recovery)) (log : Log) (state : State) (rows : List (Key × Row)) (recovery : Recovery) → IfErr result (λ fault. IsReasonToRenew log state recovery fault.0) → IfErr result (λ fault. IsReason log state rows recovery fault.0)
+as_host_says (Ok x) log state rows recovery reason = tt
+as_host_says (Err fault) log state rows recovery reason = inl reason
+
+-- a journal that was begun and is withdrawn leaves all as it was
+pub withdrawn : (old begun_now new : Books) (place epoch : ℕ) (rows : List Unfinished) → begun_now.journals ≡ renewed place (begun epoch (map loaded rows)) old.journals → begun_now ≡ record old { journals = begun_now.journals } → new ≡ record begun_now { journals = changed_at place without_last begun_now.journals } → new ≡ old
+withdrawn old begun_now new place epoch rows begins rest is =
+    is
+    ∙ ap (λ (b : Books). record b { journals = changed_at place without_last begun_now.journals }) rest
+    ∙ ap (λ js. record old { journals = js }) (ap (changed_at place without_last) begins ∙ renewed-withdrawn old.journals place (begun epoch (map loaded rows)))

@@ -1,5 +1,6 @@
 pub mod Outboxes
 pub mod Entries
+pub mod Books
 pub mod Openings
 pub mod Notings
 pub mod Desks

@@ -4,8 +4,9 @@ use Rattle.tip_journal.specs.Journals.{room}
 use Rattle.tip_journal.specs.Pass.{Held}
 use Rattle.tip_machine.specs.States.{State}
 use Rattle.tip_machine.specs.Types.{Event}
-use Rattle.tip_desk.specs.Entries.{Journal, takes_entry}
-use Rattle.tip_desk.specs.declared.entry.Entry.{Entry}
+use Rattle.tip_honest.specs.Honesty.{Journal}
+use Rattle.tip_honest.specs.declared.entry.Entry.{Entry}
+use Rattle.tip_desk.specs.Entries.{takes_entry}
 use Rattle.tip_desk.specs.declared.noting.Noting.{Noting}
 
 -- both are this event

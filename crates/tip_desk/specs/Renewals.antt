@@ -1,9 +1,15 @@
 -- A realm that starts again at a desk (ours).
-use Rattle.std.specs.Prelude.{◌≡◌, ◌≢◌, ◌+◌, ◌-◌, ◌≤◌, ◌==◌, ℕ, Bool, true, false, List, [], length, Option, Some, None, slice_get, if◌then◌else◌, vec_capacity, vec_len}
+use Rattle.std.specs.Prelude.{◌≡◌, ◌≢◌, ◌⊎◌, ◌+◌, ◌-◌, ◌≤◌, ◌==◌, ℕ, Bool, true, false, List, [], length, Option, Some, None, slice_get, if◌then◌else◌, vec_capacity, vec_len}
 use Rattle.tip_core.specs.Hosted.{realm}
 use Rattle.tip_machine.specs.States.{State}
 use Rattle.tip_machine.specs.declared.answer.Sent.{Sent}
-use Rattle.tip_rows.specs.Logs.{last_epoch}
+use Rattle.tip_host.specs.Renewing.{IsReasonToRenew}
+use Rattle.tip_host.specs.declared.renewing.RenewFault.{RenewFault}
+use Rattle.tip_host.specs.declared.renewing.RenewFault.TheVariants.{NotInDoubt}
+use Rattle.tip_recovery.specs.Adopting.{Recovery, stored_of}
+use Rattle.tip_rows.specs.Keys.{Key}
+use Rattle.tip_rows.specs.Logs.{Log, last_epoch}
+use Rattle.tip_rows.specs.declared.row.Row.{Row}
 use Rattle.tip_table.specs.Kept.{Kept, capacity, of}
 use Rattle.tip_desk.specs.Desks.{Desk}
 use Rattle.tip_desk.specs.Entries.{bare}
@@ -19,8 +25,12 @@ next_epoch false (Some state) = if state.head.epoch == last_epoch then None else
 -- EVERY OTHER REALM keeps its state, its journals and its lines
 pub record AreKeptBut {S : Type 0} (place : ℕ) (old new : Desk S) : Type 0 where
   pub realms : (other : ℕ) → other ≢ place → realm new.host.core other ≡ realm old.host.core other
-  pub journals : (other : ℕ) → other ≢ place → slice_get (bare new.journals) other ≡ slice_get (bare old.journals) other
-  pub lines : (other : ℕ) → other ≢ place → waiting new.outboxes other ≡ waiting old.outboxes other
+  pub journals : (other : ℕ) → other ≢ place → slice_get (bare new.books.journals) other ≡ slice_get (bare old.books.journals) other
+  pub lines : (other : ℕ) → other ≢ place → waiting new.books.outboxes other ≡ waiting old.books.outboxes other
+
+-- why a realm was not renewed: as its host says, or since these are not its stored rows, as the store has answered
+abbrev pub IsReason : Log → State → List (Key × Row) → Recovery → RenewFault → Type 0
+IsReason log state rows recovery fault = IsReasonToRenew log state recovery fault ⊎ ((fault ≡ NotInDoubt) × (rows ≢ stored_of recovery.rows))
 
 abbrev pub Clearing : Type 0
 Clearing = clearings.Clearing

@@ -1,34 +1,37 @@
-//! A host with the journals of its realms, and what waits to go out.
-ghost use Rattle.std.specs.Prelude.{◌≡◌, ◌≢◌, ◌↔◌, ◌++◌, ◌+◌, ◌<◌, ◌^◌, ℕ, [], None, Some, true, false, find, if◌then◌else◌, is_some, map, length, slice_get, IfErr, IfOk, OnErr, OnOk, IsTrue, Err, option_map};
+//! A host with what is kept of its realms beside it.
+ghost use Rattle.std.specs.Prelude.{◌≡◌, ◌≢◌, ◌↔◌, ℕ, [], None, true, false, find, if◌then◌else◌, map, slice_get, IfErr, IfOk, IfSome, OnErr, OnOk, IsTrue, Err, option_map};
+ghost use Rattle.std.specs.Option.{option_map_or};
 ghost use Rattle.tip_branch.specs.Always.{Always};
 ghost use Rattle.tip_core.specs.Hosted.{HaveNames, may_take_in, realm as realm_at};
+ghost use Rattle.tip_honest.specs.Hosts.{IsHonestRun};
 ghost use Rattle.tip_host.specs.Recovering.{all_adopted, recovered};
-ghost use Rattle.tip_host.specs.declared.host.HostFault.TheVariants.{Stopped};
+ghost use Rattle.tip_host.specs.declared.host.HostFault.TheVariants as HostFault;
 ghost use Rattle.tip_journal.specs.Audit.{AreAudited, report_of};
 ghost use Rattle.tip_journal.specs.Fits.{Fits};
-ghost use Rattle.tip_journal.specs.Journals.{last_number, room};
+ghost use Rattle.tip_kept.specs.Keeping.{rows_at};
+ghost use Rattle.tip_machine.specs.Honest.{brings_no_party};
 ghost use Rattle.tip_machine.specs.States.{State};
 ghost use Rattle.tip_machine.specs.Steps.{is_for};
-ghost use Rattle.tip_machine.specs.Types.{Event as AnEvent};
-ghost use Rattle.tip_table.specs.Kept.{of};
+ghost use Rattle.tip_recovery.specs.Adopting.{stored_of};
 ghost use Rattle.tip_table.specs.Lists.{without};
-ghost use Rattle.tip_desk.specs.Desks.{IsOf, Serves, Stays, is_now};
-ghost use Rattle.tip_desk.specs.Entries.{Enters, bare};
-ghost use Rattle.tip_desk.specs.Notings.{AreOf, IsReadyFor};
+ghost use Rattle.tip_desk.specs.Books.{BringsAt, out_of};
+ghost use Rattle.tip_desk.specs.Desks.{Serves, Stays, is_now};
+ghost use Rattle.tip_desk.specs.Entries.{bare};
 ghost use Rattle.tip_desk.specs.Openings.{opened};
 ghost use Rattle.tip_desk.specs.Outboxes.{waiting};
+ghost use Rattle.tip_desk.specs.declared.desk.DeskFault.TheVariants.{NotOut, Party, Stopped};
 ghost use Rattle.tip_desk.specs.declared.desk.OpenFault.TheVariants.{Unadopted};
 
-use crate::batch::Batch;
-use crate::entry::Entry;
-use crate::noting::{Noting, enter, prepare};
+use crate::books::Books;
 use crate::opening::{Opening, open_all};
-use crate::outboxes::{send, take};
+use crate::outboxes::take;
 use crate::reply::Reply;
-use std::alloc::{AllocError, Global};
+use crate::serving::{finish, make_ready};
+use std::alloc::Global;
 use std::marker::Model;
 use thiserror::Error;
-use tip_core::{Core, Happened};
+use tip_core::Core;
+use tip_honest::Entry;
 use tip_host::{Host, HostFault, Recovering};
 use tip_journal::{AuditFault, Journals, Pass, Reported, audit, fits};
 use tip_machine::{Event, Seat, Sent};
@@ -44,23 +47,49 @@ pub enum OpenFault {
     Memory,
 }
 
-/// A host, the journals of its realms, and the lines and closings that wait to go out.
+/// Why an event did not happen.
+#[derive(Clone, Copy, Debug, PartialEq, Eq, Error)]
+pub enum DeskFault {
+    #[error("the host is stopped")]
+    Stopped,
+    #[error("an event brings a party back by itself")]
+    Party,
+    #[error("the party is not out of this realm")]
+    NotOut,
+    #[error("out of memory")]
+    Memory,
+}
+
+impl From<HostFault> for DeskFault {
+    ghost use Rattle.tip_desk.specs.Desks.{fault_of};
+
+    ghost from_gives = { λ why fault. fault ≡ fault_of why };
+
+    fn from(fault: HostFault) -> DeskFault {
+        match fault {
+            HostFault::Stopped => DeskFault::Stopped,
+            HostFault::Memory => DeskFault::Memory,
+        }
+    }
+}
+
+/// A host, and what is kept of its realms beside it: their journals, how their rows are stored, who is out, and what waits to go
+/// out on each connection.
 #[derive(Drop)]
 pub struct Desk<S> {
     pub(crate) host: Host<S, Core>,
-    pub(crate) journals: Journals<Opening, Entry>,
-    pub(crate) outboxes: Table<Batch>,
+    pub(crate) books: Books,
 }
 
 impl<S> Model for Desk<S> {
+    ghost use Rattle.tip_desk.specs.Books.{IsHonest};
     ghost use Rattle.tip_desk.specs.Desks.{Desk};
-    ghost use Rattle.tip_desk.specs.Entries.{AreKept, bare};
 
     ghost Value = { Desk S };
 
-    ghost view = { λ d. record { host = d.host; journals = d.journals; outboxes = d.outboxes } };
+    ghost view = { λ d. record { host = d.host; books = d.books } };
 
-    ghost invariant = { λ d. AreKept d.host.core (bare d.journals) };
+    ghost invariant = { λ d. IsHonest d.host.core d.books };
 }
 
 impl<S: RowLog + Drop> Desk<S> {
@@ -76,22 +105,31 @@ impl<S: RowLog + Drop> Desk<S> {
             (realm_at recovering.core place)) }
         ensures names { IfOk result (λ desk. HaveNames desk.host.core) }
         ensures running { IfOk result (λ desk. desk.host.is_stopped ≡ false) }
-        ensures journals { IfOk result (λ desk. desk.journals ≡ map opened recovering.realms) }
-        ensures lines { IfOk result (λ desk. (place : ℕ) → waiting desk.outboxes place ≡ []) }
+        ensures journals { IfOk result
+            (λ desk. desk.books.journals ≡ map opened recovering.realms) }
+        ensures rows { IfOk result (λ desk. (place : ℕ) → rows_at desk.books.rows place
+            ≡ option_map_or (λ recovery. stored_of recovery.rows)
+            (slice_get recovering.realms place) []) }
+        ensures out { IfOk result (λ desk. (place : ℕ) → out_of desk.books place ≡ []) }
+        ensures lines { IfOk result
+            (λ desk. (place : ℕ) → waiting desk.books.outboxes place ≡ []) }
         ensures adopted { OnOk result (all_adopted recovering.realms ≡ true) }
         ensures unadopted { IfErr result
             (λ fault. fault.0 ≡ Unadopted → all_adopted recovering.realms ≡ false) }
         ensures back { IfErr result (λ fault. fault.1 ≡ recovering) }
     {
-        let Ok(journals) = open_all(alloc, recovering.realms()) else {
+        let Ok((journals, rows)) = open_all(alloc, recovering.realms()) else {
             return Err((OpenFault::Memory, recovering));
         };
+        let books = Books {
+            journals,
+            outboxes: Table::new(alloc),
+            rows,
+            work: Table::new(alloc),
+            out: Table::new(alloc),
+        };
         match recovering.begin() {
-            Ok(host) => Ok(Desk {
-                host,
-                journals,
-                outboxes: Table::new(alloc),
-            }),
+            Ok(host) => Ok(Desk { host, books }),
             Err((_, recovering)) => Err((OpenFault::Unadopted, recovering)),
         }
     }
@@ -103,18 +141,19 @@ impl<S: RowLog + Drop> Desk<S> {
         Pass::new(alloc)
     }
 
-    /// One event of a realm. Its lines wait in the outboxes, its entry stands in the realm's journal and in this pass. A fault
-    /// hands the event back, and nothing has happened.
+    /// One event of a realm, which brings no party. Its lines wait in the outboxes, its entry stands in the realm's journal and in
+    /// this pass, and the party that goes out waits to be taken. A fault hands the event back, and nothing has happened.
     pub fn step(
         &mut self,
         alloc: Global,
         pass: &mut Pass<Entry>,
         realm: usize,
         event: Event,
-    ) -> Result<Reply, (HostFault, Event)>
+    ) -> Result<Reply, (DeskFault, Event)>
         requires { Always }
         ensures serves { IfOk result (λ reply. Serves S.stands S.may_leave S.is_true S.faults
             S.is_due self.old self.new pass.old.noted pass.new.noted realm event reply) }
+        ensures nobody { OnOk result (brings_no_party event ≡ true) }
         ensures stays { OnErr result (Stays self.old self.new) }
         ensures pass { OnErr result (pass.new.noted ≡ pass.old.noted) }
         ensures back { IfErr result (λ fault. fault.1 ≡ event) }
@@ -122,53 +161,72 @@ impl<S: RowLog + Drop> Desk<S> {
         ensures running { OnOk result (self.old.host.is_stopped ≡ false) }
         ensures stopping { IfErr result
             (λ fault. (fault.0 ≡ Stopped) ↔ (self.old.host.is_stopped ≡ true)) }
+        ensures party { IfErr result (λ fault. fault.0 ≡ Party → brings_no_party event ≡ false) }
+        ensures sent { IfErr result (λ fault. fault.0 ≢ NotOut) }
     {
         if self.host.is_stopped {
-            return Err((HostFault::Stopped, event));
+            return Err((DeskFault::Stopped, event));
         }
-        let Ok(noting) = ready(
-            alloc,
-            &self.host.core,
-            &mut self.journals,
-            &mut self.outboxes,
-            pass,
-            realm,
-            &event,
-        ) else {
+        if !brings_no_party(&event) {
+            return Err((DeskFault::Party, event));
+        }
+        match self.happen(alloc, pass, realm, event, None) {
+            Ok(reply) => Ok(reply),
+            Err((fault, event)) => Err((fault.into(), event)),
+        }
+    }
+
+    /// One event of a realm, which brings nobody, or who was taken out and stands at a place.
+    pub(crate) fn happen(
+        &mut self,
+        alloc: Global,
+        pass: &mut Pass<Entry>,
+        realm: usize,
+        event: Event,
+        back: Option<usize>,
+    ) -> Result<Reply, (HostFault, Event)>
+        requires always { Always }
+        requires brings { BringsAt self.old.books.out realm event back }
+        ensures serves { IfOk result (λ reply. Serves S.stands S.may_leave S.is_true S.faults
+            S.is_due self.old self.new pass.old.noted pass.new.noted realm event reply) }
+        ensures stays { OnErr result (Stays self.old self.new) }
+        ensures pass { OnErr result (pass.new.noted ≡ pass.old.noted) }
+        ensures back { IfErr result (λ fault. fault.1 ≡ event) }
+        ensures out { OnErr result (self.new.books.out ≡ self.old.books.out) }
+        ensures stopped { self.new.host.is_stopped ≡ self.old.host.is_stopped }
+        ensures running { OnOk result (self.old.host.is_stopped ≡ false) }
+        ensures stopping { IfErr result
+            (λ fault. (fault.0 ≡ HostFault.Stopped) ↔ (self.old.host.is_stopped ≡ true)) }
+    {
+        let room = match self.host.room(alloc, realm, &event) {
+            Ok(room) => room,
+            Err(fault) => return Err((fault, event)),
+        };
+        let core = &self.host.core;
+        let Ok(ready) = make_ready(alloc, core, &mut self.books, pass, realm, &event, &room) else {
             return Err((HostFault::Memory, event));
         };
-        match self.host.step(alloc, realm, event) {
-            Ok(happened) => Ok(finish(
-                &mut self.journals,
-                &mut self.outboxes,
-                pass,
-                realm,
-                noting,
-                happened,
-            )),
-            Err(fault) => {
-                drop(noting);
-                Err(fault)
-            }
-        }
+        let happened = self.host.happen(realm, event, room);
+        Ok(finish(&mut self.books, pass, realm, ready, back, happened))
     }
 
     /// The oldest line or closing that waits for a connection is taken out. None waits for a connection of an earlier start.
     pub fn take_out(&mut self, realm: usize, seat: Seat) -> Option<Sent>
         ensures taken { result ≡ (if is_now seat (realm_at self.old.host.core realm)
-            then find (is_for seat.number) (waiting self.old.outboxes realm) else None) }
-        ensures left { waiting self.new.outboxes realm ≡ (if is_now seat
+            then find (is_for seat.number) (waiting self.old.books.outboxes realm) else None) }
+        ensures left { waiting self.new.books.outboxes realm ≡ (if is_now seat
             (realm_at self.old.host.core realm)
-            then without (is_for seat.number) (waiting self.old.outboxes realm)
-            else waiting self.old.outboxes realm) }
+            then without (is_for seat.number) (waiting self.old.books.outboxes realm)
+            else waiting self.old.books.outboxes realm) }
         ensures others { (other : ℕ) → other ≢ realm →
-            waiting self.new.outboxes other ≡ waiting self.old.outboxes other }
-        ensures rest { self.new ≡ record self.old { outboxes = self.new.outboxes } }
+            waiting self.new.books.outboxes other ≡ waiting self.old.books.outboxes other }
+        ensures rest { self.new ≡ record self.old
+            { books = record self.old.books { outboxes = self.new.books.outboxes } } }
     {
         if self.epoch(realm) != Some(seat.epoch) {
             return None;
         }
-        take(&mut self.outboxes, realm, seat.number)
+        take(&mut self.books.outboxes, realm, seat.number)
     }
 
     /// Whether a line may be taken on a connection now.
@@ -188,20 +246,20 @@ impl<S: RowLog + Drop> Desk<S> {
 
     /// Whether the last entry that a pass has of a realm's current epoch stands in the realm's journal.
     pub fn fits(&self, pass: &Pass<Entry>, realm: usize) -> bool
-        ensures { IsTrue result ↔ Fits self.now.journals pass.now.noted realm }
+        ensures { IsTrue result ↔ Fits self.now.books.journals pass.now.noted realm }
     {
-        fits(&self.journals, pass, realm)
+        fits(&self.books.journals, pass, realm)
     }
 
     /// Whether these passes have the entries of all journals, each in one pass, once; and then how many each journal has, by
     /// declaration, then by epoch.
     pub fn audit(&self, alloc: Global, passes: &[Pass<Entry>]) -> Result<Vec<Reported>, AuditFault>
-        ensures audited { OnOk result (AreAudited self.now.journals passes.now) }
-        ensures report { IfOk result (λ report. report.items ≡ report_of self.now.journals) }
+        ensures audited { OnOk result (AreAudited self.now.books.journals passes.now) }
+        ensures report { IfOk result (λ report. report.items ≡ report_of self.now.books.journals) }
         ensures mismatch { result ≡ Err AuditFault.PassMismatch →
-            ¬ AreAudited self.now.journals passes.now }
+            ¬ AreAudited self.now.books.journals passes.now }
     {
-        audit(alloc, &self.journals, passes)
+        audit(alloc, &self.books.journals, passes)
     }
 
     /// From now on each step is refused.
@@ -211,67 +269,26 @@ impl<S: RowLog + Drop> Desk<S> {
         self.host.is_stopped = true;
     }
 
-    /// Ends the desk, stopped or not: all connections, boxes and parties are dropped, which calls their branches, and the store
-    /// comes back with its rows and epochs as they are.
-    pub fn shut(self) -> S
+    /// HONEST RUNS of a desk that ends, stopped or not, whoever came back in whatever order: the journals of each realm are what one
+    /// honest run of its own machine leaves, which leads to its stored rows, as the store has answered; so no transaction of it is half
+    /// committed. All connections, boxes and parties are dropped, which calls their branches, and the store comes back with its rows
+    /// and epochs as they are, and the journals.
+    pub fn shut(self) -> (S, Journals<Opening, Entry>)
         requires { Always }
-        ensures { result ≡ self.host.store }
+        ensures store { result.0 ≡ self.host.store }
+        ensures journals { result.1 ≡ self.books.journals }
+        ensures honest { (place : ℕ) → IfSome (slice_get (bare result.1) place)
+            (IsHonestRun (rows_at self.books.rows place)) }
     {
-        let Desk { host, .. } = self;
-        host.shut()
+        let Desk { host, books } = self;
+        let Books { journals, .. } = books;
+        (host.shut(), journals)
     }
 }
 
-/// All that an event needs before its change is asked of the store.
-fn ready(
-    alloc: Global,
-    core: &Core,
-    journals: &mut Journals<Opening, Entry>,
-    outboxes: &mut Table<Batch>,
-    pass: &mut Pass<Entry>,
-    realm: usize,
-    event: &Event,
-) -> Result<Option<Noting>, AllocError>
-    requires here { (state : State) → realm_at core.now realm ≡ Some state →
-        realm < length journals.old }
-    ensures ready { IfOk result
-        (IsReadyFor event.now (realm_at core.now realm) journals.new pass.new realm) }
-    ensures space { OnOk result (0 < outboxes.new.free) }
-    ensures lines { (place : ℕ) → of outboxes.new place ≡ of outboxes.old place }
-    ensures journals { bare journals.new ≡ bare journals.old }
-    ensures pass { pass.new.noted ≡ pass.old.noted }
+/// Whether an event brings no party back.
+fn brings_no_party(event: &Event) -> bool
+    ensures { result ≡ brings_no_party event.now }
 {
-    outboxes.reserve()?;
-    prepare(alloc, core, journals, pass, realm, event)
-}
-
-/// What an event came to is entered, and its lines wait.
-fn finish(
-    journals: &mut Journals<Opening, Entry>,
-    outboxes: &mut Table<Batch>,
-    pass: &mut Pass<Entry>,
-    realm: usize,
-    noting: Option<Noting>,
-    happened: Happened,
-) -> Reply
-    requires always { Always }
-    requires room { is_some noting ≡ true → (0 < room journals.old realm) × (0 < pass.old.free) }
-    requires few { is_some noting ≡ true → last_number journals.old realm + 1 < 2 ^ 32 }
-    requires space { 0 < outboxes.old.free }
-    ensures is { IsOf result happened.answer }
-    ensures change { result.change ≡ happened.change }
-    ensures outcome { result.outcome ≡ happened.outcome }
-    ensures lines { waiting outboxes.new realm
-        ≡ waiting outboxes.old realm ++ happened.answer.sent }
-    ensures others { (other : ℕ) → other ≢ realm →
-        waiting outboxes.new other ≡ waiting outboxes.old other }
-    ensures enters { (event : AnEvent) → AreOf event noting →
-        Enters (is_some noting) (bare journals.old) (bare journals.new) pass.old.noted
-        pass.new.noted realm (record { event = event; outcome = happened.outcome })
-        result.entry }
-{
-    let entry = enter(journals, pass, realm, noting, happened.outcome);
-    let (reply, lines) = Reply::of(happened, entry);
-    send(outboxes, realm, lines);
-    reply
+    !matches!(event, Event::Voted(_) | Event::Settled(_))
 }

@@ -9,12 +9,11 @@ ghost use Rattle.tip_machine.specs.Types.{Event as AnEvent};
 ghost use Rattle.tip_desk.specs.Entries.{Enters, bare, takes_entry};
 ghost use Rattle.tip_desk.specs.Notings.{AreOf};
 
-use crate::badges::Badges;
-use crate::entry::{Entry, plain};
 use crate::opening::Opening;
 use std::alloc::{AllocError, Global};
 use tip_branch::PartyNote;
 use tip_core::Core;
+use tip_honest::{Badges, Entry, plain};
 use tip_journal::{Journals, Noted, Pass};
 use tip_machine::{Event, Head, Outcome};
 

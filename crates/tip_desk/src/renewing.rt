@@ -1,31 +1,33 @@
 //! A realm that starts again at a desk while the others run.
-ghost use Rattle.std.specs.Prelude.{◌≡◌, ◌≢◌, ◌↔◌, ◌+◌, ◌<◌, ◌≤◌, ◌-◌, ◌==◌, ℕ, if◌then◌else◌, slice_get, true, false, [], Err, None, Some, length, map, IfErr, IfOk, IsSomeAnd, OnErr, OnOk, vec_capacity, vec_len};
+ghost use Rattle.std.specs.Prelude.{◌≡◌, ◌≢◌, ◌↔◌, ◌+◌, ◌<◌, ◌≤◌, ◌-◌, ◌==◌, ℕ, if◌then◌else◌, slice_get, true, false, [], Err, None, Some, length, map, IfErr, IfOk, IsSomeAnd, IsTrue, OnErr, OnOk, vec_capacity, vec_len};
 ghost use Rattle.tip_branch.specs.Always.{Always};
 ghost use Rattle.tip_core.specs.Hosted.{HaveNames, realm as realm_at};
 ghost use Rattle.tip_host.specs.Loading.{Goes, IsRead, Never, Stays as ReadsAlone};
-ghost use Rattle.tip_host.specs.Renewing.{IsReasonToDoubt, IsReasonToRenew, IsRenewed, Rises, was_refused};
+ghost use Rattle.tip_honest.specs.Honesty.{are_boxed};
+ghost use Rattle.tip_host.specs.Renewing.{IsReasonToDoubt, IsRenewed, Rises, was_refused};
 ghost use Rattle.tip_host.specs.declared.renewing.RenewFault.TheVariants.{NoRealm, Stopped};
 ghost use Rattle.tip_journal.specs.Journal.{begun};
-ghost use Rattle.tip_journal.specs.Journals.{current, renewed};
+ghost use Rattle.tip_journal.specs.Journals.{IsWithdrawable, changed_at, current, renewed, without_last};
 ghost use Rattle.tip_machine.specs.States.{State};
 ghost use Rattle.tip_machine.specs.Types.{seen};
-ghost use Rattle.tip_recovery.specs.Adopting.{loaded};
+ghost use Rattle.tip_kept.specs.Keeping.{rows_at};
+ghost use Rattle.tip_recovery.specs.Adopting.{are_adopted, loaded, stored_of};
 ghost use Rattle.std.specs.Option.{option_and_then};
-ghost use Rattle.tip_rows.specs.Logs.{Log, last_epoch};
+ghost use Rattle.tip_rows.specs.Logs.{Log, is_rising, last_epoch};
 ghost use Rattle.tip_table.specs.Kept.{capacity, of};
 ghost use Rattle.tip_desk.specs.Entries.{bare};
-ghost use Rattle.tip_desk.specs.Renewals.{AreKeptBut, IsReady, next_epoch};
+ghost use Rattle.tip_desk.specs.Books.{out_of};
+ghost use Rattle.tip_desk.specs.Renewals.{AreKeptBut, IsReady, IsReason, next_epoch};
 ghost use Rattle.tip_desk.specs.Outboxes.{waiting};
 
 use crate::batch::Batch;
+use crate::books::Books;
 use crate::desk::Desk;
-use crate::entry::Entry;
 use crate::opening::Opening;
 use std::alloc::{AllocError, Global};
 use std::mem::replace;
 use tip_core::Left;
 use tip_host::RenewFault;
-use tip_journal::Journals;
 use tip_machine::next_epoch;
 use tip_recovery::Recovery;
 use tip_rows::RowLog;
@@ -62,8 +64,8 @@ impl<S: RowLog + Drop> Desk<S> {
     }
 
     /// A realm starts again while the others run, by what `doubts` said of it, once boxes were adopted for its rows. Its journal
-    /// ends, and is kept; the next one begins with these rows and boxes. What waited to go out on its connections is gone. Where it
-    /// is refused all is as it was.
+    /// ends, and is kept; the next one begins with these rows and boxes. What waited to go out on its connections is gone; its parties
+    /// that are out stay out. It is refused by rows that are not its stored ones, word for word. Where it is refused all is as it was.
     pub fn renew(
         &mut self,
         alloc: Global,
@@ -84,19 +86,25 @@ impl<S: RowLog + Drop> Desk<S> {
         ensures transactions { (state : State) → realm_at self.old.host.core realm ≡ Some state →
             IfOk result (λ left. map seen left.transactions.items ≡ state.transactions) }
         ensures journal { (state : State) → realm_at self.old.host.core realm ≡ Some state →
-            OnOk result (bare self.new.journals ≡ renewed realm
+            OnOk result (bare self.new.books.journals ≡ renewed realm
             (begun (state.head.epoch + 1) (map loaded recovery.rows))
-            (bare self.old.journals)) }
-        ensures lines { OnOk result (waiting self.new.outboxes realm ≡ []) }
+            (bare self.old.books.journals)) }
+        ensures lines { OnOk result (waiting self.new.books.outboxes realm ≡ []) }
         ensures others { AreKeptBut realm self.old self.new }
         ensures same { IfErr result (λ fault. (place : ℕ) →
             realm_at self.new.host.core place ≡ realm_at self.old.host.core place) }
-        ensures still { OnErr result ((bare self.new.journals ≡ bare self.old.journals)
-            × (self.new.outboxes ≡ self.old.outboxes)) }
+        ensures still { OnErr result ((bare self.new.books.journals ≡ bare self.old.books.journals)
+            × (self.new.books.outboxes ≡ self.old.books.outboxes)) }
         ensures back { IfErr result (λ fault. fault.1 ≡ recovery) }
+        ensures stored { OnOk result
+            (rows_at self.old.books.rows realm ≡ stored_of recovery.rows) }
+        ensures kept { (place : ℕ) →
+            rows_at self.new.books.rows place ≡ rows_at self.old.books.rows place }
+        ensures out { (place : ℕ) → out_of self.new.books place ≡ out_of self.old.books place }
         ensures reason { (log : Log) (state : State) → S.stands self.old.host.store log →
             realm_at self.old.host.core realm ≡ Some state → S.is_true self.new.host.store →
-            IfErr result (λ fault. IsReasonToRenew log state recovery fault.0) }
+            IfErr result (λ fault.
+            IsReason log state (rows_at self.old.books.rows realm) recovery fault.0) }
         ensures here { OnOk result (realm_at self.old.host.core realm ≢ None) }
         ensures nowhere { realm_at self.old.host.core realm ≡ None →
             self.old.host.is_stopped ≡ false → IfErr result (λ fault. fault.0 ≡ NoRealm) }
@@ -108,23 +116,19 @@ impl<S: RowLog + Drop> Desk<S> {
         let Some(epoch) = self.next_epoch(realm) else {
             return self.host.renew(alloc, realm, recovery);
         };
-        let Ok(clearing) = begin(
-            alloc,
-            &mut self.journals,
-            &self.outboxes,
-            realm,
-            epoch,
-            &recovery,
-        ) else {
+        if !are_stored(&self.books, realm, &recovery) {
+            return Err((RenewFault::NotInDoubt, recovery));
+        }
+        let Ok(clearing) = begin(alloc, &mut self.books, realm, epoch, &recovery) else {
             return Err((RenewFault::Memory, recovery));
         };
         match self.host.renew(alloc, realm, recovery) {
             Ok(left) => {
-                clear(alloc, &mut self.outboxes, realm, clearing);
+                clear(alloc, &mut self.books, realm, clearing);
                 Ok(left)
             }
             Err(fault) => {
-                self.journals.withdraw(realm);
+                withdraw(&mut self.books, realm);
                 Err(fault)
             }
         }
@@ -142,33 +146,67 @@ impl<S: RowLog + Drop> Desk<S> {
     }
 }
 
+/// Whether these are the stored rows of a realm, word for word.
+pub(crate) fn are_stored(books: &Books, realm: usize, recovery: &Recovery) -> bool
+    requires { Always }
+    ensures same { IsTrue result ↔ (rows_at books.now.rows realm ≡ stored_of recovery.now.rows) }
+    ensures rising { is_rising (stored_of recovery.now.rows) ≡ true }
+{
+    books.rows.are(realm, recovery.rows())
+}
+
 /// A realm's next journal begins, and its outboxes can be cleared. Without memory all is as before.
 fn begin(
     alloc: Global,
-    journals: &mut Journals<Opening, Entry>,
-    outboxes: &Table<Batch>,
+    books: &mut Books,
     realm: usize,
     epoch: u32,
     recovery: &Recovery,
 ) -> Result<Clearing, AllocError>
     requires always { Always }
-    requires later { IsSomeAnd (current journals.old realm) (λ journal. journal.epoch < epoch) }
-    ensures begun { OnOk result
-        (journals.new ≡ renewed realm (begun epoch (map loaded recovery.now.rows)) journals.old) }
-    ensures same { OnErr result (journals.new ≡ journals.old) }
-    ensures ready { IfOk result (IsReady outboxes.now realm) }
+    requires later { IsSomeAnd (current books.old.journals realm)
+        (λ journal. journal.epoch < epoch) }
+    ensures begun { OnOk result (books.new.journals
+        ≡ renewed realm (begun epoch (map loaded recovery.now.rows)) books.old.journals) }
+    ensures boxed { are_adopted recovery.now.rows ≡ true →
+        OnOk result (are_boxed (map loaded recovery.now.rows) ≡ true) }
+    ensures same { OnErr result (books.new.journals ≡ books.old.journals) }
+    ensures rest { books.new ≡ record books.old { journals = books.new.journals } }
+    ensures ready { IfOk result (IsReady books.old.outboxes realm) }
 {
     let clearing = Clearing {
-        spare: outboxes.with_room(alloc, 0)?,
-        left: Vec::with_capacity(alloc, outboxes.count(realm))?,
+        spare: books.outboxes.with_room(alloc, 0)?,
+        left: Vec::with_capacity(alloc, books.outboxes.count(realm))?,
     };
     let opening = Opening::of(alloc, recovery.rows())?;
-    journals.renew(alloc, realm, epoch, opening)?;
+    books.journals.renew(alloc, realm, epoch, opening)?;
     Ok(clearing)
 }
 
 /// What waits in a realm is gone.
-fn clear(alloc: Global, outboxes: &mut Table<Batch>, realm: usize, clearing: Clearing)
+fn clear(alloc: Global, books: &mut Books, realm: usize, clearing: Clearing)
+    requires always { Always }
+    requires ready { IsReady books.old.outboxes realm clearing }
+    ensures own { of books.new.outboxes realm ≡ [] }
+    ensures others { (other : ℕ) → other ≢ realm →
+        of books.new.outboxes other ≡ of books.old.outboxes other }
+    ensures rest { books.new ≡ record books.old { outboxes = books.new.outboxes } }
+{
+    clear_lines(alloc, &mut books.outboxes, realm, clearing);
+}
+
+/// A realm's last journal, which has no entry, is gone.
+fn withdraw(books: &mut Books, realm: usize)
+    requires always { Always }
+    requires last { IsSomeAnd (slice_get books.old.journals realm) IsWithdrawable }
+    ensures { books.new ≡ record books.old
+        { journals = changed_at realm without_last books.old.journals } }
+{
+    books.journals.withdraw(realm);
+}
+
+/// The lines of a realm are gone.
+fn clear_lines(alloc: Global, outboxes: &mut Table<Batch>, realm: usize, clearing: Clearing)
     requires { IsReady outboxes.old realm clearing }
     ensures own { of outboxes.new realm ≡ [] }
     ensures others { (other : ℕ) → other ≢ realm → of outboxes.new other ≡ of outboxes.old other }

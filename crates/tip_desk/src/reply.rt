@@ -8,7 +8,7 @@ use tip_core::Happened;
 use tip_line::Refusal;
 use tip_machine::{Answer, Change, Outcome, Seat, SentLines};
 
-/// What an event came to, but for the lines, which wait in the outboxes.
+/// What an event came to, but for the lines, which wait in the outboxes, and the party that goes out, which waits to be taken.
 #[derive(Drop)]
 pub struct Reply<B = HeldFresh, P = HeldParty> {
     /// Why nothing was done, if so.
@@ -19,8 +19,6 @@ pub struct Reply<B = HeldFresh, P = HeldParty> {
     pub change: Option<Change>,
     /// What became of the change.
     pub outcome: Outcome,
-    /// A party that is to carry out its errand and to be handed back.
-    pub work: Option<P>,
     /// A party that is to be let go where nothing waits for the desk: its active branches are rolled back.
     pub spent: Option<P>,
     /// Boxes that no transaction took.
@@ -30,14 +28,18 @@ pub struct Reply<B = HeldFresh, P = HeldParty> {
 }
 
 impl Reply<HeldFresh, HeldParty> {
-    /// What an event came to whose entry has this number, and what it sends out.
-    pub(crate) fn of(happened: Happened, entry: Option<u32>) -> (Reply, SentLines)
+    /// What an event came to whose entry has this number, its lines, and the party that goes out.
+    pub(crate) fn of(
+        happened: Happened,
+        entry: Option<u32>,
+    ) -> (Reply, SentLines, Option<HeldParty>)
         requires { Always }
         ensures is { IsOf result.0 happened.answer }
         ensures change { result.0.change ≡ happened.change }
         ensures outcome { result.0.outcome ≡ happened.outcome }
         ensures entry { result.0.entry ≡ entry }
         ensures lines { result.1 ≡ happened.answer.sent }
+        ensures work { result.2 ≡ happened.answer.work }
     {
         let Happened {
             change,
@@ -58,11 +60,10 @@ impl Reply<HeldFresh, HeldParty> {
             opened,
             change,
             outcome,
-            work,
             spent,
             unused,
             entry,
         };
-        (reply, sent)
+        (reply, sent, work)
     }
 }

@@ -2,10 +2,16 @@
 use Rattle.std.specs.Prelude.{◌≡◌, ◌≢◌, ◌⊎◌, ℕ, List, Bool, IsTrue, true, false, ◌&&◌, Option, Some, None, if◌then◌else◌}
 use Rattle.std.specs.Str.{bytes_eq}
 use Rattle.tip_rows.specs.Logs.{Log, IsSettled, counted, with_row, without_row}
+use Rattle.tip_machine.specs.States.{State}
+use Rattle.tip_machine.specs.Steps.{fits, wants}
+use Rattle.tip_machine.specs.Types.{Answer, Event}
 use Rattle.tip_machine.specs.declared.event.Change.{Change}
 use Rattle.tip_machine.specs.declared.event.Change.TheVariants.{Put, Remove}
 use Rattle.tip_machine.specs.declared.event.Outcome.{Outcome}
 use Rattle.tip_machine.specs.declared.event.Outcome.TheVariants.{NoChange, Stored, Refused}
+use Rattle.tip_core.specs.Hosted.{HaveNames, Hosted, Steps, realm}
+use Rattle.tip_core.specs.declared.happened.Happened as happenings
+use Rattle.tip_host.specs.declared.host.Host as hosts
 
 -- the log with a change of a realm's rows
 abbrev pub with_change : List ℕ → Change → Log → Log
@@ -37,3 +43,19 @@ pub record Keeps {S : Type 0} (stands may_leave : S → Log → Type 0) (is_true
   -- a refusal that was asked for comes at the realm's next change
   pub due : IsTrue (is_due old realm) → outcome ≢ Stored
   pub spent : (other : List ℕ) → is_due new other ≡ (if is_change change && bytes_eq realm other then false else is_due old other)
+
+abbrev pub Host : Type 0 → Type 0
+Host S = hosts.Host S Hosted
+
+abbrev pub Happened : Type 0
+Happened = happenings.Happened Answer
+
+-- WHAT ONE EVENT DOES TO A HOST: the realm at its place goes by its own machine, with what became of the change that it wanted, and
+-- the store keeps that change alone
+pub record Happens {S : Type 0} (stands may_leave : S → Log → Type 0) (is_true : S → Type 0) (faults : S → ℕ) (is_due : S → List ℕ → Bool) (old new : Host S) (place : ℕ) (event : Event) (happened : Happened) : Type 0 where
+  pub steps : Steps old.core new.core place event happened.outcome happened.answer
+  pub wanted : (state : State) → realm old.core place ≡ Some state → happened.change ≡ wants state event
+  pub absent : realm old.core place ≡ None → (happened.change ≡ None) × (new.store ≡ old.store)
+  pub fits : fits happened.change happened.outcome ≡ true
+  pub keeps : (state : State) → realm old.core place ≡ Some state → Keeps stands may_leave is_true faults is_due state.head.name happened.change happened.outcome old.store new.store
+  pub names : HaveNames new.core

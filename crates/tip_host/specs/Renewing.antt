@@ -4,7 +4,7 @@ use Rattle.tip_machine.specs.Moves.{risen}
 use Rattle.tip_machine.specs.Recovery.{restarted}
 use Rattle.tip_machine.specs.States.{State}
 use Rattle.tip_recovery.specs.Adopting.{Recovery, are_adopted, loaded}
-use Rattle.tip_recovery.specs.Renewing.{is_read_again, taking_all}
+use Rattle.tip_recovery.specs.Renewing.{is_read_again}
 use Rattle.tip_rows.specs.Logs.{Log, IsAtEnd, IsSpent, counted, last_epoch, with_raised}
 use Rattle.tip_rows.specs.declared.log.RaiseFault.{RaiseFault}
 use Rattle.tip_rows.specs.declared.log.RaiseFault.TheVariants as raise
@@ -61,7 +61,7 @@ pub record Rises {S T F : Type 0} (stands may_leave : S → Log → Type 0) (is_
   pub due : (log : Log) → stands old log → Spends why result realm (is_due old) (is_due new)
 
 -- A REALM THAT IS RENEWED by rows that were read of it, with the boxes that were adopted for them: as recovery makes it in its
--- next epoch, of what is stored
+-- next epoch. What is stored was read once more, and is the same
 pub record IsRenewed {S : Type 0} (stands : S → Log → Type 0) (is_true : S → Type 0) (recovery : Recovery) (state : State) (old new : S) (now : Option State) : Type 0 where
   pub fresh : Recovery
   pub epoch : fresh.epoch ≡ state.head.epoch
@@ -69,7 +69,7 @@ pub record IsRenewed {S : Type 0} (stands : S → Log → Type 0) (is_true : S �
   pub again : is_read_again recovery fresh ≡ true
   pub adopted : are_adopted recovery.rows ≡ true
   pub read : (log : Log) → stands old log → is_true new → IsRead log state.head.name fresh
-  pub state_is : now ≡ Some (restarted (risen state.head) (map loaded (taking_all recovery.rows fresh.rows)))
+  pub state_is : now ≡ Some (restarted (risen state.head) (map loaded recovery.rows))
 
 -- the reason why what is stored of a realm was not read
 abbrev pub IsReasonToDoubt : Log → RenewFault → Type 0

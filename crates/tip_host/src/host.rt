@@ -1,16 +1,16 @@
 //! The core of all realms over a store of their rows.
-ghost use Rattle.std.specs.Prelude.{◌≡◌, ◌↔◌, ℕ, None, Some, true, false, IfOk, IfErr};
+ghost use Rattle.std.specs.Prelude.{◌≡◌, ◌↔◌, ℕ, None, Some, true, false, IfOk, IfErr, OnOk};
 ghost use Rattle.tip_branch.specs.Always.{Always};
-ghost use Rattle.tip_core.specs.Hosted.{realm as realm_at, HaveNames, Steps};
+ghost use Rattle.tip_core.specs.Hosted.{realm as realm_at, HaveNames, IsRoomFor, Steps};
 ghost use Rattle.tip_machine.specs.States.{State};
 ghost use Rattle.tip_machine.specs.Steps.{fits, wants};
-ghost use Rattle.tip_host.specs.Keeping.{Keeps};
+ghost use Rattle.tip_host.specs.Keeping.{Happens, Keeps};
 ghost use Rattle.tip_host.specs.declared.host.HostFault.TheVariants.{Stopped};
 
 use crate::keeping::keep;
-use std::alloc::Global;
+use std::alloc::{AllocError, Global};
 use thiserror::Error;
-use tip_core::{Core, Happened};
+use tip_core::{Core, Happened, Room};
 use tip_machine::{Event, Outcome};
 use tip_rows::RowLog;
 
@@ -21,6 +21,16 @@ pub enum HostFault {
     Stopped,
     #[error("out of memory")]
     Memory,
+}
+
+impl From<AllocError> for HostFault {
+    ghost use Rattle.tip_host.specs.declared.host.HostFault.TheVariants.{Memory};
+
+    ghost from_gives = { λ _ fault. fault ≡ Memory };
+
+    fn from(_: AllocError) -> HostFault {
+        HostFault::Memory
+    }
 }
 
 /// All realms, each by its place in the order of declaration, and the store of their rows.
@@ -46,8 +56,41 @@ impl<S: RowLog> Host<S, Core> {
         }
     }
 
-    /// One event of one realm: the change that it wants is asked of the store, at most one; then its realm goes on by what
-    /// became of it. A fault hands the event back, and nothing has happened.
+    /// All the memory that an event of a realm takes. After it nothing can be wanting, and nothing has happened yet.
+    pub fn room(&mut self, alloc: Global, realm: usize, event: &Event) -> Result<Room, HostFault>
+        requires { Always }
+        ensures room { IfOk result (IsRoomFor self.new.core realm event.now) }
+        ensures store { self.new.store ≡ self.old.store }
+        ensures realms { (place : ℕ) → realm_at self.new.core place ≡ realm_at self.old.core place }
+        ensures stopped { self.new.is_stopped ≡ self.old.is_stopped }
+        ensures running { OnOk result (self.old.is_stopped ≡ false) }
+        ensures stopping { IfErr result
+            (λ fault. (fault ≡ Stopped) ↔ (self.old.is_stopped ≡ true)) }
+    {
+        if self.is_stopped {
+            return Err(HostFault::Stopped);
+        }
+        Ok(self.core.room(alloc, realm, event)?)
+    }
+
+    /// One event of one realm, in the room that was made for it: the change that it wants is asked of the store, at most one;
+    /// then its realm goes on by what became of it. It takes no memory.
+    pub fn happen(&mut self, realm: usize, event: Event, room: Room) -> Happened
+        requires always { Always }
+        requires room { IsRoomFor self.old.core realm event room }
+        ensures happens { Happens S.stands S.may_leave S.is_true S.faults S.is_due self.old self.new
+            realm event result }
+        ensures change { result.change ≡ room.change }
+        ensures stopped { self.new.is_stopped ≡ self.old.is_stopped }
+    {
+        let outcome = match self.core.name(realm) {
+            Some(name) => keep(&mut self.store, name, room.wants()),
+            None => Outcome::NoChange,
+        };
+        self.core.apply(realm, event, room, outcome)
+    }
+
+    /// Room is made for one event of one realm, and it happens. A fault hands the event back, and nothing has happened.
     pub fn step(
         &mut self,
         alloc: Global,
@@ -76,18 +119,10 @@ impl<S: RowLog> Host<S, Core> {
         ensures stopping { IfErr result
             (λ fault. (fault.0 ≡ Stopped) ↔ (self.old.is_stopped ≡ true)) }
     {
-        if self.is_stopped {
-            return Err((HostFault::Stopped, event));
+        match self.room(alloc, realm, &event) {
+            Ok(room) => Ok(self.happen(realm, event, room)),
+            Err(fault) => Err((fault, event)),
         }
-        let room = match self.core.room(alloc, realm, &event) {
-            Ok(room) => room,
-            Err(_) => return Err((HostFault::Memory, event)),
-        };
-        let outcome = match self.core.name(realm) {
-            Some(name) => keep(&mut self.store, name, room.wants()),
-            None => Outcome::NoChange,
-        };
-        Ok(self.core.apply(realm, event, room, outcome))
     }
 
     /// From now on each step is refused.

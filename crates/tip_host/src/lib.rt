@@ -14,4 +14,4 @@ pub use loading::LoadFault;
 pub use realm_spec::{BadRealm, RealmSpec};
 pub use recovering::{Recovering, Unadopted};
 pub use renewing::RenewFault;
-pub use work::{are_untold, done};
+pub use work::{Returned, Work, are_untold, done};

@@ -6,7 +6,7 @@ ghost use Rattle.tip_machine.specs.Heads.{is_other, starting};
 ghost use Rattle.tip_machine.specs.States.{started};
 ghost use Rattle.tip_core.specs.Hosted.{realm as realm_at};
 ghost use Rattle.tip_host.specs.Recovering.{HaveBegun, count_rows};
-ghost use Rattle.tip_rows.specs.Logs.{IsAtEnd, IsSettled, Log};
+ghost use Rattle.tip_rows.specs.Logs.{IsAtEnd, IsSettled, Log, is_rising};
 ghost use Rattle.tip_host.specs.Loading.{AreKnown, AreOpened, AreRead, AreTheirs, Goes, Loads, IsIts, IsKnown, IsOnTheWay, IsRead, IsReason, IsReasonToRead, Never, Stays, is_refusal_to_load, are_hostable, is_bad_realm, known_all, names_differ, names_of, opened, refused_by, spec_of, starts_of};
 
 use crate::host::Host;
@@ -18,7 +18,7 @@ use tip_core::{Core, StartFault, Starts};
 use tip_line::Realm;
 use tip_machine::Start;
 use tip_recovery::Recovery;
-use tip_rows::{RaiseFault, Refused, RowLog};
+use tip_rows::{Key, RaiseFault, Refused, Row, RowLog};
 
 /// How many realms a host may have.
 const MOST_REALMS: usize = 64;
@@ -165,7 +165,17 @@ pub(crate) fn read<S: RowLog>(
     if loaded.epoch == 0 {
         return Err(LoadFault::BadRow);
     }
+    if !are_rising(&loaded.rows) {
+        return Err(LoadFault::BadRow);
+    }
     Ok(Recovery::of(alloc, name.copy()?, loaded, Vec::new(alloc))?)
+}
+
+/// Whether each of these rows comes before the next, by its key.
+fn are_rising(rows: &[(Key, Row)]) -> bool
+    ensures { result ≡ is_rising rows.now }
+{
+    rows.is_sorted_by(|row, next| row.0.comes_before(next.0))
 }
 
 /// What is stored of each realm.

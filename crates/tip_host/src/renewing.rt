@@ -7,8 +7,8 @@ ghost use Rattle.tip_machine.specs.Moves.{risen};
 ghost use Rattle.tip_machine.specs.Recovery.{restarted};
 ghost use Rattle.tip_machine.specs.States.{State};
 ghost use Rattle.tip_machine.specs.Types.{seen};
-ghost use Rattle.tip_recovery.specs.Adopting.{are_adopted, loaded};
-ghost use Rattle.tip_recovery.specs.Renewing.{is_read_again, taking_all};
+ghost use Rattle.tip_recovery.specs.Adopting.{Recovery as Reading, are_adopted, loaded};
+ghost use Rattle.tip_recovery.specs.Renewing.{is_read_again};
 ghost use Rattle.tip_rows.specs.Logs.{Log, IsSettled, last_epoch};
 ghost use Rattle.tip_host.specs.Loading.{Goes, IsRead, Never, Stays};
 ghost use Rattle.tip_host.specs.Renewing.{IsReasonToDoubt, IsReasonToRenew, IsRenewed, Rises, renew_fault_of, was_refused};
@@ -147,18 +147,18 @@ impl<S: RowLog> Host<S, Core> {
         ensures stopped { self.new.is_stopped ≡ self.old.is_stopped }
     {
         match self.prepare(alloc, realm, &recovery) {
-            Ok((fresh, room)) => self.renew_by(realm, recovery, fresh, room),
+            Ok(room) => self.renew_by(realm, recovery, room),
             Err(fault) => Err((fault, recovery)),
         }
     }
 
-    /// Reads once more what is stored of the realm, and makes room for it to start again.
+    /// Reads once more what is stored of the realm, which must be what was read before, and makes room for it to start again.
     fn prepare(
         &mut self,
         alloc: Global,
         realm: usize,
         recovery: &Recovery,
-    ) -> Result<(Recovery, Parting), RenewFault>
+    ) -> Result<Parting, RenewFault>
         requires { Always }
         ensures store { Goes S.stands S.may_leave S.is_true S.faults S.is_due
             (was_refused (λ fault. fault) result) Stays Never self.old.store self.new.store }
@@ -167,18 +167,18 @@ impl<S: RowLog> Host<S, Core> {
         ensures running { OnOk result (self.old.is_stopped ≡ false) }
         ensures here { OnOk result (realm_at self.old.core realm ≢ None) }
         ensures absent { realm_at self.old.core realm ≡ None → self.new.store ≡ self.old.store }
-        ensures read { (log : Log) (state : State) → S.stands self.old.store log →
-            realm_at self.old.core realm ≡ Some state → S.is_true self.new.store →
-            IfOk result (λ ready. IsRead log state.head.name ready.0) }
+        ensures read { (state : State) → realm_at self.old.core realm ≡ Some state →
+            OnOk result ((fresh : Reading) × (fresh.epoch ≡ state.head.epoch)
+            × (is_read_again recovery.now fresh ≡ true)
+            × ((log : Log) → S.stands self.old.store log → S.is_true self.new.store →
+            IsRead log state.head.name fresh)) }
         ensures named { (state : State) → realm_at self.old.core realm ≡ Some state →
-            IfOk result (λ ready. ready.0.realm ≡ state.head.name) }
-        ensures epoch { (state : State) → realm_at self.old.core realm ≡ Some state →
-            IfOk result
-            (λ ready. (ready.0.epoch ≡ state.head.epoch) × (state.head.epoch < last_epoch)) }
-        ensures again { IfOk result (λ ready. is_read_again recovery.now ready.0 ≡ true) }
+            OnOk result (recovery.now.realm ≡ state.head.name) }
+        ensures epoch { (state : State) → realm_at self.old.core realm ≡ Some state → OnOk result
+            ((recovery.now.epoch ≡ state.head.epoch) × (state.head.epoch < last_epoch)) }
         ensures adopted { OnOk result (are_adopted recovery.now.rows ≡ true) }
-        ensures room { IfOk result (λ ready. HasRoom self.old.core.connections
-            self.old.core.transactions realm (length ready.0.rows) ready.1) }
+        ensures room { IfOk result (HasRoom self.old.core.connections
+            self.old.core.transactions realm (length recovery.now.rows)) }
         ensures reason { (log : Log) (state : State) → S.stands self.old.store log →
             realm_at self.old.core realm ≡ Some state → S.is_true self.new.store →
             IfErr result (IsReasonToRenew log state recovery.now) }
@@ -204,32 +204,32 @@ impl<S: RowLog> Host<S, Core> {
         if !recovery.is_adopted() {
             return Err(RenewFault::Unadopted);
         }
-        let room = self.core.room_to_renew(alloc, realm, fresh.rows().len())?;
-        Ok((fresh, room))
+        let room = self
+            .core
+            .room_to_renew(alloc, realm, recovery.rows().len())?;
+        Ok(room)
     }
 
-    /// The realm's epoch rises, and it starts again by its rows, which have the boxes that were adopted for the earlier reading.
+    /// The realm's epoch rises, and it starts again by its rows.
     fn renew_by(
         &mut self,
         realm: usize,
         recovery: Recovery,
-        fresh: Recovery,
         room: Parting,
     ) -> Result<Left, (RenewFault, Recovery)>
         requires always { Always }
         requires here { (state : State) × (realm_at self.old.core realm ≡ Some state)
-            × (fresh.realm ≡ state.head.name) × (fresh.epoch ≡ state.head.epoch)
+            × (recovery.realm ≡ state.head.name) × (recovery.epoch ≡ state.head.epoch)
             × (state.head.epoch < last_epoch) }
-        requires again { is_read_again recovery fresh ≡ true }
         requires adopted { are_adopted recovery.rows ≡ true }
         requires room { HasRoom self.old.core.connections self.old.core.transactions realm
-            (length fresh.rows) room }
+            (length recovery.rows) room }
         ensures store { (state : State) → realm_at self.old.core realm ≡ Some state →
             Rises S.stands S.may_leave S.is_true S.faults S.is_due (λ fault. fault.0)
             state.head.name result self.old.store self.new.store }
         ensures renewed { (state : State) → realm_at self.old.core realm ≡ Some state →
-            IfOk result (λ left. realm_at self.new.core realm ≡ Some (restarted (risen state.head)
-            (map loaded (taking_all recovery.rows fresh.rows)))) }
+            IfOk result (λ left. realm_at self.new.core realm
+            ≡ Some (restarted (risen state.head) (map loaded recovery.rows))) }
         ensures connections { (state : State) → realm_at self.old.core realm ≡ Some state →
             IfOk result (λ left. left.connections.items ≡ state.connections) }
         ensures transactions { (state : State) → realm_at self.old.core realm ≡ Some state →
@@ -250,31 +250,23 @@ impl<S: RowLog> Host<S, Core> {
             return Err((RenewFault::NoRealm, recovery));
         };
         match self.store.raise_epoch(name) {
-            Ok(()) => Ok(start_again(&mut self.core, realm, recovery, fresh, room)),
+            Ok(()) => Ok(start_again(&mut self.core, realm, recovery, room)),
             Err(fault) => Err((fault.into(), recovery)),
         }
     }
 }
 
-/// A realm starts again in its next epoch, by rows that have the boxes that were adopted for their earlier reading.
-fn start_again(
-    core: &mut Core,
-    realm: usize,
-    recovery: Recovery,
-    mut fresh: Recovery,
-    room: Parting,
-) -> Left
+/// A realm starts again in its next epoch, by these rows.
+fn start_again(core: &mut Core, realm: usize, mut recovery: Recovery, room: Parting) -> Left
     requires always { Always }
     requires here { (state : State) × (realm_at core.old realm ≡ Some state)
-        × (fresh.realm ≡ state.head.name) × (fresh.epoch ≡ state.head.epoch)
+        × (recovery.realm ≡ state.head.name) × (recovery.epoch ≡ state.head.epoch)
         × (state.head.epoch < last_epoch) }
-    requires again { is_read_again recovery fresh ≡ true }
     requires adopted { are_adopted recovery.rows ≡ true }
-    requires room { HasRoom core.old.connections core.old.transactions realm (length fresh.rows)
+    requires room { HasRoom core.old.connections core.old.transactions realm (length recovery.rows)
         room }
-    ensures own { (state : State) → realm_at core.old realm ≡ Some state →
-        realm_at core.new realm ≡ Some
-        (restarted (risen state.head) (map loaded (taking_all recovery.rows fresh.rows))) }
+    ensures own { (state : State) → realm_at core.old realm ≡ Some state → realm_at core.new realm
+        ≡ Some (restarted (risen state.head) (map loaded recovery.rows)) }
     ensures others { (other : ℕ) → other ≢ realm →
         realm_at core.new other ≡ realm_at core.old other }
     ensures connections { (state : State) → realm_at core.old realm ≡ Some state →
@@ -283,7 +275,6 @@ fn start_again(
         map seen result.transactions.items ≡ state.transactions }
     ensures named { HaveNames core.new }
 {
-    fresh.take_boxes(recovery);
-    fresh.raise();
-    core.renew(realm, fresh, room)
+    recovery.raise();
+    core.renew(realm, recovery, room)
 }

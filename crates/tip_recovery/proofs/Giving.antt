@@ -1,20 +1,21 @@
 -- Each of a list takes what stands at its place in another, one after another.
 use Rattle.std.proofs.Common.{◌≡◌, ℕ, zero, suc, ◌+◌, ◌<◌, Bool, true, false, List, [], ◌∷◌, ◌++◌, append_assoc, Some, drop, get_or, length, map, refl, ap, arith, sym, ◌∙◌}
-use Rattle.std.specs.Prelude.{◌&&◌, ◌==◌, is_none, not, slice_get, slice_set}
+use Rattle.std.specs.Prelude.{◌&&◌, slice_get, slice_set}
 use Rattle.std.proofs.lemmas.Bool.{and_parts}
-use Rattle.std.proofs.lemmas.Bool.Decides.{nat_tests}
 use Rattle.std.proofs.lemmas.List.{append-nil}
 use Rattle.std.proofs.lemmas.Option.{same_Some, slice_get-get_or}
 use Rattle.tip_branch.specs.declared.branch.Badge.{Badge}
-use Rattle.tip_rows.specs.Keys.{is_same}
-use Rattle.tip_rows.specs.Rows.{branches_of}
-use Rattle.tip_recovery.specs.Adopting.{Unfinished, AreOf, adopted_all, are_adopted, fit, given, waits}
-use Rattle.tip_recovery.specs.Renewing.{are_again, is_again, taking, taking_all}
-use Rattle.tip_recovery.proofs.Rereading.{again_count}
+use Rattle.tip_recovery.specs.Adopting.{Unfinished, AreOf, adopted_all, fit, given, stored_of}
 
 length_behind : {T : Type 0} (xs ys : List T) → length (xs ++ ys) ≡ length xs + length ys
 length_behind [] ys = grind (arith)
 length_behind (x ∷ xs) ys = grind (arith, length_behind xs ys)
+
+-- what is put where it stands
+set_same : {T : Type 0} (place : ℕ) (x : T) (xs : List T) → slice_get xs place ≡ Some x → slice_set xs place x ≡ xs
+set_same place x [] here = refl
+set_same zero x (y ∷ xs) here = ap (λ z. z ∷ xs) (sym (same_Some y x here))
+set_same (suc place) x (y ∷ xs) here = ap (λ l. y ∷ l) (set_same place x xs here)
 
 module _ {T B : Type 0} (give : B → T → T) (test : B → T → Bool) where
   pub length-given : (bs : List B) (xs : List T) → length (given give bs xs) ≡ length xs
@@ -63,9 +64,11 @@ module _ {T B : Type 0} (give : B → T → T) (test : B → T → Bool) where
         omega (arith, length_behind yielded (b ∷ rest))
 
     module _ (x : T) (is : x ≡ get_or now place x) where
+      there : slice_get now place ≡ Some x
+      there = slice_get-get_or now place x within ∙ ap Some (sym is)
+
       here : slice_get old (length yielded) ≡ Some x
       here =
-          let there : slice_get now place ≡ Some x = slice_get-get_or now place x within ∙ ap Some (sym is) in
           sym (next yielded old) ∙ ap (λ xs. slice_get xs (length yielded)) (sym giving.now_is) ∙ ap (slice_get now) (sym giving.counted) ∙ there
 
       pub tested : fit test bs old ≡ (test b x && fit test rest (drop (suc place) old))
@@ -80,6 +83,10 @@ module _ {T B : Type 0} (give : B → T → T) (test : B → T → Bool) where
             let plus : place + 1 ≡ suc place = omega arith in
             ap (λ n. fit test rest (drop n old)) plus ∙ sym (tested ∙ ap (λ t. t && fit test rest (drop (suc place) old)) passes);
       }
+
+      -- one that takes nothing stays, and so do all
+      pub stays : (after : T) → after ≡ x → slice_set now place after ≡ given give yielded old
+      stays after same_as = ap (slice_set now place) same_as ∙ set_same place x now there ∙ giving.now_is
 
       pub fails : test b x ≡ false → fit test bs old ≡ false
       fails not = tested ∙ ap (λ t. t && fit test rest (drop (suc place) old)) not
@@ -126,27 +133,9 @@ adopted_all_of realm (b ∷ boxes) [] own = tt
 adopted_all_of realm ([] ∷ boxes) (row ∷ rows) own = (own.0, adopted_all_of realm boxes rows own.1)
 adopted_all_of realm ((x ∷ b) ∷ boxes) (row ∷ rows) own = (own.0, adopted_all_of realm boxes rows own.1)
 
-pub set_of : (realm : List ℕ) (place : ℕ) (row : Unfinished) (rows : List Unfinished) → place < length rows → row ≡ get_or rows place row → AreOf realm rows → AreOf realm (slice_set rows place row)
-set_of realm place row rows within is own = rw (set_same place rows (slice_get-get_or rows place row within ∙ ap Some (sym is))) own where
-  set_same : (place : ℕ) (rows : List Unfinished) → slice_get rows place ≡ Some row → slice_set rows place row ≡ rows
-  set_same place [] here = refl
-  set_same zero (r ∷ rows) here = ap (λ x. x ∷ rows) (sym (same_Some r row here))
-  set_same (suc place) (r ∷ rows) here = ap (λ l. r ∷ l) (set_same place rows here)
-
-pub taking_all_of : (realm : List ℕ) (earlier rows : List Unfinished) → AreOf realm rows → AreOf realm (taking_all earlier rows)
-taking_all_of realm [] rows own = own
-taking_all_of realm (e ∷ earlier) [] own = tt
-taking_all_of realm (e ∷ earlier) (row ∷ rows) own = (own.0, taking_all_of realm earlier rows own.1)
-
--- no row waits that has the boxes of an earlier reading which did not wait
-one_adopted : (earlier row : Unfinished) → is_again earlier row ≡ true → waits (taking earlier row) ≡ waits earlier
-one_adopted earlier row again = ap (λ n. not (n == 0) && is_none earlier.boxes) (sym (again_count earlier row again))
-
-pub all_adopted : (earlier rows : List Unfinished) → are_again earlier rows ≡ true → are_adopted earlier ≡ true → are_adopted (taking_all earlier rows) ≡ true
-all_adopted [] [] again adopted = refl
-all_adopted [] (row ∷ rows) again adopted = absurd (cc)
-all_adopted (e ∷ earlier) [] again adopted = refl
-all_adopted (e ∷ earlier) (row ∷ rows) again adopted =
-    let parts = and_parts (is_again e row) (are_again earlier rows) again in
-    let none = and_parts (not (waits e)) (are_adopted earlier) adopted in
-    rw (one_adopted e row parts.0, none.0) (all_adopted earlier rows parts.1 none.1)
+-- and they are stored as they were
+pub stored-adopted_all : (boxes : List (List Badge)) (rows : List Unfinished) → stored_of (adopted_all boxes rows) ≡ stored_of rows
+stored-adopted_all [] rows = refl
+stored-adopted_all (b ∷ boxes) [] = refl
+stored-adopted_all ([] ∷ boxes) (row ∷ rows) = ap (λ l. (row.key, row.row) ∷ l) (stored-adopted_all boxes rows)
+stored-adopted_all ((x ∷ b) ∷ boxes) (row ∷ rows) = ap (λ l. (row.key, row.row) ∷ l) (stored-adopted_all boxes rows)

@@ -7,10 +7,11 @@ use Rattle.std.proofs.lemmas.Option.{slice_get-get_or}
 use Rattle.std.proofs.lemmas.Result.{IfErr-weaker, on_ok_weaker}
 use Rattle.tip_branch.specs.declared.branch.Badge.{Badge}
 use Rattle.tip_rows.specs.Keys.{Key}
+use Rattle.tip_rows.specs.Logs.{is_rising}
 use Rattle.tip_rows.specs.declared.row.Row.{Row}
 use Rattle.tip_table.specs.Lists.{IsFirst, changed}
 use Rattle.tip_table.proofs.Standing.{changed-first, find-first}
-use Rattle.tip_recovery.specs.Adopting.{Unfinished, AreOf, adopting, fault_of, is_named, refusal_of, unadopted}
+use Rattle.tip_recovery.specs.Adopting.{Unfinished, AreOf, IsWhole, adopting, fault_of, is_named, refusal_of, stored_of, unadopted}
 use Rattle.tip_recovery.specs.declared.unfinished.AdoptFault.{AdoptFault}
 use Rattle.tip_recovery.specs.declared.unfinished.AdoptFault.TheVariants.{NotInDoubt}
 
@@ -67,17 +68,36 @@ nobody id boxes rows none = ap (λ (found : Option Unfinished). option_map_or (f
 
 -- Rows of one realm
 
-pub unadopted_of : (realm : List ℕ) (stored : List (Key × Row)) → AreOf realm (map (unadopted realm) stored)
+unadopted_of : (realm : List ℕ) (stored : List (Key × Row)) → AreOf realm (map (unadopted realm) stored)
 unadopted_of realm [] = tt
 unadopted_of realm (s ∷ stored) = (refl, unadopted_of realm stored)
 
-pub adopted_of : (realm id : List ℕ) (boxes : List Badge) (rows : List Unfinished) → AreOf realm rows → AreOf realm (changed (is_named id) (adopting boxes) rows)
+pub stored-unadopted : (realm : List ℕ) (stored : List (Key × Row)) → stored_of (map (unadopted realm) stored) ≡ stored
+stored-unadopted realm [] = refl
+stored-unadopted realm (s ∷ stored) = ap (λ l. s ∷ l) (stored-unadopted realm stored)
+
+-- what was loaded is whole
+pub unadopted_whole : (realm : List ℕ) (stored : List (Key × Row)) → is_rising stored ≡ true → IsWhole realm (map (unadopted realm) stored)
+unadopted_whole realm stored rising = record { own = unadopted_of realm stored; rising = ap is_rising (stored-unadopted realm stored) ∙ rising }
+
+-- and stays so
+pub still_whole : (realm : List ℕ) (old new : List Unfinished) → IsWhole realm old → (AreOf realm old → AreOf realm new) → stored_of new ≡ stored_of old → IsWhole realm new
+still_whole realm old new whole own stored = record { own = own whole.own; rising = ap is_rising stored ∙ whole.rising }
+
+adopted_of : (realm id : List ℕ) (boxes : List Badge) (rows : List Unfinished) → AreOf realm rows → AreOf realm (changed (is_named id) (adopting boxes) rows)
 adopted_of realm id boxes [] own = tt
 adopted_of realm id boxes (row ∷ rows) own = by (is_named id row) (adopted_of realm id boxes rows own.1) where
   by : (b : Bool) → AreOf realm (changed (is_named id) (adopting boxes) rows) → AreOf realm (cond b (adopting boxes row ∷ rows) (row ∷ changed (is_named id) (adopting boxes) rows))
   by true rest = own
   by false rest = (own.0, rest)
 
-pub still_of : {T E : Type 0} (result : Result T E) (realm id : List ℕ) (boxes : List Badge) (old new : List Unfinished) → AreOf realm old → OnOk result ((refusal_of id boxes old ≡ None) × (new ≡ changed (is_named id) (adopting boxes) old)) → OnErr result (new ≡ old) → AreOf realm new
-still_of (Ok x) realm id boxes old new own ok err = rw ok.1 (adopted_of realm id boxes old own)
-still_of (Err e) realm id boxes old new own ok err = rw err own
+stored-adopted : (id : List ℕ) (boxes : List Badge) (rows : List Unfinished) → stored_of (changed (is_named id) (adopting boxes) rows) ≡ stored_of rows
+stored-adopted id boxes [] = refl
+stored-adopted id boxes (row ∷ rows) = by (is_named id row) (stored-adopted id boxes rows) where
+  by : (b : Bool) → stored_of (changed (is_named id) (adopting boxes) rows) ≡ stored_of rows → stored_of (cond b (adopting boxes row ∷ rows) (row ∷ changed (is_named id) (adopting boxes) rows)) ≡ (row.key, row.row) ∷ stored_of rows
+  by true rest = refl
+  by false rest = ap (λ l. (row.key, row.row) ∷ l) rest
+
+pub adopted_whole : {T E : Type 0} (result : Result T E) (realm id : List ℕ) (boxes : List Badge) (old new : List Unfinished) → IsWhole realm old → OnOk result ((refusal_of id boxes old ≡ None) × (new ≡ changed (is_named id) (adopting boxes) old)) → OnErr result (new ≡ old) → IsWhole realm new
+adopted_whole (Ok x) realm id boxes old new whole ok err = rw ok.1 (still_whole realm old (changed (is_named id) (adopting boxes) old) whole (adopted_of realm id boxes old) (stored-adopted id boxes old))
+adopted_whole (Err e) realm id boxes old new whole ok err = rw err whole

@@ -6,6 +6,7 @@ use Rattle.std.specs.Str.{bytes_eq}
 use Rattle.tip_branch.specs.declared.branch.Badge.{Badge}
 use Rattle.tip_branch.specs.Members.{are_numbers}
 use Rattle.tip_rows.specs.Keys.{Key}
+use Rattle.tip_rows.specs.Logs.{is_rising}
 use Rattle.tip_rows.specs.Rows.{branches_of}
 use Rattle.tip_rows.specs.declared.row.Row.{Row}
 use Rattle.tip_rows.specs.declared.row.Row.TheVariants.{Prepared, Committed}
@@ -68,6 +69,15 @@ pub record Recovery : Type 0 where
 abbrev pub AreOf : List ℕ → List Unfinished → Type 0
 AreOf realm [] = Unit {0}
 AreOf realm (unfinished ∷ rows) = (unfinished.realm ≡ realm) × AreOf realm rows
+
+-- the stored rows themselves
+abbrev pub stored_of : List Unfinished → List (Key × Row)
+stored_of rows = map (λ unfinished. (unfinished.key, unfinished.row)) rows
+
+-- rows of one realm, by rising key
+pub record IsWhole (realm : List ℕ) (rows : List Unfinished) : Type 0 where
+  pub own : AreOf realm rows
+  pub rising : is_rising (stored_of rows) ≡ true
 
 -- no row waits any more
 abbrev pub are_adopted : List Unfinished → Bool

@@ -1,11 +1,11 @@
--- A realm that starts again while others run: its rows are read once more, and have the boxes that were adopted before.
+-- A realm that starts again while others run: its rows are read once more, and must be what they were.
 use Rattle.std.specs.Prelude.{ℕ, ◌==◌, ◌&&◌, Bool, false, List}
 use Rattle.std.specs.Cmp.Lexicographic.{pointwise}
 use Rattle.std.specs.Str.{bytes_eq}
 use Rattle.tip_rows.specs.Keys.{is_same}
 use Rattle.tip_rows.specs.declared.row.Row.{Row}
 use Rattle.tip_rows.specs.declared.row.Row.TheVariants.{Prepared, Committed}
-use Rattle.tip_recovery.specs.Adopting.{Recovery, Unfinished, fit, given}
+use Rattle.tip_recovery.specs.Adopting.{Recovery, Unfinished, fit}
 
 -- are these the same branches, numbers and labels?
 abbrev pub are_branches_again : List (ℕ × List ℕ) → List (ℕ × List ℕ) → Bool
@@ -32,10 +32,3 @@ are_again earlier rows = fit is_again earlier rows
 -- the same realm in the same epoch, with the same rows
 abbrev pub is_read_again : Recovery → Recovery → Bool
 is_read_again earlier recovery = bytes_eq earlier.realm recovery.realm && (earlier.epoch == recovery.epoch) && are_again earlier.rows recovery.rows
-
--- a row with the boxes of an earlier reading
-abbrev pub taking : Unfinished → Unfinished → Unfinished
-taking earlier unfinished = record unfinished { boxes = earlier.boxes }
-
-abbrev pub taking_all : List Unfinished → List Unfinished → List Unfinished
-taking_all earlier rows = given taking earlier rows

@@ -2,9 +2,9 @@
 ghost use Rattle.std.specs.Prelude.{◌≡◌, ℕ, ◌+◌, ◌<◌, List, [], true, find, length, map, IfErr, IfOk, MatchOption, None, OnErr, OnOk, Some};
 ghost use Rattle.tip_branch.specs.Always.{Always};
 ghost use Rattle.tip_table.specs.Lists.{IsFirst, changed};
-ghost use Rattle.tip_rows.specs.Logs.{last_epoch};
-ghost use Rattle.tip_recovery.specs.Adopting.{AreOf, adopted_all, adopted_for, adopting, are_adopted, are_for_all, is_named, refusal_of, unadopted};
-ghost use Rattle.tip_recovery.specs.Renewing.{are_again, is_read_again, taking_all};
+ghost use Rattle.tip_rows.specs.Logs.{is_rising, last_epoch};
+ghost use Rattle.tip_recovery.specs.Adopting.{AreOf, adopted_all, adopted_for, adopting, are_adopted, are_for_all, is_named, refusal_of, stored_of, unadopted};
+ghost use Rattle.tip_recovery.specs.Renewing.{are_again, is_read_again};
 
 use crate::unfinished::{AdoptFault, Unfinished};
 use std::alloc::{AllocError, Global};
@@ -22,13 +22,13 @@ pub struct Recovery {
 }
 
 impl Model for Recovery {
-    ghost use Rattle.tip_recovery.specs.Adopting.{AreOf, Recovery};
+    ghost use Rattle.tip_recovery.specs.Adopting.{IsWhole, Recovery};
 
     ghost Value = { Recovery };
 
     ghost view = { λ r. record { realm = r.realm; epoch = r.epoch; rows = r.rows.items } };
 
-    ghost invariant = { λ r. AreOf r.realm r.rows.items };
+    ghost invariant = { λ r. IsWhole r.realm r.rows.items };
 }
 
 impl Recovery {
@@ -39,7 +39,8 @@ impl Recovery {
         loaded: Loaded,
         rows: Vec<Unfinished>,
     ) -> Result<Recovery, AllocError>
-        requires { rows.items ≡ [] }
+        requires empty { rows.items ≡ [] }
+        requires rising { is_rising loaded.rows.items ≡ true }
         ensures { IfOk result (λ recovery. recovery ≡ record {
           realm = realm;
           epoch = loaded.epoch;
@@ -61,10 +62,11 @@ impl Recovery {
         self.epoch
     }
 
-    /// Its rows by rising key, also those for which nothing is to be adopted.
+    /// Its rows, also those for which nothing is to be adopted.
     pub fn rows(&self) -> &[Unfinished]
         requires { Always }
-        ensures { result.now ≡ self.now.rows }
+        ensures same { result.now ≡ self.now.rows }
+        ensures rising { is_rising (stored_of self.now.rows) ≡ true }
     {
         &self.rows
     }
@@ -102,24 +104,14 @@ impl Recovery {
         boxes.len() == self.rows.len() && adopt_each(&mut self.rows, boxes)
     }
 
-    /// Whether this is a later reading of the same realm in the same epoch, with rows of the same transactions: the boxes that
-    /// were adopted before are boxes for these rows too.
+    /// Whether this is a later reading of the same realm in the same epoch, with the same rows, word for word: a renewal may then
+    /// go by the earlier one, and by the boxes that were adopted for it.
     pub fn is_read_again(&self, earlier: &Recovery) -> bool
         ensures { result ≡ is_read_again earlier.now self.now }
     {
         self.realm == earlier.realm
             && self.epoch == earlier.epoch
             && are_again(&earlier.rows, &self.rows)
-    }
-
-    /// The boxes that were adopted for an earlier reading are adopted for this one. It takes no memory.
-    pub fn take_boxes(&mut self, earlier: Recovery)
-        requires { is_read_again earlier self.old ≡ true }
-        ensures same { self.new ≡ record self.old { rows = taking_all earlier.rows self.old.rows } }
-        ensures adopted { are_adopted earlier.rows ≡ true → are_adopted self.new.rows ≡ true }
-        ensures count { length self.new.rows ≡ length self.old.rows }
-    {
-        take_all(&mut self.rows, earlier.rows);
     }
 
     /// It starts in the next epoch.
@@ -195,6 +187,7 @@ fn adopt_each(rows: &mut Vec<Unfinished>, boxes: Vec<HeldPrepared>) -> bool
     ensures fits { result ≡ are_for_all boxes.items rows.old.items }
     ensures adopted { result ≡ true → rows.new.items ≡ adopted_all boxes.items rows.old.items }
     ensures own { (realm : List ℕ) → AreOf realm rows.old.items → AreOf realm rows.new.items }
+    ensures stored { stored_of rows.new.items ≡ stored_of rows.old.items }
     ensures count { length rows.new.items ≡ length rows.old.items }
 {
     let mut place = 0;
@@ -221,21 +214,6 @@ fn are_again(earlier: &[Unfinished], rows: &[Unfinished]) -> bool
         after = news;
     }
     before.is_empty() && after.is_empty()
-}
-
-/// Each row takes the boxes of its earlier reading.
-fn take_all(rows: &mut Vec<Unfinished>, earlier: Vec<Unfinished>)
-    requires { are_again earlier.items rows.old.items ≡ true }
-    ensures same { rows.new.items ≡ taking_all earlier.items rows.old.items }
-    ensures own { (realm : List ℕ) → AreOf realm rows.old.items → AreOf realm rows.new.items }
-    ensures adopted { are_adopted earlier.items ≡ true → are_adopted rows.new.items ≡ true }
-    ensures count { length rows.new.items ≡ length rows.old.items }
-{
-    let mut at = 0;
-    for row in earlier {
-        rows[at].take_boxes(row);
-        at += 1;
-    }
 }
 
 /// The place of the row of an identifier.

@@ -1,5 +1,5 @@
 //! One stored row that is taken up again.
-ghost use Rattle.std.specs.Prelude.{◌≡◌, true, false, None, Some, length, map, IfErr, IfOk, OnErr, OnOk, if◌then◌else◌};
+ghost use Rattle.std.specs.Prelude.{◌≡◌, ◌↔◌, true, false, None, Some, length, map, IfErr, IfOk, IsTrue, OnErr, OnOk, if◌then◌else◌};
 ghost use Rattle.tip_branch.specs.Always.{Always};
 ghost use Rattle.tip_rows.specs.Branches.{are_branches};
 ghost use Rattle.tip_rows.specs.Rows.{branches_of};
@@ -7,7 +7,7 @@ ghost use Rattle.tip_machine.specs.Answers.{identifier};
 ghost use Rattle.tip_machine.specs.Recovery.{reopened};
 ghost use Rattle.tip_machine.specs.Types.{seen};
 ghost use Rattle.tip_machine.specs.declared.head.Head.{Head};
-ghost use Rattle.tip_recovery.specs.Renewing.{is_again, is_row_again, taking};
+ghost use Rattle.tip_recovery.specs.Renewing.{is_again, is_row_again};
 ghost use Rattle.tip_recovery.specs.Adopting.{adopting, are_for, fault_of, is_named, loaded, origin_of, phase_of, subordinates_of, unadopted, waits, with_boxes};
 
 use std::alloc::{AllocError, Global};
@@ -88,8 +88,11 @@ impl Unfinished {
     }
 
     /// What its boxes are known by, in order, copied; none where none were adopted.
+    #[tactic(auto, using(crate::proofs::Readying::one_for_each))]
     pub fn badges(&self, alloc: Global) -> Result<Vec<Badge>, AllocError>
-        ensures { IfOk result (λ known. known.items ≡ (loaded self.now).boxes) }
+        ensures same { IfOk result (λ known. known.items ≡ (loaded self.now).boxes) }
+        ensures counted { waits self.now ≡ false →
+            IfOk result (λ known. length known.items ≡ length (branches_of self.now.row)) }
     {
         match &self.boxes {
             Some(boxes) => boxes.badges(alloc),
@@ -160,20 +163,18 @@ impl Unfinished {
         true
     }
 
+    /// Whether it is this stored row, word for word.
+    pub fn is_of(&self, key: Key, row: &Row) -> bool
+        ensures { IsTrue result ↔ ((self.now.key ≡ key) × (self.now.row ≡ row.now)) }
+    {
+        self.key == key && is_row_again(&self.row, row)
+    }
+
     /// Whether it is a later reading of the same transaction's row, which has not changed since.
     pub(crate) fn is_again(&self, earlier: &Unfinished) -> bool
         ensures { result ≡ is_again earlier.now self.now }
     {
         earlier.key == self.key && is_row_again(&earlier.row, &self.row)
-    }
-
-    /// The boxes that were adopted for an earlier reading, if any, are adopted for this one.
-    #[tactic(auto, using(crate::proofs::Rereading::again_count))]
-    pub fn take_boxes(&mut self, earlier: Unfinished)
-        requires { is_again earlier self.old ≡ true }
-        ensures { self.new ≡ taking earlier self.old }
-    {
-        self.boxes = earlier.boxes;
     }
 
     /// Its transaction, in a realm that starts in this epoch.
@@ -247,10 +248,10 @@ fn numbers_of(alloc: Global, branches: &[(u8, Label)]) -> Result<Vec<u8>, AllocE
 }
 
 /// Whether two rows are the same, word for word.
-fn is_row_again(earlier: &Row, row: &Row) -> bool
-    ensures { result ≡ is_row_again earlier.now row.now }
+fn is_row_again(row: &Row, other: &Row) -> bool
+    ensures { result ≡ is_row_again row.now other.now }
 {
-    match (earlier, row) {
+    match (row, other) {
         (
             Row::Prepared {
                 address,
@@ -259,15 +260,15 @@ fn is_row_again(earlier: &Row, row: &Row) -> bool
                 subordinates,
             },
             Row::Prepared {
-                address: now_at,
-                superior: now_of,
-                branches: now_with,
-                subordinates: now_over,
+                address: other_address,
+                superior: other_superior,
+                branches: other_branches,
+                subordinates: other_subordinates,
             },
         ) => {
-            (address == now_at && superior == now_of)
-                && (branches.as_slice() == now_with.as_slice()
-                    && subordinates.as_slice() == now_over.as_slice())
+            (address == other_address && superior == other_superior)
+                && (branches.as_slice() == other_branches.as_slice()
+                    && subordinates.as_slice() == other_subordinates.as_slice())
         }
         (
             Row::Committed {
@@ -275,12 +276,12 @@ fn is_row_again(earlier: &Row, row: &Row) -> bool
                 subordinates,
             },
             Row::Committed {
-                branches: now_with,
-                subordinates: now_over,
+                branches: other_branches,
+                subordinates: other_subordinates,
             },
         ) => {
-            branches.as_slice() == now_with.as_slice()
-                && subordinates.as_slice() == now_over.as_slice()
+            branches.as_slice() == other_branches.as_slice()
+                && subordinates.as_slice() == other_subordinates.as_slice()
         }
         (Row::Prepared { .. }, Row::Committed { .. })
         | (Row::Committed { .. }, Row::Prepared { .. }) => false,

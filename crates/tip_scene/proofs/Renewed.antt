@@ -15,8 +15,7 @@ use Rattle.tip_machine.specs.Moves as Moves
 use Rattle.tip_machine.specs.Recovery.{restarted}
 use Rattle.tip_machine.specs.Types.{Transaction}
 use Rattle.tip_machine.specs.declared.head.Head.{Head}
-use Rattle.tip_recovery.specs.Adopting.{Recovery, Unfinished, adopted_all, given, loaded, unadopted, with_boxes}
-use Rattle.tip_recovery.specs.Renewing.{taking, taking_all}
+use Rattle.tip_recovery.specs.Adopting.{Recovery, Unfinished, adopted_all, loaded, unadopted}
 use Rattle.tip_rows.specs.Keys.{Key}
 use Rattle.tip_rows.specs.Logs.{IsPart, IsSpent, Log, last_epoch, with_raised}
 use Rattle.tip_rows.specs.declared.row.Row.{Row}
@@ -31,21 +30,7 @@ use Rattle.tip_scene.proofs.Again.{boxes_of_rows, boxes_unadopted, loads_same}
 use Rattle.tip_scene.proofs.Begun.{row_text, said_all}
 use Rattle.tip_scene.specs.Rising.{IsWilling, willing_rows}
 
--- Rows that were read twice
-
--- a row takes its own boxes
-taking_own : (boxes : List Badge) (row : Unfinished) → taking (with_boxes boxes row) row ≡ with_boxes boxes row
-taking_own [] row = refl
-taking_own (box ∷ boxes) row = refl
-
-taking_selves : (rows : List Unfinished) → taking_all rows rows ≡ rows
-taking_selves [] = refl
-taking_selves (row ∷ rows) = ap (λ l. row ∷ l) (taking_selves rows)
-
-taking_same : (boxes : List (List Badge)) (rows : List Unfinished) → taking_all (given with_boxes boxes rows) rows ≡ given with_boxes boxes rows
-taking_same [] rows = taking_selves rows
-taking_same (b ∷ boxes) [] = refl
-taking_same (b ∷ boxes) (row ∷ rows) = ap (λ r. r ∷ taking_all (given with_boxes boxes rows) rows) (taking_own b row) ∙ ap (λ l. with_boxes b row ∷ l) (taking_same boxes rows)
+-- Rows that were read
 
 -- what is read of a realm is what the script says of it
 pub read_rows : (log : Log) (name : List ℕ) (epoch : ℕ) (rows : List (Key × Row)) (recovery : Recovery) → IsPart log name epoch rows → IsRead log name recovery → recovery.rows ≡ map (unadopted name) rows
@@ -83,15 +68,8 @@ module _ {S : Type 0} (kept : Keeping S) (host new : Host S) (place : ℕ) (acto
   own_name = is.own.name ∙ sym is.named
 
   -- it has started again, by what is stored of it
-  module _ (recovery : Recovery) (willing : IsWilling recovery acting) (truth : kept.is_true new.store) (after : IsRenewed kept.stands kept.is_true recovery acting.world.state host.store new.store (realm new.core place)) where
-    rows_again : taking_all recovery.rows after.fresh.rows ≡ willing_rows acting
-    rows_again =
-        let rows = acting.world.rows in
-        let fresh : after.fresh.rows ≡ map (unadopted acting.name) rows = read_rows is.stored.log acting.world.state.head.name acting.world.state.head.epoch rows after.fresh is.stored.part (after.read is.stored.log is.stored.stood truth) ∙ ap (λ n. map (unadopted n) rows) is.named in
-        ap (taking_all recovery.rows) fresh ∙ ap (λ r. taking_all r (map (unadopted acting.name) rows)) willing ∙ taking_same (boxes_of_rows rows) (map (unadopted acting.name) rows)
-
-    state_again : realm new.core place ≡ Some (Moves.restarted_from (boxes_in acting.world.rows) acting.world)
-    state_again = after.state_is ∙ ap (λ rows. Some (restarted (Moves.risen acting.world.state.head) rows)) (ap (map loaded) rows_again ∙ sym (loads_same acting.name acting.world.rows is.stored.part.rising))
+  state_again : (recovery : Recovery) → IsWilling recovery acting → IsRenewed kept.stands kept.is_true recovery acting.world.state host.store new.store (realm new.core place) → realm new.core place ≡ Some (Moves.restarted_from (boxes_in acting.world.rows) acting.world)
+  state_again recovery willing after = after.state_is ∙ ap (λ rows. Some (restarted (Moves.risen acting.world.state.head) rows)) (ap (map loaded) willing ∙ sym (loads_same acting.name acting.world.rows is.stored.part.rising))
 
   module _ (stood : (log : Log) → kept.stands host.store log → kept.stands new.store (with_raised acting.world.state.head.name log)) (spent : IsSpent (kept.is_due host.store) (kept.is_due new.store) acting.world.state.head.name) where
     leaves_renewed : ((other : ℕ) → other ≢ place → realm new.core other ≡ realm host.core other) → Leaves kept host new place actor.name
@@ -107,12 +85,12 @@ module _ {S : Type 0} (kept : Keeping S) (host new : Host S) (place : ℕ) (acto
           };
         }
 
-    pub renews_so : (recovery : Recovery) → IsWilling recovery acting → kept.is_true new.store → IsRenewed kept.stands kept.is_true recovery acting.world.state host.store new.store (realm new.core place) →
+    pub renews_so : (recovery : Recovery) → IsWilling recovery acting → IsRenewed kept.stands kept.is_true recovery acting.world.state host.store new.store (realm new.core place) →
         (IsTrue (kept.is_due host.store acting.world.state.head.name) → ⊥) → (acting.world.state.head.epoch == last_epoch) ≡ false →
         ((other : ℕ) → other ≢ place → realm new.core other ≡ realm host.core other) → HaveNames new.core →
         actor'.name ≡ actor.name → actor'.readers.items ≡ [] → actor'.errands ≡ actor.errands → actor'.is_due ≡ actor.is_due →
         (printed printed' : List ℕ) → printed' ≡ printed ++ (renewed acting.due acting).printed → IsDone kept host new place actor actor' printed printed' (renewed acting.due acting)
-    renews_so recovery willing truth after never not_last others names name' readers' errands' due' printed printed' text =
+    renews_so recovery willing after never not_last others names name' readers' errands' due' printed printed' text =
         let name = acting.world.state.head.name in
         let rows = acting.world.rows in
         let log = is.stored.log in
@@ -121,7 +99,7 @@ module _ {S : Type 0} (kept : Keeping S) (host new : Host S) (place : ℕ) (acto
         subst (λ b. IsDone kept host new place actor actor' printed printed' (renewed b acting)) (sym due) (record {
           own = record {
             served = record {
-              state_is = state_again recovery willing truth after;
+              state_is = state_again recovery willing after;
               names = names;
               due_is = spent name ∙ rw (itself name) (sym due);
             };

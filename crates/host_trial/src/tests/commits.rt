@@ -28,10 +28,10 @@ fn committed(
 ) -> Result<(), Fail>
     requires { Always }
 {
-    let work = serving.serve(alloc, opening, COMMIT)?;
-    let reply = serving.back(alloc, work)?;
+    serving.serve(alloc, opening, COMMIT)?;
+    let reply = serving.back(alloc)?;
     assert!(rt; is_put(&reply));
-    let reply = serving.back(alloc, reply.work)?;
+    let reply = serving.back(alloc)?;
     assert_eq!(rt; reply.entry, Some(6));
     Ok(())
 }

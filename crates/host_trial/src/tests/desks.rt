@@ -23,6 +23,12 @@ pub const FIRST: Seat = Seat {
     number: 1,
 };
 
+/// The seat of the second connection in the first epoch.
+pub const SECOND: Seat = Seat {
+    epoch: 1,
+    number: 2,
+};
+
 /// The seat of the first connection in the second epoch.
 pub const AGAIN: Seat = Seat {
     epoch: 2,

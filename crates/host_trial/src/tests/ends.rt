@@ -22,14 +22,14 @@ fn stored(alloc: Global, mut rows: MemRows) -> Result<(usize, u32), Fail> {
 fn begun(alloc: Global, serving: &mut Serving, first: Event, second: Event) -> Result<(), Fail>
     requires { Always }
 {
-    let work = serving.serve(alloc, first, &["IDENTIFY 3 3 a.x -", "PUSH s1", "PREPARE"])?;
-    serving.back(alloc, work)?;
+    serving.serve(alloc, first, &["IDENTIFY 3 3 a.x -", "PUSH s1", "PREPARE"])?;
+    serving.back(alloc)?;
     serving.serve(alloc, second, &["IDENTIFY 3 3 - -", "BEGIN"])?;
     Ok(())
 }
 
 #[test]
-fn shut_aborts_the_active_branch_and_not_the_ready_one(rt: HostRuntime) -> Result<(), Fail> {
+fn close_aborts_the_active_branch_and_not_the_ready_one(rt: HostRuntime) -> Result<(), Fail> {
     let alloc = rt.alloc();
     let ready = Arc::new(alloc, Counters::new())?;
     let active = Arc::new(alloc, Counters::new())?;
@@ -37,7 +37,7 @@ fn shut_aborts_the_active_branch_and_not_the_ready_one(rt: HostRuntime) -> Resul
     let first = open_counted(alloc, &ready)?;
     begun(alloc, &mut serving, first, open_counted(alloc, &active)?)?;
     assert_eq!(rt; active.counted(), (0, 0, 0));
-    assert_eq!(rt; stored(alloc, serving.shut())?, (1, 1));
+    assert_eq!(rt; stored(alloc, serving.close(alloc)?)?, (1, 1));
     assert_eq!(rt; ready.counted(), (1, 0, 0));
     assert_eq!(rt; active.counted(), (0, 0, 1));
     Ok(())

@@ -4,7 +4,7 @@ use std::alloc::Global;
 use std::mem::size_of;
 use std::test::Fail;
 use tip_branch::Member;
-use tip_desk::Entry;
+use tip_honest::Entry;
 use tip_journal::Reported;
 
 /// Whether an audit reports these journals: realm, epoch, and how many entries.

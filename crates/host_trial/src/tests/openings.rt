@@ -79,8 +79,8 @@ fn ended(rt: &impl Abort, alloc: Global, serving: &mut Serving) -> Result<(), Fa
     let recovery = serving.doubts(alloc)?;
     assert_eq!(rt; serving.renew(alloc, recovery), Some(RenewFault::Unadopted));
     let id = Id::new(alloc, b"north-1-1-1")?;
-    let reply = serving.step(alloc, Event::Resume { id })?;
-    let reply = serving.back(alloc, reply.work)?;
+    serving.step(alloc, Event::Resume { id })?;
+    let reply = serving.back(alloc)?;
     assert!(rt; matches!(reply.change, Some(Change::Remove { .. })));
     Ok(())
 }

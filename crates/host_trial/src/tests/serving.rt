@@ -6,9 +6,9 @@ use super::desks::NORTH;
 use std::alloc::{AllocError, Global};
 use std::slice::from_ref;
 use std::test::Fail;
-use tip_branch::HeldParty;
-use tip_desk::{Desk, Entry, Reply};
-use tip_host::{HostFault, RenewFault, are_untold, done};
+use tip_desk::{Desk, DeskFault, Reply};
+use tip_honest::Entry;
+use tip_host::{RenewFault, Returned, Work};
 use tip_journal::{AuditFault, Pass, Reported};
 use tip_machine::{Event, Heard, Seat, Sent};
 use tip_recovery::Recovery;
@@ -33,17 +33,17 @@ impl Serving {
         requires { Always }
     {
         match self.stepped(alloc, event) {
-            Err((HostFault::Memory, event)) => self.stepped_again(alloc, event),
-            Err((HostFault::Stopped, event)) => {
-                drop(event);
-                Err(Fail::from("it is not stopped"))
-            }
             Ok(reply) => Ok(reply),
+            Err((DeskFault::Memory, event)) => self.stepped_again(alloc, event),
+            Err(fault) => {
+                drop(fault);
+                Err(Fail::from("it happens"))
+            }
         }
     }
 
     /// One event of north.
-    pub fn stepped(&mut self, alloc: Global, event: Event) -> Result<Reply, (HostFault, Event)>
+    fn stepped(&mut self, alloc: Global, event: Event) -> Result<Reply, (DeskFault, Event)>
         requires { Always }
     {
         self.desk.step(alloc, &mut self.pass, NORTH, event)
@@ -61,30 +61,24 @@ impl Serving {
         }
     }
 
-    /// A line comes on a connection. The party that goes out then comes out.
-    pub fn line(&mut self, alloc: Global, seat: Seat, text: &str) -> Result<Option<HeldParty>, Fail>
+    /// A line comes on a connection.
+    pub fn line(&mut self, alloc: Global, seat: Seat, text: &str) -> Result<(), Fail>
         requires { Always }
     {
         let heard = heard(alloc, text)?;
-        let reply = self.step(alloc, Event::Line { seat, heard })?;
-        Ok(reply.work)
+        self.step(alloc, Event::Line { seat, heard })?;
+        Ok(())
     }
 
-    /// A connection is opened, and these lines come on it. The party that goes out at the last of them comes out.
-    pub fn serve(
-        &mut self,
-        alloc: Global,
-        opening: Event,
-        texts: &[&str],
-    ) -> Result<Option<HeldParty>, Fail>
+    /// A connection is opened, and these lines come on it.
+    pub fn serve(&mut self, alloc: Global, opening: Event, texts: &[&str]) -> Result<(), Fail>
         requires { Always }
     {
         let seat = self.opened(alloc, opening)?;
-        let mut work = None;
         for text in texts {
-            work = self.line(alloc, seat, text)?;
+            self.line(alloc, seat, text)?;
         }
-        Ok(work)
+        Ok(())
     }
 
     /// A connection is opened.
@@ -95,14 +89,66 @@ impl Serving {
         Ok(reply.opened.ok_or("a connection is opened")?)
     }
 
-    /// The party that is out does its errand and comes back.
-    pub fn back(&mut self, alloc: Global, work: Option<HeldParty>) -> Result<Reply, Fail>
+    /// The oldest party that waits is taken out; where memory was wanting it is taken once more.
+    pub fn take(&mut self, alloc: Global) -> Result<Work, Fail>
         requires { Always }
     {
-        match work {
-            Some(work) if are_untold(work.party().members()) => self.step(alloc, done(work)),
-            _ => Err(Fail::from("a party is out, and none of its branches was called")),
+        let work = match self.taken(alloc) {
+            Ok(work) => work,
+            Err(AllocError) => self.taken(alloc)?,
+        };
+        Ok(work.ok_or("a party waits")?)
+    }
+
+    fn taken(&mut self, alloc: Global) -> Result<Option<Work>, AllocError>
+        requires { Always }
+    {
+        self.desk.take_work(alloc, NORTH)
+    }
+
+    /// A party comes back; where memory was wanting it comes once more, as it was handed back.
+    pub fn come_back(&mut self, alloc: Global, returned: Returned) -> Result<Reply, Fail>
+        requires { Always }
+    {
+        match self.came(alloc, returned) {
+            Ok(reply) => Ok(reply),
+            Err((DeskFault::Memory, returned)) => self.came_again(alloc, returned),
+            Err(fault) => {
+                drop(fault);
+                Err(Fail::from("it was out"))
+            }
         }
+    }
+
+    /// A party comes back.
+    pub fn came(
+        &mut self,
+        alloc: Global,
+        returned: Returned,
+    ) -> Result<Reply, (DeskFault, Returned)>
+        requires { Always }
+    {
+        self.desk.come_back(alloc, &mut self.pass, NORTH, returned)
+    }
+
+    fn came_again(&mut self, alloc: Global, returned: Returned) -> Result<Reply, Fail>
+        requires { Always }
+    {
+        match self.came(alloc, returned) {
+            Ok(reply) => Ok(reply),
+            Err(fault) => {
+                drop(fault);
+                Err(Fail::from("memory is there again"))
+            }
+        }
+    }
+
+    /// The oldest party that waits does its errand and comes back.
+    pub fn back(&mut self, alloc: Global) -> Result<Reply, Fail>
+        requires { Always }
+    {
+        let work = self.take(alloc)?;
+        self.come_back(alloc, work.done())
     }
 
     /// What waits first for a connection of a realm is taken out.
@@ -156,13 +202,22 @@ impl Serving {
         }
     }
 
-    /// The desk ends, and its rows come back.
-    pub fn shut(self) -> MemRows
+    /// The desk is closed, and its rows come back.
+    pub fn close(self, alloc: Global) -> Result<MemRows, Fail>
         requires { Always }
     {
         let Serving { desk, pass } = self;
         drop(pass);
-        desk.shut()
+        match desk.close(alloc) {
+            Ok((rows, journals)) => {
+                drop(journals);
+                Ok(rows)
+            }
+            Err(fault) => {
+                drop(fault);
+                Err(Fail::from("what is stored is what the store has answered"))
+            }
+        }
     }
 }
 

@@ -1,9 +1,7 @@
 use Rattle.std.proofs.Common.{◌≡◌, ◌∙◌, true, List, ap, arith, length, rules, subst, sym}
-use Rattle.std.specs.Prelude.{slice_set}
-use Rattle.std.proofs.lemmas.List.{length-set}
 use Rattle.tip_branch.specs.declared.branch.Badge.{Badge}
-use Rattle.tip_recovery.specs.Adopting.{AreOf, Unfinished, are_for, given, with_boxes}
-use Rattle.tip_recovery.proofs.Giving.{adopted_all_of, fails, goes_on, length-given, set_of, within}
+use Rattle.tip_recovery.specs.Adopting.{AreOf, Unfinished, are_for, given, stored_of, with_boxes}
+use Rattle.tip_recovery.proofs.Giving.{adopted_all_of, fails, goes_on, length-given, stays, stored-adopted_all, within}
 use Rattle.tip_recovery.proofs.recovery.adopt_each.Goals as goal
 
 pub index_mut-requires : goal.index_mut-requires
@@ -14,10 +12,21 @@ returns-then-not-adopt_each-clause-fits g c = sym (fails with_boxes are_for c.ar
 
 pub returns-then-not-adopt_each-clause-own : goal.returns-then-not-adopt_each-clause-own
 returns-then-not-adopt_each-clause-own g c = λ realm own.
-    let same : c.adopt_each.new.self ≡ c.index_mut.result.now = search rules in
-    let kept : AreOf realm c.loop-lot.rows.items = subst (AreOf realm) (sym c.loop-lot.invariant.now_is) (adopted_all_of realm c.loop-lot.yielded c.args.rows.now.items own) in
-    let here = within with_boxes are_for c.args.boxes.items c.args.rows.now.items c.loop-lot.rows.items c.loop-lot.yielded c.loop-lot.lot-iterator.rest.items c.next.new.self.rest.items c.loop-lot.place c.in-Some.lot c.requires c.loop-lot.invariant c.in-Some.ensures.steps.0 in
-    subst (λ row. AreOf realm (slice_set c.loop-lot.rows.items c.loop-lot.place row)) (sym same) (set_of realm c.loop-lot.place c.index_mut.result.now c.loop-lot.rows.items here c.index_mut.ensures.value kept)
+    let stayed = stays with_boxes are_for c.args.boxes.items c.args.rows.now.items c.loop-lot.rows.items c.loop-lot.yielded c.loop-lot.lot-iterator.rest.items c.next.new.self.rest.items c.loop-lot.place c.in-Some.lot c.requires c.loop-lot.invariant c.in-Some.ensures.steps.0 c.index_mut.result.now c.index_mut.ensures.value c.adopt_each.new.self (search rules) in
+    subst (AreOf realm) (sym stayed) (adopted_all_of realm c.loop-lot.yielded c.args.rows.now.items own)
+
+pub returns-then-not-adopt_each-clause-stored : goal.returns-then-not-adopt_each-clause-stored
+returns-then-not-adopt_each-clause-stored g c =
+    let stayed = stays with_boxes are_for c.args.boxes.items c.args.rows.now.items c.loop-lot.rows.items c.loop-lot.yielded c.loop-lot.lot-iterator.rest.items c.next.new.self.rest.items c.loop-lot.place c.in-Some.lot c.requires c.loop-lot.invariant c.in-Some.ensures.steps.0 c.index_mut.result.now c.index_mut.ensures.value c.adopt_each.new.self (search rules) in
+    ap stored_of stayed ∙ stored-adopted_all c.loop-lot.yielded c.args.rows.now.items
+
+counted : (boxes : List (List Badge)) (old now : List Unfinished) → now ≡ given with_boxes boxes old → length now ≡ length old
+counted boxes old now is = ap length is ∙ length-given with_boxes are_for boxes old
+
+pub returns-then-not-adopt_each-clause-count : goal.returns-then-not-adopt_each-clause-count
+returns-then-not-adopt_each-clause-count g c =
+    let stayed = stays with_boxes are_for c.args.boxes.items c.args.rows.now.items c.loop-lot.rows.items c.loop-lot.yielded c.loop-lot.lot-iterator.rest.items c.next.new.self.rest.items c.loop-lot.place c.in-Some.lot c.requires c.loop-lot.invariant c.in-Some.ensures.steps.0 c.index_mut.result.now c.index_mut.ensures.value c.adopt_each.new.self (search rules) in
+    counted c.loop-lot.yielded c.args.rows.now.items _ stayed
 
 pub loop-lot-preserved : goal.loop-lot-preserved
 loop-lot-preserved g c =
@@ -28,11 +37,8 @@ loop-lot-preserved g c =
 pub returns-clause-own : goal.returns-clause-own
 returns-clause-own g c = λ realm own. subst (AreOf realm) (sym c.loop-lot.invariant.now_is) (adopted_all_of realm c.loop-lot.yielded c.args.rows.now.items own)
 
-counted : (boxes : List (List Badge)) (old now : List Unfinished) → now ≡ given with_boxes boxes old → length now ≡ length old
-counted boxes old now is = ap length is ∙ length-given with_boxes are_for boxes old
-
-pub returns-then-not-adopt_each-clause-count : goal.returns-then-not-adopt_each-clause-count
-returns-then-not-adopt_each-clause-count g c = length-set c.loop-lot.rows.items c.loop-lot.place c.adopt_each.new.self ∙ counted c.loop-lot.yielded c.args.rows.now.items c.loop-lot.rows.items c.loop-lot.invariant.now_is
+pub returns-clause-stored : goal.returns-clause-stored
+returns-clause-stored g c = ap stored_of c.loop-lot.invariant.now_is ∙ stored-adopted_all c.loop-lot.yielded c.args.rows.now.items
 
 pub returns-clause-count : goal.returns-clause-count
 returns-clause-count g c = counted c.loop-lot.yielded c.args.rows.now.items c.loop-lot.rows.items c.loop-lot.invariant.now_is

@@ -35,7 +35,7 @@ returns-clause-acts g c = λ truth.
     let next = not_last acting.world.state.head (slice_get c.heads.result.now c.args.place) c.next_epoch.result there c.next_epoch.ensures c.in-Some.epoch c.in-Some.is in
     let due : (name : List _) → g.S.RowLog.is_due mid.store name ≡ g.S.RowLog.is_due host.store name = goes.due acts.stored.log acts.stored.stood in
     let read = read_rows acts.stored.log acting.world.state.head.name acting.world.state.head.epoch acting.world.rows c.in_ok-recovery.recovery acts.stored.part (c.in_ok-recovery.ensures.read acts.stored.log acting.world.state acts.stored.stood acts.served.state_is mid_true) in
-    let lots = c.in_ok-lots.ensures.dealt ∙ ap (map (λ (row : Unfinished). willing_boxes row.row)) c.rows.ensures in
+    let lots = c.in_ok-lots.ensures.dealt ∙ ap (map (λ (row : Unfinished). willing_boxes row.row)) c.rows.ensures.same in
     let willing = has_willing acting acting.world.state.head.name c.in_ok-recovery.recovery.rows c.adopt_all.new.self.rows c.in_ok-lots.lots.items acts.named read lots (c.adopt_all.ensures.adopted fits) in
     on_ok_weaker c.renew_by.result (λ done. renews_all (keeping g.S.RowLog.stands g.S.RowLog.is_true g.S.RowLog.is_due) host c.args.place c.args.actor.now acting acts mid c.renew_by.new.host c.renew_by.new.actor (string_bytes c.args.printed.now) (string_bytes c.renew_by.new.printed) next.1 (leaves_still (keeping g.S.RowLog.stands g.S.RowLog.is_true g.S.RowLog.is_due) host mid c.doubts.ensures.core stood due c.args.place c.args.actor.now.name) done)
     (c.renew_by.ensures.done truth acting (acts_still (keeping g.S.RowLog.stands g.S.RowLog.is_true g.S.RowLog.is_due) host mid c.doubts.ensures.core stood due c.args.place c.args.actor.now acting acts) willing next.0))

@@ -25,8 +25,8 @@ returns-in-Ok-clause-done g c = λ truth acting acts willing epoch.
     let own = c.as_str-name.result.now in
     let text = left_here own acting.world.state.transactions ++ (start_text own c.args.epoch ++ flat_map (row_text own) c.rows.result.now) in
     let opening = c.in_ok-print_opening.ensures acting.world.state there ∙ ap (λ (t : List ℕ). t ++ text) c.new-opening.ensures.bytes in
-    let said = said_anew acting c.as_str-name.result.now c.args.epoch c.rows.result.now (c.as_str-name.ensures.same ∙ acts.own.name) due epoch (c.rows.ensures ∙ willing) in
-    renews_so (keeping g.S.RowLog.stands g.S.RowLog.is_true g.S.RowLog.is_due) host c.renew.new.self c.args.place c.args.actor.now _ acting acts rises.rows spends.0 c.args.recovery willing truth (c.in-Ok.ensures.renewed acting.world.state there) spends.1 not_last c.renew.ensures.others c.in-Ok.ensures.names
+    let said = said_anew acting c.as_str-name.result.now c.args.epoch c.rows.result.now (c.as_str-name.ensures.same ∙ acts.own.name) due epoch (c.rows.ensures.same ∙ willing) in
+    renews_so (keeping g.S.RowLog.stands g.S.RowLog.is_true g.S.RowLog.is_due) host c.renew.new.self c.args.place c.args.actor.now _ acting acts rises.rows spends.0 c.args.recovery willing (c.in-Ok.ensures.renewed acting.world.state there) spends.1 not_last c.renew.ensures.others c.in-Ok.ensures.names
     refl c.clear.ensures.items refl refl (string_bytes c.args.printed.now) (string_bytes c.push_str.new.self)
     (c.in_ok-push_str-in-Ok.ensures.bytes ∙ ap (λ t. string_bytes c.args.printed.now ++ t) (c.deref.ensures ∙ opening ∙ said))
 

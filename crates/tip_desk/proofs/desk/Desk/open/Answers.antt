@@ -1,12 +1,16 @@
-use Rattle.std.proofs.Common.{◌≡◌, ◌∙◌, ap, map, subst, sym}
-use Rattle.tip_desk.proofs.Desks.{bare_opened, kept_opened}
-use Rattle.tip_desk.specs.Entries.{AreKept, bare}
-use Rattle.tip_desk.specs.Openings.{opened}
+use Rattle.std.proofs.Common.{◌∙◌, ◌++◌, ap, length, map, subst}
+use Rattle.tip_desk.proofs.Beginning.{opens_honest, rows_opened}
+use Rattle.tip_desk.specs.Openings.{AreTaken, opened}
 use Rattle.tip_desk.proofs.desk.Desk.open.Goals as goal
 
 pub invariant_of-result : goal.invariant_of-result
 invariant_of-result g c =
-    let realms = c.args.recovering.realms in
-    let begins : c.in-Ok.journals ≡ map opened realms = c.in-Ok.ensures ∙ ap (map opened) c.realms.ensures in
-    subst (AreKept c.in-Ok-begin.host.core) (sym (ap bare begins ∙ bare_opened realms))
-    (kept_opened c.args.recovering.core c.in-Ok-begin.host.core realms c.in-Ok-begin.ensures.realms c.in-Ok-begin.ensures.anew)
+    let same = c.realms.ensures in
+    opens_honest c.args.recovering.core c.in-Ok-begin.host.core c.args.recovering.realms _
+    (c.in-Ok.ensures.journals ∙ ap (map opened) same) (subst (λ rs. AreTaken (length rs) c.in-Ok.rows rs) same c.in-Ok.ensures.rows) (c.in-Ok.ensures.count ∙ ap length same)
+    (λ place. (λ i. c.new-3.ensures place i ++ c.new-2.ensures place i)) c.in-Ok-begin.ensures.realms c.in-Ok-begin.ensures.anew c.in-Ok-begin.ensures.adopted
+
+pub returns-in-Ok-begin-clause-rows : goal.returns-in-Ok-begin-clause-rows
+returns-in-Ok-begin-clause-rows g c =
+    let same = c.realms.ensures in
+    rows_opened c.in-Ok.rows c.args.recovering.realms (subst (λ rs. AreTaken (length rs) c.in-Ok.rows rs) same c.in-Ok.ensures.rows) (c.in-Ok.ensures.count ∙ ap length same)

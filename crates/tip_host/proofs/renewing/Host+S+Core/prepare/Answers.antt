@@ -3,6 +3,7 @@ use Rattle.std.proofs.Common.{◌≡◌, ◌∙◌, ap, arith, rules, subst}
 use Rattle.std.proofs.lemmas.Bool.Decides.{nat_tests}
 use Rattle.tip_core.specs.Hosted.{realm as realm_at}
 use Rattle.tip_machine.specs.declared.head.Head.{Head}
+use Rattle.tip_recovery.proofs.Rereading.{again_epoch, again_realm}
 use Rattle.tip_host.specs.Loading.{IsRead}
 use Rattle.tip_host.proofs.Renewals.{is_there, its_head, looked_up, other_epoch, other_rows}
 use Rattle.tip_host.proofs.renewing.Host+S+Core.prepare.Goals.{then-not-is_read_again-via-then-not-is_read_again, then-not-is_read_again-via-else-not-is_read_again+then-epoch-head}
@@ -45,12 +46,19 @@ returns-clause-absent g c =
 pub returns-clause-read : goal.returns-clause-read
 returns-clause-read g c =
     let here = looked_up c.heads.result.now c.args.realm c.in-Some.head.now (realm_at c.args.self.now.core c.args.realm) c.in-Some.ensures.lookup.3.0 c.in-Some.ensures.lookup.1 (c.heads.ensures c.args.realm) in
-    λ log state stood there true_now. subst (λ (h : Head). IsRead log h.name c.in_ok-fresh.fresh) (its_head (realm_at c.args.self.now.core c.args.realm) c.in-Some.head.now here state there) (c.in_ok-fresh.ensures.read log stood true_now)
+    λ state there.
+    let head = its_head (realm_at c.args.self.now.core c.args.realm) c.in-Some.head.now here state there in
+    let same : c.in-Some.head.now.epoch ≡ state.head.epoch = ap (λ (h : Head). h.epoch) head in (
+      c.in_ok-fresh.fresh,
+      grind (arith, same),
+      search rules,
+      λ log stood true_now. subst (λ (h : Head). IsRead log h.name c.in_ok-fresh.fresh) head (c.in_ok-fresh.ensures.read log stood true_now),
+    )
 
 pub returns-clause-named : goal.returns-clause-named
 returns-clause-named g c =
     let here = looked_up c.heads.result.now c.args.realm c.in-Some.head.now (realm_at c.args.self.now.core c.args.realm) c.in-Some.ensures.lookup.3.0 c.in-Some.ensures.lookup.1 (c.heads.ensures c.args.realm) in
-    λ state there. c.in_ok-fresh.ensures.own.name ∙ ap (λ (h : Head). h.name) (its_head (realm_at c.args.self.now.core c.args.realm) c.in-Some.head.now here state there)
+    λ state there. again_realm c.args.recovery.now c.in_ok-fresh.fresh (search rules) ∙ c.in_ok-fresh.ensures.own.name ∙ ap (λ (h : Head). h.name) (its_head (realm_at c.args.self.now.core c.args.realm) c.in-Some.head.now here state there)
 
 pub returns-clause-epoch : goal.returns-clause-epoch
 returns-clause-epoch g c =
@@ -58,4 +66,4 @@ returns-clause-epoch g c =
     λ state there.
     let same : c.in-Some.head.now.epoch ≡ state.head.epoch = ap (λ (h : Head). h.epoch) (its_head (realm_at c.args.self.now.core c.args.realm) c.in-Some.head.now here state there) in
     let now : c.in_ok-fresh.fresh.epoch ≡ state.head.epoch = grind (arith, same) in
-    (now, grind (arith, now, c.epoch.ensures, c.epoch.type_inv))
+    (again_epoch c.args.recovery.now c.in_ok-fresh.fresh (search rules) ∙ now, grind (arith, now, c.epoch.ensures, c.epoch.type_inv))

@@ -14,12 +14,13 @@ renew_by-requires-clause-here g c =
 pub returns-in-Ok-clause-renewed : goal.returns-in-Ok-clause-renewed
 returns-in-Ok-clause-renewed g c = λ state there.
     let still = subst (λ core. realm_at core c.args.realm ≡ Some state) (sym c.prepare.ensures.core) there in
+    let read = c.in-Ok.ensures.read state there in
     IfOk-weaker c.renew_by.result _ _ (λ left own. record {
-      fresh = c.in-Ok.fresh;
-      epoch = (c.in-Ok.ensures.epoch state there).0;
+      fresh = read.0;
+      epoch = read.1;
       rises = (c.in-Ok.ensures.epoch state there).1;
-      again = c.in-Ok.ensures.again;
+      again = read.2;
       adopted = c.in-Ok.ensures.adopted;
-      read = λ log stood true_now. c.in-Ok.ensures.read log state stood there ((c.renew_by.ensures.store state still).truth true_now);
+      read = λ log stood true_now. read.3 log stood ((c.renew_by.ensures.store state still).truth true_now);
       state_is = own;
     }) (c.renew_by.ensures.renewed state still)

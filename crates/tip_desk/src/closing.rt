@@ -1,0 +1,108 @@
+//! The end of a desk that is relied on: what is stored is read once more.
+ghost use Rattle.std.specs.Prelude.{◌≡◌, ◌<◌, ℕ, Some, true, false, slice_get, IfErr, IfOk, IfSome};
+ghost use Rattle.tip_branch.specs.Always.{Always};
+ghost use Rattle.tip_core.specs.Hosted.{realm as realm_at};
+ghost use Rattle.tip_honest.specs.Hosts.{IsHonestRun};
+ghost use Rattle.tip_kept.specs.Keeping.{rows_at};
+ghost use Rattle.tip_machine.specs.States.{State};
+ghost use Rattle.tip_rows.specs.Logs.{IsPart, Log};
+ghost use Rattle.tip_desk.specs.Desks.{IsShown};
+ghost use Rattle.tip_desk.specs.Entries.{bare};
+
+use crate::desk::Desk;
+use crate::opening::Opening;
+use crate::renewing::are_stored;
+use std::alloc::Global;
+use thiserror::Error;
+use tip_honest::Entry;
+use tip_host::RenewFault;
+use tip_journal::Journals;
+use tip_rows::RowLog;
+
+/// Why a desk was not closed.
+#[derive(Clone, Copy, Debug, PartialEq, Eq, Error)]
+pub enum CloseFault {
+    #[error("{0}")]
+    Read(RenewFault),
+    #[error("what is stored is not what the store has answered")]
+    NotStored,
+}
+
+impl From<RenewFault> for CloseFault {
+    ghost use Rattle.tip_desk.specs.declared.closing.CloseFault.TheVariants.{Read};
+
+    ghost from_gives = { λ why fault. fault ≡ Read why };
+
+    fn from(fault: RenewFault) -> CloseFault {
+        CloseFault::Read(fault)
+    }
+}
+
+impl<S: RowLog + Drop> Desk<S> {
+    /// HONEST RUNS, AND WHAT THEY HAVE STORED: the desk ends as by `shut`, once each realm was read once more and the store has shown
+    /// its rows, word for word. So they are the realm's part of any log that the store stands for, as long as it may be relied on. A
+    /// fault hands the desk back, which goes on.
+    pub fn close(
+        self,
+        alloc: Global,
+    ) -> Result<(S, Journals<Opening, Entry>), (CloseFault, Desk<S>)>
+        requires { Always }
+        ensures stands { (log : Log) → S.stands self.host.store log →
+            IfOk result (λ closed. S.stands closed.0 log) }
+        ensures stored { (log : Log) (place : ℕ) (state : State) → S.stands self.host.store log →
+            realm_at self.host.core place ≡ Some state →
+            IfOk result (λ closed. S.is_true closed.0 →
+            IsPart log state.head.name state.head.epoch (rows_at self.books.rows place)) }
+        ensures journals { IfOk result (λ closed. closed.1 ≡ self.books.journals) }
+        ensures honest { IfOk result (λ closed. (place : ℕ) →
+            IfSome (slice_get (bare closed.1) place) (IsHonestRun (rows_at self.books.rows place))) }
+        ensures rest { IfErr result (λ fault. fault.1
+            ≡ record self { host = record self.host { store = fault.1.host.store } }) }
+    {
+        let mut desk = self;
+        match desk.shows_all(alloc) {
+            Ok(true) => Ok(desk.shut()),
+            Ok(false) => Err((CloseFault::NotStored, desk)),
+            Err(fault) => Err((fault.into(), desk)),
+        }
+    }
+
+    /// Whether the store shows the rows of each realm as it has answered.
+    fn shows_all(&mut self, alloc: Global) -> Result<bool, RenewFault>
+        requires { Always }
+        ensures shown { (place : ℕ) → IfOk result (λ yes. yes ≡ true →
+            IsShown S.stands S.is_true self.old.host.store self.new.host.store
+            (realm_at self.old.host.core place) (rows_at self.old.books.rows place)) }
+        ensures stands { (log : Log) → S.stands self.old.host.store log →
+            S.stands self.new.host.store log }
+        ensures rest { self.new
+            ≡ record self.old { host = record self.old.host { store = self.new.host.store } } }
+    {
+        let count = self.host.core.heads().len();
+        for realm in 0..count {
+            if !self.shows(alloc, realm)? {
+                return Ok(false);
+            }
+        }
+        Ok(true)
+    }
+
+    /// Whether the store shows the rows of a realm as it has answered.
+    fn shows(&mut self, alloc: Global, realm: usize) -> Result<bool, RenewFault>
+        requires { Always }
+        ensures shown { IfOk result (λ yes. yes ≡ true →
+            IsShown S.stands S.is_true self.old.host.store self.new.host.store
+            (realm_at self.old.host.core realm) (rows_at self.old.books.rows realm)) }
+        ensures stands { (log : Log) → S.stands self.old.host.store log →
+            S.stands self.new.host.store log }
+        ensures truth { S.is_true self.new.host.store → S.is_true self.old.host.store }
+        ensures rest { self.new
+            ≡ record self.old { host = record self.old.host { store = self.new.host.store } } }
+    {
+        let recovery = self.doubts(alloc, realm)?;
+        if self.epoch(realm) != Some(recovery.epoch()) {
+            return Ok(false);
+        }
+        Ok(are_stored(&self.books, realm, &recovery))
+    }
+}

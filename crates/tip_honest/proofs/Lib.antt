@@ -1,0 +1,7 @@
+pub mod More
+pub mod Standing
+pub mod Chained
+pub mod Agreed
+pub mod Boxes
+pub mod Hosting
+pub mod Untold
