@@ -5,11 +5,15 @@ ghost use Rattle.tip_client.specs.Answers.{has_response};
 ghost use Rattle.tip_client.specs.Dialogues.{Completes, Stops};
 
 use crate::fault::ClientFault;
-use crate::hearing::Hearing;
+use crate::hearing::response_to;
 use crate::saying::say;
 use std::alloc::Global;
 use std::io::{Read, Write};
+use tip_intake::Intake;
 use tip_line::{Command, Response};
+
+/// How many reads one dialogue may make.
+const READS: u64 = 4_294_967_295;
 
 /// Says each command, CR LF behind it, and takes the response to it before the next is said (RFC 2371, sections 4, 11 and
 /// 13). A response may be ERROR; whether the dialogue goes on behind it is the other side's to say. At most 4,294,967,295
@@ -26,11 +30,11 @@ pub fn play_lines<R: Read, W: Write>(
     ensures err { IfErr result (λ fault. Stops fault commands.now (R.remaining reader.old)
         (R.remaining reader.new) (W.contents writer.old) (W.contents writer.new)) }
 {
-    let mut hearing = Hearing::new(alloc)?;
+    let mut intake = Intake::new(alloc, READS)?;
     let mut responses = Vec::with_capacity(alloc, commands.len())?;
     for command in commands {
         say(alloc, writer, command)?;
-        let response = hearing.response_to(alloc, reader, command.name())?;
+        let response = response_to(alloc, &mut intake, reader, command.name())?;
         responses.push(response)?;
     }
     Ok(responses)
