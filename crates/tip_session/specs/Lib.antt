@@ -1,0 +1,5 @@
+pub mod Desks
+pub mod Refusals
+pub mod Sessions
+pub mod Ends
+pub mod Written
