@@ -1,5 +1,5 @@
 -- What was handed in of what was read, and what waits of it.
-use Rattle.std.proofs.Common.{◌≡◌, ◌≤◌, ◌+◌, ◌∙◌, ℕ, Bool, true, false, List, [], ◌∷◌, ◌++◌, map, length, length-append, if◌then◌else◌, arith, Option, Some, None, refl, sym, ap, subst}
+use Rattle.std.proofs.Common.{◌≡◌, ◌≤◌, ◌+◌, ◌*◌, ◌∙◌, ℕ, Bool, true, false, List, [], ◌∷◌, ◌++◌, map, length, length-append, if◌then◌else◌, arith, Option, Some, None, refl, sym, ap, subst}
 use Rattle.std.proofs.lemmas.List.{append_assoc, append-nil, length-map}
 use Rattle.std.proofs.KnownBytes.{Consumes-nil, Consumes-trans}
 use Rattle.std.specs.Io.KnownBytes.{Consumes}
@@ -9,6 +9,7 @@ use Rattle.tip_line.specs.Reading.{Item, Text, cause_of, items_from, items_of, s
 use Rattle.tip_line.specs.declared.lines.Cause.{Cause}
 use Rattle.tip_intake.specs.Intake.{Comes}
 use Rattle.tip_intake.specs.declared.intake.Coming.TheVariants as coming
+use Rattle.tip_intake.specs.declared.intake.InputEnd.{InputEnd}
 use Rattle.tip_intake.specs.declared.intake.InputEnd.TheVariants as input
 use Rattle.tip_intake.specs.declared.intake.Intake.{Intake}
 use Rattle.tip_machine.specs.Events.{heard_of}
@@ -52,13 +53,14 @@ pub record IsBehind (turns count left : ℕ) (old taken : List Heard) (lines : L
   pub many : length handed ≡ count
   pub same : (more : List ℕ) → says (read ++ more) ≡ handed ++ says (lines ++ more)
   pub reads : turns ≤ length read + left
+  pub most : length read + left * 1024 ≤ turns * 1024
 
 pub nothing_read : (turns : ℕ) (old : List Heard) (before : Option (List ℕ)) → IsBehind turns 0 turns old old [] before before
-nothing_read turns old before = record { read = []; consumed = Consumes-nil before; handed = []; gained = sym (append-nil old); many = refl; same = λ more. refl; reads = omega arith }
+nothing_read turns old before = record { read = []; consumed = Consumes-nil before; handed = []; gained = sym (append-nil old); many = refl; same = λ more. refl; reads = omega arith; most = omega arith }
 
 -- octets are read behind the lines that wait
-read_on : (turns count left less : ℕ) (old taken : List Heard) (lines read : List ℕ) (before now after : Option (List ℕ)) → IsBehind turns count left old taken lines before now → Consumes now after read → left ≤ length read + less → IsBehind turns count less old taken (lines ++ read) before after
-read_on turns count left less old taken lines read before now after so more spent = record {
+read_on : (turns count left less : ℕ) (old taken : List Heard) (lines read : List ℕ) (before now after : Option (List ℕ)) → IsBehind turns count left old taken lines before now → Consumes now after read → left ≤ length read + less → length read + less * 1024 ≤ left * 1024 → IsBehind turns count less old taken (lines ++ read) before after
+read_on turns count left less old taken lines read before now after so more spent within = record {
   read = so.read ++ read;
   consumed = Consumes-trans before now after so.read read so.consumed more;
   handed = so.handed;
@@ -66,6 +68,7 @@ read_on turns count left less old taken lines read before now after so more spen
   many = so.many;
   same = λ later. ap says (append_assoc so.read read later) ∙ so.same (read ++ later) ∙ ap (λ l. so.handed ++ says l) (sym (append_assoc lines read later));
   reads = let both = length-append so.read read in let reads = so.reads in omega (arith, both, reads, spent);
+  most = let both = length-append so.read read in let most = so.most in omega (arith, both, most, within);
 }
 
 line_taken : (turns count left : ℕ) (old taken after : List Heard) (lines new : List ℕ) (heard : Heard) (before now : Option (List ℕ)) → IsBehind turns count left old taken lines before now → ((more : List ℕ) → says (lines ++ more) ≡ heard ∷ says (new ++ more)) → after ≡ taken ++ heard ∷ [] → IsBehind turns (count + 1) left old after new before now
@@ -77,6 +80,7 @@ line_taken turns count left old taken after lines new heard before now so comes 
   many = let both = length-append so.handed (heard ∷ []) in let many = so.many in omega (arith, both, many);
   same = λ more. so.same more ∙ ap (λ s. so.handed ++ s) (comes more) ∙ sym (append_assoc so.handed (heard ∷ []) (says (new ++ more)));
   reads = so.reads;
+  most = so.most;
 }
 
 -- What comes next
@@ -84,7 +88,7 @@ line_taken turns count left old taken after lines new heard before now so comes 
 -- what was read and waits, once something came
 behind_line : {T : Type 0} (IsHeard : List ℕ → T → Type 0) (turns count : ℕ) (old taken : List Heard) (i j : Intake) (before now after : Option (List ℕ)) (heard : T) → IsBehind turns count i.reads_left old taken i.lines before now → (comes : Comes IsHeard i j now after (coming.Line heard)) → IsBehind turns count j.reads_left old taken (i.lines ++ comes.read) before after
 behind_line IsHeard turns count old taken i j before now after heard so comes =
-    read_on turns count i.reads_left j.reads_left old taken i.lines comes.read before now after so comes.consumed (let least = comes.at_least in let reads = comes.reads in omega (arith, least, reads))
+    read_on turns count i.reads_left j.reads_left old taken i.lines comes.read before now after so comes.consumed (let least = comes.at_least in let reads = comes.reads in omega (arith, least, reads)) (let at_most = comes.at_most in let reads = comes.reads in omega (arith, at_most, reads))
 
 says_line : {T : Type 0} (IsHeard : List ℕ → T → Type 0) (i j : Intake) (now after : Option (List ℕ)) (made : T) (heard : Heard) → (comes : Comes IsHeard i j now after (coming.Line made)) → ((text : List ℕ) → IsHeard text made → heard ≡ heard_of text) → (more : List ℕ) → says ((i.lines ++ comes.read) ++ more) ≡ heard ∷ says (j.lines ++ more)
 says_line IsHeard i j now after made heard comes is more = ap (map heard_in) (comes.gives.2 more) ∙ ap (λ h. h ∷ says (j.lines ++ more)) (sym (is comes.gives.0 comes.gives.1))
@@ -118,6 +122,7 @@ ends_there end turns count left old taken new lines heard before now so comes ga
         gains.3 ∙ ap (λ t. t ++ gains.0) so.gained ∙ append_assoc old so.handed gains.0,
       );
   all = early_is_all end turns so.read old new now early;
+  bound = let most = so.most in omega (arith, most);
 }
 
 pub ends_at_line : {T : Type 0} (IsHeard : List ℕ → T → Type 0) (end : Ended) (turns count : ℕ) (old taken new : List Heard) (i j : Intake) (before now after : Option (List ℕ)) (made : T) (heard : Heard) → IsBehind turns count i.reads_left old taken i.lines before now → Comes IsHeard i j now after (coming.Line made) → ((text : List ℕ) → IsHeard text made → heard ≡ heard_of text) → IsFront (heard ∷ []) taken new → IsEarly end → HandsIn end turns old new before after
@@ -131,6 +136,7 @@ ends_here end turns count left old taken lines before now so all = record {
   consumed = so.consumed;
   front = λ more. (so.handed, says (lines ++ more), so.same more, so.gained);
   all = all;
+  bound = let most = so.most in omega (arith, most);
 }
 
 -- there was no memory for the reader of lines
@@ -142,23 +148,28 @@ pub ends_without_memory : {T : Type 0} (IsHeard : List ℕ → T → Type 0) (tu
 ends_without_memory IsHeard turns count old taken i j before now after made so comes =
     ends_here ended.NoMemory turns count j.reads_left old taken (i.lines ++ comes.read) before after (behind_line IsHeard turns count old taken i j before now after made so comes) tt
 
+-- what was read where the input ended or the read failed: that read gave nothing
+behind_end : {T : Type 0} (IsHeard : List ℕ → T → Type 0) (turns count : ℕ) (old taken : List Heard) (i j : Intake) (before now after : Option (List ℕ)) (end : InputEnd) → IsBehind turns count i.reads_left old taken i.lines before now → (comes : Comes IsHeard i j now after (coming.End end)) → i.reads_left ≡ comes.pieces + j.reads_left + 1 → IsBehind turns count (j.reads_left + 1) old taken (i.lines ++ comes.read) before after
+behind_end IsHeard turns count old taken i j before now after end so comes reads =
+    read_on turns count i.reads_left (j.reads_left + 1) old taken i.lines comes.read before now after so comes.consumed (let least = comes.at_least in omega (arith, least, reads)) (let at_most = comes.at_most in omega (arith, at_most, reads))
+
 pub ends_at_end : {T : Type 0} (IsHeard : List ℕ → T → Type 0) (turns count : ℕ) (old taken : List Heard) (i j : Intake) (before now after : Option (List ℕ)) → IsBehind turns count i.reads_left old taken i.lines before now → Comes IsHeard i j now after (coming.End input.AtEnd) → HandsIn ended.AtEnd turns old taken before after
 ends_at_end IsHeard turns count old taken i j before now after so comes =
     let lines = i.lines ++ comes.read in
-    let on : IsBehind turns count i.reads_left old taken lines before after = read_on turns count i.reads_left i.reads_left old taken i.lines comes.read before now after so comes.consumed (omega arith) in
+    let on = behind_end IsHeard turns count old taken i j before now after input.AtEnd so comes comes.reads in
     let nothing : says lines ≡ [] = ap (map heard_in) comes.gives.0.0 in
-    ends_here ended.AtEnd turns count i.reads_left old taken lines before after on
+    ends_here ended.AtEnd turns count (j.reads_left + 1) old taken lines before after on
     (on.gained ∙ ap (λ s. old ++ s) (sym (append-nil on.handed) ∙ ap (λ s. on.handed ++ s) (sym nothing ∙ ap says (sym (append-nil lines))) ∙ sym (on.same []) ∙ ap says (append-nil on.read)), comes.gives.1)
 
 pub ends_at_fault : {T : Type 0} (IsHeard : List ℕ → T → Type 0) (turns count : ℕ) (old taken : List Heard) (i j : Intake) (before now after : Option (List ℕ)) → IsBehind turns count i.reads_left old taken i.lines before now → Comes IsHeard i j now after (coming.End input.ReadFault) → HandsIn ended.ReadFault turns old taken before after
 ends_at_fault IsHeard turns count old taken i j before now after so comes =
-    ends_here ended.ReadFault turns count i.reads_left old taken (i.lines ++ comes.read) before after (read_on turns count i.reads_left i.reads_left old taken i.lines comes.read before now after so comes.consumed (omega arith)) tt
+    ends_here ended.ReadFault turns count (j.reads_left + 1) old taken (i.lines ++ comes.read) before after (behind_end IsHeard turns count old taken i j before now after input.ReadFault so comes comes.reads) tt
 
 pub ends_at_limit : {T : Type 0} (IsHeard : List ℕ → T → Type 0) (turns count : ℕ) (old taken : List Heard) (i j : Intake) (before now after : Option (List ℕ)) → IsBehind turns count i.reads_left old taken i.lines before now → Comes IsHeard i j now after (coming.End input.NoReadsLeft) → HandsIn ended.TurnLimit turns old taken before after
 ends_at_limit IsHeard turns count old taken i j before now after so comes =
     let reads = comes.reads.1 in
-    let least = comes.at_least in
-    let on : IsBehind turns count 0 old taken (i.lines ++ comes.read) before after = read_on turns count i.reads_left 0 old taken i.lines comes.read before now after so comes.consumed (omega (arith, reads, least)) in
+    let on : IsBehind turns count 0 old taken (i.lines ++ comes.read) before after =
+    read_on turns count i.reads_left 0 old taken i.lines comes.read before now after so comes.consumed (let least = comes.at_least in omega (arith, reads, least)) (let at_most = comes.at_most in omega (arith, reads, at_most)) in
     ends_here ended.TurnLimit turns count 0 old taken (i.lines ++ comes.read) before after on (let all = on.reads in omega (arith, all))
 
 -- more lines were handed in than there may be reads
@@ -180,12 +191,13 @@ ends_spoilt end turns count left old taken new lines before now so comes gains i
       consumed = so.consumed;
       front = λ more. (so.handed ++ Malformed ∷ [], [], same more ∙ sym (append-nil (so.handed ++ Malformed ∷ [])), gained);
       all = λ more. gained ∙ ap (λ s. old ++ s) (sym (same more));
+      bound = let most = so.most in omega (arith, most);
     })
 
 -- what was read where a fault came
 pub behind_fault : {T : Type 0} (IsHeard : List ℕ → T → Type 0) (turns count : ℕ) (old taken : List Heard) (i j : Intake) (before now after : Option (List ℕ)) (cause : Cause) → IsBehind turns count i.reads_left old taken i.lines before now → (comes : Comes IsHeard i j now after (coming.Fault cause)) → IsBehind turns count j.reads_left old taken (i.lines ++ comes.read) before after × ((more : List ℕ) → says ((i.lines ++ comes.read) ++ more) ≡ Malformed ∷ [])
 behind_fault IsHeard turns count old taken i j before now after cause so comes =
-    (read_on turns count i.reads_left j.reads_left old taken i.lines comes.read before now after so comes.consumed (let least = comes.at_least in let reads = comes.reads in omega (arith, least, reads)), λ more. ap (map heard_in) (comes.gives.0 more))
+    (read_on turns count i.reads_left j.reads_left old taken i.lines comes.read before now after so comes.consumed (let least = comes.at_least in let reads = comes.reads in omega (arith, least, reads)) (let at_most = comes.at_most in let reads = comes.reads in omega (arith, at_most, reads)), λ more. ap (map heard_in) (comes.gives.0 more))
 
 -- of what a reader tells that it has, a front was handed in
 pub front_of_all : (end : Ended) (turns : ℕ) (octets : List ℕ) (old new : List Heard) (after : Option (List ℕ)) → HandsIn end turns old new (Some octets) after → IsFront (says octets) old new

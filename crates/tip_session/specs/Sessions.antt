@@ -1,5 +1,5 @@
 -- What a session hands in of what it reads.
-use Rattle.std.specs.Prelude.{◌≡◌, ◌≤◌, ⊤, length, ℕ, List, ◌++◌, map, Option}
+use Rattle.std.specs.Prelude.{◌≡◌, ◌≤◌, ◌*◌, ⊤, length, ℕ, List, ◌++◌, map, Option}
 use Rattle.std.specs.Io.KnownBytes.{Consumes, IsAtEnd}
 use Rattle.tip_line.specs.Reading.{Item, Text, Bad, items_of}
 use Rattle.tip_machine.specs.Events.{heard_of}
@@ -52,3 +52,8 @@ pub record HandsIn (result : Ended) (turns : ℕ) (old new : List Heard) (before
   pub consumed : Consumes before after read
   pub front : (more : List ℕ) → IsFront (says (read ++ more)) old new
   pub all : IsAll result turns read old new after
+  pub bound : length read ≤ turns * 1024
+
+-- so many reads took this, of 1,024 octets at most
+abbrev pub TakesWithin : ℕ → Option (List ℕ) → Option (List ℕ) → Type 0
+TakesWithin turns before after = (read : List ℕ) × Consumes before after read × (length read ≤ turns * 1024)

@@ -1,8 +1,9 @@
 //! The reader of a connection.
 ghost use Rattle.std.specs.Prelude.{◌≡◌, ◌⊎◌, true, false, Some, None, IfSome};
 ghost use Rattle.tip_session.specs.Desks.{IsOpen, halting, lines_in, name_in};
-ghost use Rattle.tip_session.specs.Ends.{Closing, Exhausts, Finishes, Hands, HasBack, IsServed, LastHands, Paused, Runs, SaysLost, Settles, given_of, run_given};
-ghost use Rattle.tip_session.specs.Sessions.{HandsIn, IsFront, says};
+ghost use Rattle.tip_session.specs.Ends.{Closing, Exhausts, Finishes, HasBack, IsServed, Paused, given_of};
+ghost use Rattle.tip_session.specs.Ends.{Hands, LastHands, Runs, SaysLost, Settles, run_given};
+ghost use Rattle.tip_session.specs.Sessions.{HandsIn, IsFront, TakesWithin, says};
 
 use crate::desk::{Came, Desk, DeskFault, Ready};
 use crate::ended::Ended;
@@ -29,6 +30,7 @@ pub fn serve<D: Desk, I: Read>(
         result ≡ SessionEnd.PeerClosed → Closing octets (D.seen desk.old) (D.seen desk.new)) }
     ensures limit { IfSome (I.remaining reader.old) (λ octets.
         result ≡ SessionEnd.TurnLimit → Exhausts turns octets (D.seen desk.new)) }
+    ensures bound { TakesWithin turns (I.remaining reader.old) (I.remaining reader.new) }
 {
     let ended = read_lines(alloc, desk, reader, turns);
     finish(desk, ended)

@@ -22,7 +22,7 @@ pub enum Written {
 }
 
 /// Writes the lines that the desk gives, in order, until the connection's closing (RFC 2371, section 11). Where it ends
-/// otherwise, the desk may have more to give.
+/// otherwise, the desk may have more to give. The writer is not flushed.
 pub fn write_out<D: Desk, W: Write>(
     alloc: Global,
     desk: &mut D,
