@@ -29,7 +29,7 @@ pub(crate) fn kinds_in(field: &[u8]) -> Option<&[u8]>
 }
 
 /// Whether these are one or more letters of boxes.
-fn are_kinds(field: &[u8]) -> bool
+pub fn are_kinds(field: &[u8]) -> bool
     ensures { result ≡ are_kinds field.now }
 {
     !field.is_empty() && are_all_kinds(field)

@@ -8,4 +8,4 @@ mod kinds;
 
 pub use asking::{Aim, Asked};
 pub use instruction::{Instruction, Octets};
-pub use kinds::plan_of;
+pub use kinds::{are_kinds, plan_of};
