@@ -1,0 +1,6 @@
+pub mod Branches
+pub mod Configurations
+pub mod Documents
+pub mod Faults
+pub mod Limits
+pub mod Realms
