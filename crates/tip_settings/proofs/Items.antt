@@ -1,8 +1,8 @@
 -- The items of an array, read one after another.
-use Rattle.std.proofs.Common.{◌≡◌, ℕ, ◌+◌, ◌<◌, ◌≤◌, List, [], ◌∷◌, ◌++◌, length, drop, get_or, map, Option, Some, None, append-nil, refl, sym, ap, ◌∙◌, append_assoc}
+use Rattle.std.proofs.Common.{◌≡◌, ℕ, zero, suc, ◌+◌, ◌<◌, ◌≤◌, List, [], ◌∷◌, ◌++◌, length, drop, get_or, map, Option, Some, None, append-nil, refl, sym, ap, ◌∙◌, append_assoc}
 use Rattle.std.proofs.lemmas.List.{drop_all, map-append}
 use Rattle.toml.proofs.Views.{items_view-drop}
-use Rattle.toml.specs.Data.{Data}
+use Rattle.toml.specs.Data.{Data, Items, no_items, item, get_item}
 use Rattle.toml.specs.View.{items_view, view}
 use Rattle.toml.specs.declared.value.Value.{Value}
 use Rattle.tip_settings.specs.Documents.{◌>>=◌, each_of}
@@ -53,6 +53,26 @@ unfolding each_of
 not_read read values index value done within is so_far here =
     so_far ∙ ap (λ items. behind done (each_of read items)) (items_view-drop values index value within)
     ∙ ap (λ first. behind done (first >>= (λ y. each_of read (items_view (drop (index + 1) values)) >>= (λ ys. Some (y ∷ ys))))) (ap (λ v. read (view v)) (sym is) ∙ here)
+
+-- an item that is not read, at its index
+pub none_among : {A : Type 0} (read : Data → Option A) (index : ℕ) (items : Items) (value : Data) → get_item index items ≡ Some value → read value ≡ None → each_of read items ≡ None
+unfolding each_of
+none_among read index no_items value there none = absurd (cc)
+none_among read zero (item first rest) value there none = let same : first ≡ value = cc in rw same (rw none refl)
+none_among read (suc index) (item first rest) value there none = nothing_behind (read first) (each_of read rest) (none_among read index rest value there none) where
+  nothing_behind : {A : Type 0} (x : Option A) (xs : Option (List A)) → xs ≡ None → (x >>= (λ y. xs >>= (λ ys. Some (y ∷ ys)))) ≡ None
+  nothing_behind None xs e = refl
+  nothing_behind (Some x) xs e = rw e refl
+
+-- where nothing is read there are no items
+pub no_items_read : {A B : Type 0} (read : Data → Option A) (other : Data → Option B) (items : Items) → each_of read items ≡ Some [] → each_of other items ≡ Some []
+unfolding each_of
+no_items_read read other no_items none = refl
+no_items_read read other (item first rest) none = absurd (some_read (read first) (each_of read rest) none) where
+  some_read : {A : Type 0} (x : Option A) (xs : Option (List A)) → ¬ ((x >>= (λ y. xs >>= (λ ys. Some (y ∷ ys)))) ≡ Some [])
+  some_read None xs e = cc
+  some_read (Some x) None e = cc
+  some_read (Some x) (Some xs) e = cc
 
 -- all are read
 pub all_read : {A : Type 0} (read : Data → Option A) (values : List Value) (index : ℕ) (done : List A) → length values ≤ index

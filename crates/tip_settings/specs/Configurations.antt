@@ -26,9 +26,13 @@ configuration_in table = do
   realms ← realms_in table
   Some (record { store = store; realms = realms })
 
--- THE CONFIGURATION THAT OCTETS ARE: they are text in UTF-8 and a document of TOML, whose keys say all that is needed
+-- text in UTF-8 that is a document of TOML
+unfoldable pub document_of : List ℕ → Option Members
+document_of octets = if is_utf8 octets then parse_document octets else None
+
+-- THE CONFIGURATION THAT OCTETS ARE: a document whose keys say all that is needed
 unfoldable pub configuration : List ℕ → Option Configuration
-configuration octets = if is_utf8 octets then (parse_document octets >>= configuration_in) else None
+configuration octets = document_of octets >>= configuration_in
 
 -- a configuration that was read, as plain data
 abbrev pub data_of : Config → Configuration

@@ -3,4 +3,5 @@ pub mod Configurations
 pub mod Documents
 pub mod Faults
 pub mod Limits
+pub mod Reasons
 pub mod Realms

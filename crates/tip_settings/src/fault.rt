@@ -3,11 +3,9 @@ use crate::limit::Limit;
 use std::alloc::{AllocError, AllocFailed};
 use thiserror::Error;
 
-/// What is wanted of a realm, and is not so.
+/// What is wanted of a realm's table, and is not so.
 #[derive(Clone, Copy, Debug, PartialEq, Eq, Error)]
 pub enum Wanted {
-    #[error("it is not a table")]
-    Table,
     #[error("`name` is not 1 to 16 letters from a to z")]
     Name,
     #[error("`listen` is not a text")]

@@ -1,7 +1,7 @@
 //! A realm of the configuration.
 ghost use Rattle.std.specs.Prelude.{◌≡◌, true, Some, IfOk, IfErr, MatchResult, option_map, string_bytes};
 ghost use Rattle.tip_machine.specs.Heads.{are_allowed};
-ghost use Rattle.tip_settings.specs.Faults.{Fails, Lacks};
+ghost use Rattle.tip_settings.specs.Faults.{Fails, IsLacking, IsWrongAt, Lacks, Refuses};
 ghost use Rattle.tip_settings.specs.Limits.{alone, limit_in, limits_in};
 ghost use Rattle.tip_settings.specs.Realms.{address_in, control_in, listen_in, name_in, realm_in, realm_of, setting_of};
 ghost use Rattle.tip_settings.specs.declared.fault.Wanted.TheVariants as wanted;
@@ -10,30 +10,40 @@ ghost use Rattle.toml.specs.View.{table_view, view};
 use crate::branches::{branches_in, plans_in};
 use crate::config::RealmConfig;
 use crate::documents::{integer_at, text_at, value_at};
-use crate::fault::{RealmFault, Wanted};
+use crate::fault::{ConfigFault, RealmFault, Wanted};
 use crate::limit::Limit;
 use std::alloc::Global;
 use tip_line::{Address, Realm, WordFault};
 use tip_machine::Limits;
 use toml::{Table, Value};
 
-/// The realm that a value is.
+/// The realm that a value is, which stands at this place.
 #[tactic(auto, unfolding(crate::specs::Realms::realm_of))]
-pub(crate) fn realm_of(alloc: Global, value: &Value) -> Result<RealmConfig, RealmFault>
-    ensures { MatchResult result (λ realm. realm_of (view value.now) ≡ Some (setting_of realm))
-        (λ fault. Fails fault (realm_of (view value.now))) }
+pub(crate) fn realm_of(
+    alloc: Global,
+    value: &Value,
+    place: usize,
+) -> Result<RealmConfig, ConfigFault>
+    ensures ok { IfOk result (λ realm. realm_of (view value.now) ≡ Some (setting_of realm)) }
+    ensures wrong { IfErr result (λ fault. Refuses fault (realm_of (view value.now))) }
+    ensures why { IfErr result (λ fault. IsWrongAt place fault (view value.now)) }
 {
-    match value.as_table() {
-        Some(table) => realm_in(alloc, table),
-        None => Err(RealmFault::Wrong(Wanted::Table)),
+    let Some(table) = value.as_table() else {
+        return Err(ConfigFault::Realms);
+    };
+    match realm_in(alloc, table) {
+        Ok(realm) => Ok(realm),
+        Err(RealmFault::Memory) => Err(ConfigFault::Memory),
+        Err(RealmFault::Wrong(wanted)) => Err(ConfigFault::Realm { place, wanted }),
     }
 }
 
 #[tactic(auto, unfolding(crate::specs::Realms::realm_in))]
 fn realm_in(alloc: Global, table: &Table) -> Result<RealmConfig, RealmFault>
-    ensures { MatchResult result
-        (λ realm. realm_in (table_view table.now) ≡ Some (setting_of realm))
-        (λ fault. Fails fault (realm_in (table_view table.now))) }
+    ensures ok { IfOk result
+        (λ realm. realm_in (table_view table.now) ≡ Some (setting_of realm)) }
+    ensures wrong { IfErr result (λ fault. Fails fault (realm_in (table_view table.now))) }
+    ensures why { IfErr result (λ fault. IsLacking fault (table_view table.now)) }
 {
     let name = name_in(alloc, table)?;
     let listen = listen_in(alloc, table)?;
@@ -114,6 +124,7 @@ fn limits_in(table: &Table) -> Result<Limits, RealmFault>
     ensures ok { IfOk result (λ limits. limits_in (table_view table.now) ≡ Some limits) }
     ensures allowed { IfOk result (λ limits. are_allowed limits ≡ true) }
     ensures wrong { IfErr result (λ fault. Fails fault (limits_in (table_view table.now))) }
+    ensures why { IfErr result (λ fault. IsLacking fault (table_view table.now)) }
 {
     Ok(Limits {
         connections: limit_in(table, Limit::Connections)?,
