@@ -1,11 +1,12 @@
 -- The items of an array, read one after another.
 use Rattle.std.proofs.Common.{◌≡◌, ℕ, zero, suc, ◌+◌, ◌<◌, ◌≤◌, List, [], ◌∷◌, ◌++◌, length, drop, get_or, map, Option, Some, None, append-nil, refl, sym, ap, ◌∙◌, append_assoc}
 use Rattle.std.proofs.lemmas.List.{drop_all, map-append}
+use Rattle.tip_rows.specs.Reading.{◌>>=◌}
 use Rattle.toml.proofs.Views.{items_view-drop}
 use Rattle.toml.specs.Data.{Data, Items, no_items, item, get_item}
 use Rattle.toml.specs.View.{items_view, view}
 use Rattle.toml.specs.declared.value.Value.{Value}
-use Rattle.tip_settings.specs.Documents.{◌>>=◌, each_of}
+use Rattle.tip_settings.specs.Documents.{each_of}
 
 -- what is read in front of the others
 abbrev pub behind : {A : Type 0} → List A → Option (List A) → Option (List A)

@@ -3,10 +3,10 @@ use Rattle.std.specs.Prelude.{ℕ, zero, suc, ◌+◌, ◌==◌, List, [], ◌�
 use Rattle.tip_branch.specs.declared.branch.Plan.{Plan}
 use Rattle.tip_rows.specs.Branches.{are_branches}
 use Rattle.tip_rows.specs.Labels.{is_label}
-use Rattle.tip_rows.specs.Reading.{checked}
+use Rattle.tip_rows.specs.Reading.{◌>>=◌, checked}
 use Rattle.tip_rows.specs.Rows.{first_label}
 use Rattle.tip_script.specs.Scripts.{are_kinds, plans_of}
-use Rattle.tip_settings.specs.Documents.{◌>>=◌, each_of, text_at}
+use Rattle.tip_settings.specs.Documents.{each_of, text_at}
 use Rattle.toml.specs.Data.{Data, Members, as_array, as_str, get_member}
 
 -- a letter for each branch, 1 to 8

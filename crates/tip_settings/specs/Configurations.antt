@@ -1,8 +1,8 @@
 -- What the operator's configuration says: the file in which rows are kept, and the realms that are to be served.
 use Rattle.std.specs.Prelude.{ℕ, List, [], ◌∷◌, map, Bool, true, false, Option, Some, None, codes, if◌then◌else◌, string_bytes}
 use Rattle.std.specs.Str.{is_utf8}
-use Rattle.tip_rows.specs.Reading.{checked}
-use Rattle.tip_settings.specs.Documents.{◌>>=◌, array_at, each_of, text_at}
+use Rattle.tip_rows.specs.Reading.{◌>>=◌, checked}
+use Rattle.tip_settings.specs.Documents.{array_at, each_of, text_at}
 use Rattle.tip_settings.specs.Realms.{Setting, realm_of, setting_of}
 use Rattle.tip_settings.specs.declared.config.Config.{Config}
 use Rattle.toml.specs.Data.{Members}

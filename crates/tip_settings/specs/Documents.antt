@@ -1,11 +1,7 @@
 -- What stands at the keys of a TOML table.
-use Rattle.std.specs.Prelude.{ℕ, ℤ, List, [], ◌∷◌, Option, Some, None}
+use Rattle.std.specs.Prelude.{ℕ, ℤ, List, [], ◌∷◌, Option, Some}
+use Rattle.tip_rows.specs.Reading.{◌>>=◌}
 use Rattle.toml.specs.Data.{Data, Items, no_items, item, Members, as_array, as_integer, as_str, get_member}
-
-infixl 10 ◌>>=◌
-abbrev pub ◌>>=◌ : {A B : Type 0} → Option A → (A → Option B) → Option B
-None >>= f = None
-(Some x) >>= f = f x
 
 -- the text, the whole number and the array at a key
 abbrev pub text_at : List ℕ → Members → Option (List ℕ)

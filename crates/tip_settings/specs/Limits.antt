@@ -2,8 +2,8 @@
 use Rattle.std.specs.Prelude.{ℕ, ℤ, pos, negsuc, List, Option, Some, None, codes}
 use Rattle.tip_machine.specs.Heads.{are_allowed}
 use Rattle.tip_machine.specs.declared.head.Limits.{Limits}
-use Rattle.tip_rows.specs.Reading.{checked}
-use Rattle.tip_settings.specs.Documents.{◌>>=◌, integer_at}
+use Rattle.tip_rows.specs.Reading.{◌>>=◌, checked}
+use Rattle.tip_settings.specs.Documents.{integer_at}
 use Rattle.tip_settings.specs.declared.limit.Limit.{Limit}
 use Rattle.tip_settings.specs.declared.limit.Limit.TheVariants.{Connections, Transactions, Boxes, Entries}
 use Rattle.toml.specs.Data.{Members}

@@ -3,9 +3,9 @@ use Rattle.std.specs.Prelude.{ℕ, List, length, Option, Some, None, codes, opti
 use Rattle.tip_branch.specs.declared.branch.Plan.{Plan}
 use Rattle.tip_line.specs.Words.{is_address, is_realm}
 use Rattle.tip_machine.specs.declared.head.Limits.{Limits}
-use Rattle.tip_rows.specs.Reading.{checked}
+use Rattle.tip_rows.specs.Reading.{◌>>=◌, checked}
 use Rattle.tip_settings.specs.Branches.{branches_in, plans_in}
-use Rattle.tip_settings.specs.Documents.{◌>>=◌, text_at}
+use Rattle.tip_settings.specs.Documents.{text_at}
 use Rattle.tip_settings.specs.Limits.{limits_in}
 use Rattle.tip_settings.specs.declared.config.RealmConfig.{RealmConfig}
 use Rattle.toml.specs.Data.{Data, Members, as_str, as_table, get_member}

@@ -1,9 +1,9 @@
 -- Why octets are no configuration: what each fault says of them.
 use Rattle.std.specs.Prelude.{◌≡◌, ℕ, zero, suc, ◌+◌, ◌≤◌, ◌==◌, List, count_by, length, take, Bool, false, Option, Some, None, codes, is_some, option_map}
-use Rattle.tip_rows.specs.Reading.{checked}
+use Rattle.tip_rows.specs.Reading.{◌>>=◌, checked}
 use Rattle.tip_settings.specs.Branches.{branches_in, plans_in}
 use Rattle.tip_settings.specs.Configurations.{document_of, has_some}
-use Rattle.tip_settings.specs.Documents.{◌>>=◌, array_at, each_of, text_at}
+use Rattle.tip_settings.specs.Documents.{array_at, each_of, text_at}
 use Rattle.tip_settings.specs.Limits.{limit_in}
 use Rattle.tip_settings.specs.Realms.{address_in, control_in, listen_in, name_in}
 use Rattle.tip_settings.specs.declared.fault.ConfigFault.{ConfigFault}
