@@ -16,13 +16,6 @@ behind_more : {A : Type 0} (done : List A) (x : A) (rest : Option (List A)) → 
 behind_more done x None = refl
 behind_more done x (Some xs) = ap Some (sym (append_assoc done (x ∷ []) xs))
 
--- nothing was read yet
-pub begun : {A : Type 0} (read : Data → Option A) (values : List Value) → each_of read (items_view values) ≡ behind [] (each_of read (items_view (drop 0 values)))
-begun read values = behind_none (each_of read (items_view values)) where
-  behind_none : {A : Type 0} (rest : Option (List A)) → rest ≡ behind [] rest
-  behind_none None = refl
-  behind_none (Some xs) = refl
-
 -- one item more is read
 pub one_more : {A : Type 0} (read : Data → Option A) (values : List Value) (index : ℕ) (value : Value) (done : List A) (x : A) → index < length values → value ≡ get_or values index value
     → each_of read (items_view values) ≡ behind done (each_of read (items_view (drop index values))) → read (view value) ≡ Some x

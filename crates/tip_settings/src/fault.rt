@@ -52,6 +52,18 @@ pub enum ConfigFault {
     },
 }
 
+impl From<Limit> for RealmFault {
+    ghost use Rattle.std.specs.Prelude.{◌≡◌};
+    ghost use Rattle.tip_settings.specs.declared.fault.RealmFault.TheVariants.{Wrong};
+    ghost use Rattle.tip_settings.specs.declared.fault.Wanted.TheVariants as wanted;
+
+    ghost from_gives = { λ limit fault. fault ≡ Wrong (wanted.Limit limit) };
+
+    fn from(limit: Limit) -> RealmFault {
+        RealmFault::Wrong(Wanted::Limit(limit))
+    }
+}
+
 impl From<AllocError> for RealmFault {
     ghost use Rattle.std.specs.Prelude.{◌≡◌};
     ghost use Rattle.tip_settings.specs.declared.fault.RealmFault.TheVariants.{Memory};

@@ -1,5 +1,5 @@
 //! A realm of the configuration.
-ghost use Rattle.std.specs.Prelude.{◌≡◌, true, Some, IfOk, IfErr, MatchResult, option_map, string_bytes};
+ghost use Rattle.std.specs.Prelude.{◌≡◌, true, Some, None, IfOk, IfErr, OnErr, MatchResult, option_map, string_bytes};
 ghost use Rattle.tip_machine.specs.Heads.{are_allowed};
 ghost use Rattle.tip_settings.specs.Faults.{Fails, IsLacking, IsWrongAt, Lacks, Refuses};
 ghost use Rattle.tip_settings.specs.Limits.{alone, limit_in, limits_in};
@@ -120,11 +120,11 @@ fn control_in(alloc: Global, table: &Table) -> Result<Option<String>, RealmFault
 }
 
 #[tactic(auto, using(crate::proofs::LimitLemmas::together), unfolding(crate::specs::Limits::limits_in))]
-fn limits_in(table: &Table) -> Result<Limits, RealmFault>
+fn limits_in(table: &Table) -> Result<Limits, Limit>
     ensures ok { IfOk result (λ limits. limits_in (table_view table.now) ≡ Some limits) }
     ensures allowed { IfOk result (λ limits. are_allowed limits ≡ true) }
-    ensures wrong { IfErr result (λ fault. Fails fault (limits_in (table_view table.now))) }
-    ensures why { IfErr result (λ fault. IsLacking fault (table_view table.now)) }
+    ensures wrong { OnErr result (limits_in (table_view table.now) ≡ None) }
+    ensures why { IfErr result (λ limit. limit_in limit (table_view table.now) ≡ None) }
 {
     Ok(Limits {
         connections: limit_in(table, Limit::Connections)?,
@@ -134,19 +134,18 @@ fn limits_in(table: &Table) -> Result<Limits, RealmFault>
     })
 }
 
-/// A limit, which takes no memory.
 #[tactic(auto, unfolding(crate::specs::Limits::limit_in))]
-fn limit_in(table: &Table, limit: Limit) -> Result<u32, RealmFault>
+fn limit_in(table: &Table, limit: Limit) -> Result<u32, Limit>
     ensures ok { IfOk result (λ number. limit_in limit (table_view table.now) ≡ Some number) }
     ensures allowed { IfOk result (λ number. are_allowed (alone limit number) ≡ true) }
-    ensures wrong { IfErr result
-        (λ fault. Lacks (wanted.Limit limit) fault (limit_in limit (table_view table.now))) }
+    ensures wrong { OnErr result (limit_in limit (table_view table.now) ≡ None) }
+    ensures same { IfErr result (λ wrong. wrong ≡ limit) }
 {
     let Some(number) = integer_at(table, limit.key()) else {
-        return Err(RealmFault::Wrong(Wanted::Limit(limit)));
+        return Err(limit);
     };
     match u32::try_from(number) {
         Ok(number) if limit.alone(number).are_allowed() => Ok(number),
-        _ => Err(RealmFault::Wrong(Wanted::Limit(limit))),
+        _ => Err(limit),
     }
 }
