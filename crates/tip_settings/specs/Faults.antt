@@ -1,7 +1,8 @@
 -- What a reader answers where it reads nothing.
-use Rattle.std.specs.Prelude.{◌≡◌, ℕ, false, Option, Some, None, option_map}
+use Rattle.std.specs.Prelude.{◌≡◌, ℕ, Option, Some, None}
+use Rattle.tip_rows.specs.Reading.{◌>>=◌}
 use Rattle.tip_settings.specs.Documents.{each_of}
-use Rattle.tip_settings.specs.Reasons.{has, table_at}
+use Rattle.tip_settings.specs.Reasons.{first_wrong, table_at}
 use Rattle.tip_settings.specs.declared.fault.ConfigFault.{ConfigFault}
 use Rattle.tip_settings.specs.declared.fault.ConfigFault.TheVariants as config
 use Rattle.tip_settings.specs.declared.fault.RealmFault.{RealmFault}
@@ -19,18 +20,18 @@ abbrev pub Fails : {A : Type 0} → RealmFault → Option A → Type 0
 Fails realm.Memory read = Unit {0}
 Fails (realm.Wrong what) read = read ≡ None
 
--- Unless it is out of memory, a table has not what is wanted of it
+-- Unless it is out of memory, that is the first which a table has not of what is wanted
 abbrev pub IsLacking : RealmFault → Members → Type 0
 IsLacking realm.Memory table = Unit {0}
-IsLacking (realm.Wrong wanted) table = has wanted table ≡ false
+IsLacking (realm.Wrong wanted) table = first_wrong table ≡ Some wanted
 
--- the same of a value at a place: it is no table, or one that has not what is wanted
+-- the same of a value at a place; or it is no table
 abbrev pub IsWrongAt : ℕ → ConfigFault → Data → Type 0
 IsWrongAt place config.Memory value = Unit {0}
 IsWrongAt place (config.Syntax line) value = ⊥
 IsWrongAt place config.Store value = ⊥
 IsWrongAt place config.Realms value = as_table value ≡ None
-IsWrongAt place (config.Realm here wanted) value = (here ≡ place) × (option_map (has wanted) (as_table value) ≡ Some false)
+IsWrongAt place (config.Realm here wanted) value = (here ≡ place) × ((as_table value >>= first_wrong) ≡ Some wanted)
 
 -- the same of an array
 abbrev pub IsWrongAmong : ConfigFault → Items → Type 0
@@ -38,7 +39,7 @@ IsWrongAmong config.Memory items = Unit {0}
 IsWrongAmong (config.Syntax line) items = ⊥
 IsWrongAmong config.Store items = ⊥
 IsWrongAmong config.Realms items = each_of as_table items ≡ None
-IsWrongAmong (config.Realm place wanted) items = option_map (has wanted) (table_at place items) ≡ Some false
+IsWrongAmong (config.Realm place wanted) items = (table_at place items >>= first_wrong) ≡ Some wanted
 
 -- there are no realms to be read
 abbrev pub Refuses : {A : Type 0} → ConfigFault → Option A → Type 0

@@ -1,15 +1,18 @@
 -- Why octets are no configuration: what each fault says of them.
-use Rattle.std.specs.Prelude.{◌≡◌, ℕ, zero, suc, ◌+◌, ◌≤◌, ◌==◌, List, count_by, length, take, Bool, false, Option, Some, None, codes, is_some, option_map}
+use Rattle.std.specs.List.{find}
+use Rattle.std.specs.Prelude.{◌≡◌, ℕ, zero, suc, ◌+◌, ◌≤◌, ◌==◌, List, count_by, length, take, Bool, false, not, [], ◌∷◌, Option, Some, None, codes, is_some, option_map}
 use Rattle.tip_rows.specs.Reading.{◌>>=◌, checked}
 use Rattle.tip_settings.specs.Branches.{branches_in, plans_in}
 use Rattle.tip_settings.specs.Configurations.{document_of, has_some}
 use Rattle.tip_settings.specs.Documents.{array_at, each_of, text_at}
 use Rattle.tip_settings.specs.Limits.{limit_in}
 use Rattle.tip_settings.specs.Realms.{address_in, control_in, listen_in, name_in}
-use Rattle.tip_settings.specs.declared.fault.ConfigFault.{ConfigFault}
 use Rattle.tip_settings.specs.declared.fault.ConfigFault.TheVariants.{Memory, Syntax, Store, Realms, Realm}
-use Rattle.tip_settings.specs.declared.fault.Wanted.{Wanted}
+use Rattle.tip_settings.specs.declared.fault.ConfigFault.{ConfigFault}
 use Rattle.tip_settings.specs.declared.fault.Wanted.TheVariants as wanted
+use Rattle.tip_settings.specs.declared.fault.Wanted.{Wanted}
+use Rattle.tip_settings.specs.declared.limit.Limit.TheVariants.{Connections, Transactions, Boxes, Entries}
+use Rattle.tip_settings.specs.declared.limit.Limit.{Limit}
 use Rattle.toml.specs.Data.{Items, Members, as_table, get_item}
 
 -- does a realm's table have what is wanted of it?
@@ -21,6 +24,25 @@ has wanted.Control table = is_some (control_in table)
 has wanted.Votes table = is_some (plans_in table)
 has wanted.Labels table = is_some (plans_in table >>= (λ plans. branches_in (length plans) table))
 has (wanted.Limit limit) table = is_some (limit_in limit table)
+
+-- the order in which that is looked for: the limits stand last
+abbrev pub before_limits : List Wanted
+before_limits = wanted.Name ∷ wanted.Listen ∷ wanted.Address ∷ wanted.Control ∷ wanted.Votes ∷ wanted.Labels ∷ []
+
+abbrev pub every_limit : List Limit
+every_limit = Connections ∷ Transactions ∷ Boxes ∷ Entries ∷ []
+
+-- the first limit that a table has not
+abbrev pub first_limit : Members → Option Limit
+first_limit table = find (λ limit. not (is_some (limit_in limit table))) every_limit
+
+abbrev pub wanted_or : Option Wanted → Option Limit → Option Wanted
+wanted_or (Some want) limit = Some want
+wanted_or None limit = option_map wanted.Limit limit
+
+-- the first of what is wanted that a table has not
+abbrev pub first_wrong : Members → Option Wanted
+first_wrong table = wanted_or (find (λ want. not (has want table)) before_limits) (first_limit table)
 
 -- the table at a place of an array; places count from 1
 abbrev pub table_at : ℕ → Items → Option Members
@@ -37,7 +59,7 @@ IsWrong Memory document = Unit {0}
 IsWrong (Syntax line) document = ⊥
 IsWrong Store document = text_at (codes "store") document ≡ None
 IsWrong Realms document = has_realms document ≡ false
-IsWrong (Realm place wanted) document = option_map (has wanted) (array_at (codes "realm") document >>= table_at place) ≡ Some false
+IsWrong (Realm place wanted) document = (array_at (codes "realm") document >>= table_at place >>= first_wrong) ≡ Some wanted
 
 -- how often a line ends
 abbrev pub line_ends : List ℕ → ℕ

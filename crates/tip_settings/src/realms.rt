@@ -4,6 +4,7 @@ ghost use Rattle.tip_machine.specs.Heads.{are_allowed};
 ghost use Rattle.tip_settings.specs.Faults.{Fails, IsLacking, IsWrongAt, Lacks, Refuses};
 ghost use Rattle.tip_settings.specs.Limits.{alone, limit_in, limits_in};
 ghost use Rattle.tip_settings.specs.Realms.{address_in, control_in, listen_in, name_in, realm_in, realm_of, setting_of};
+ghost use Rattle.tip_settings.specs.Reasons.{first_limit};
 ghost use Rattle.tip_settings.specs.declared.fault.Wanted.TheVariants as wanted;
 ghost use Rattle.toml.specs.View.{table_view, view};
 
@@ -124,7 +125,7 @@ fn limits_in(table: &Table) -> Result<Limits, Limit>
     ensures ok { IfOk result (λ limits. limits_in (table_view table.now) ≡ Some limits) }
     ensures allowed { IfOk result (λ limits. are_allowed limits ≡ true) }
     ensures wrong { OnErr result (limits_in (table_view table.now) ≡ None) }
-    ensures why { IfErr result (λ limit. limit_in limit (table_view table.now) ≡ None) }
+    ensures why { IfErr result (λ limit. first_limit (table_view table.now) ≡ Some limit) }
 {
     Ok(Limits {
         connections: limit_in(table, Limit::Connections)?,
