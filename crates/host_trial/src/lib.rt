@@ -1,4 +1,4 @@
-//! A trial: callers of the desk, and of runs of a host, in another crate, over rows in memory.
+//! A trial: callers of the host, and of runs of a stored core, in another crate, over rows in memory.
 #![tactic(auto)]
 
 #[cfg(test)]

@@ -23,15 +23,13 @@ impl<L: RowLog> RowLog for Relay<L> {
 
     ghost medium = { λ relay. L.medium relay.log };
 
-    ghost stands = { λ relay. L.stands relay.log };
-
-    ghost faults = { λ relay. L.faults relay.log };
-
-    ghost is_true = { λ relay. L.is_true relay.log };
-
-    ghost may_leave = { λ relay. L.may_leave relay.log };
-
-    ghost is_due = { λ relay. L.is_due relay.log };
+    ghost keeping = { record {
+      stands = λ relay. L.keeping.stands relay.log;
+      may_leave = λ relay. L.keeping.may_leave relay.log;
+      is_true = λ relay. L.keeping.is_true relay.log;
+      faults = λ relay. L.keeping.faults relay.log;
+      is_due = λ relay. L.keeping.is_due relay.log;
+    } };
 
     fn know(&mut self, realm: &Realm) -> Result<(), Refused> {
         self.log.know(realm)

@@ -1,10 +1,11 @@
 -- What happens to one connection of a realm.
+use Rattle.tip_rows.specs.Logs.{Keeping}
 use Rattle.std.proofs.Common.{◌≡◌, ◌≤◌, ◌∙◌, ◌++◌, ℕ, suc, zero, Bool, true, false, List, Some, None, length, arith, refl, sym, ap, subst}
 use Rattle.std.specs.Prelude.{slice_get, slice_set}
 use Rattle.std.proofs.lemmas.List.{append_assoc, append-nil}
 use Rattle.tip_actor.specs.Acting.{Acting, Done, Reading, feeds, heard_more, on_connection, on_reading, lines_of, reading_on}
 use Rattle.tip_actor.specs.Listening.{gives}
-use Rattle.tip_actor.specs.Standing.{Actor, AreReadings, Host, IsActing, IsFed, IsReading, Keeping, Tells}
+use Rattle.tip_actor.specs.Standing.{Actor, AreReadings, StoredCore, IsActing, IsFed, IsReading, Tells}
 use Rattle.tip_actor.specs.declared.reader.Reader.{Reader}
 use Rattle.tip_actor.proofs.Doing.{stays}
 use Rattle.tip_actor.proofs.Hearing.{lines_behind}
@@ -42,8 +43,8 @@ pub not_done_on : (f : ℕ → Reading → Acting → Done) (acting : Acting) (c
 not_done_on f acting zero none = refl
 not_done_on f acting (suc index) none = ap (λ r. on_reading f index r acting) none
 
-pub not_told : {S : Type 0} (kept : Keeping S) (host : Host S) (place : ℕ) (actor : Actor) (printed : List ℕ) (acting : Acting) (f : ℕ → Reading → Acting → Done) (connection : ℕ) → reading_on connection acting.readings ≡ None → Tells kept host host place actor actor printed printed false (on_connection f connection acting)
-not_told kept host place actor printed acting f connection none = subst (Tells kept host host place actor actor printed printed false) (sym (not_done_on f acting connection none)) refl
+pub not_told : {S : Type 0} (kept : Keeping S) (stored_core : StoredCore S) (place : ℕ) (actor : Actor) (printed : List ℕ) (acting : Acting) (f : ℕ → Reading → Acting → Done) (connection : ℕ) → reading_on connection acting.readings ≡ None → Tells kept stored_core stored_core place actor actor printed printed false (on_connection f connection acting)
+not_told kept stored_core place actor printed acting f connection none = subst (Tells kept stored_core stored_core place actor actor printed printed false) (sym (not_done_on f acting connection none)) refl
 
 -- Octets come
 
@@ -65,10 +66,10 @@ has_fed readers readers' readings connection index reader reader' octets are num
     )
 
 -- a realm to whose connection octets have come
-pub feeds_so : {S : Type 0} (kept : Keeping S) (host : Host S) (place : ℕ) (actor actor' : Actor) (printed : List ℕ) (acting : Acting) (connection : ℕ) (octets : List ℕ) (told : Bool) → IsActing kept host place actor acting → actor'.name ≡ actor.name → actor'.errands ≡ actor.errands → actor'.is_due ≡ actor.is_due →
-    IsFed told connection octets acting.readings actor'.readers.items → Tells kept host host place actor actor' printed printed told (on_connection (feeds octets) connection acting)
-feeds_so kept host place actor actor' printed acting connection octets true is name errands due fed =
-    subst (Tells kept host host place actor actor' printed printed true) (sym (done_on (feeds octets) acting connection fed.0 fed.1 fed.2 fed.3)) (record {
+pub feeds_so : {S : Type 0} (kept : Keeping S) (stored_core : StoredCore S) (place : ℕ) (actor actor' : Actor) (printed : List ℕ) (acting : Acting) (connection : ℕ) (octets : List ℕ) (told : Bool) → IsActing kept stored_core place actor acting → actor'.name ≡ actor.name → actor'.errands ≡ actor.errands → actor'.is_due ≡ actor.is_due →
+    IsFed told connection octets acting.readings actor'.readers.items → Tells kept stored_core stored_core place actor actor' printed printed told (on_connection (feeds octets) connection acting)
+feeds_so kept stored_core place actor actor' printed acting connection octets true is name errands due fed =
+    subst (Tells kept stored_core stored_core place actor actor' printed printed true) (sym (done_on (feeds octets) acting connection fed.0 fed.1 fed.2 fed.3)) (record {
       own = record {
         served = is.served;
         stored = is.stored;
@@ -80,8 +81,8 @@ feeds_so kept host place actor actor' printed acting connection octets true is n
           readings = fed.4;
         };
       };
-      leaves = stays kept host place actor.name;
+      leaves = stays kept stored_core place actor.name;
       name = name;
       text = sym (append-nil printed);
     })
-feeds_so kept host place actor actor' printed acting connection octets false is name errands due fed = subst (Tells kept host host place actor actor' printed printed false) (sym (not_done_on (feeds octets) acting connection fed.0)) refl
+feeds_so kept stored_core place actor actor' printed acting connection octets false is name errands due fed = subst (Tells kept stored_core stored_core place actor actor' printed printed false) (sym (not_done_on (feeds octets) acting connection fed.0)) refl

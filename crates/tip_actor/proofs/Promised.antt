@@ -13,7 +13,7 @@ use Rattle.tip_branch.specs.declared.branch.Vote.TheVariants as vote
 use Rattle.tip_branch.specs.declared.member.Errand.{Errand}
 use Rattle.tip_branch.specs.declared.member.Errand.TheVariants as errand
 use Rattle.tip_branch.specs.declared.member.Member.{Member}
-use Rattle.tip_host.specs.Errands.{are_untold, was_done}
+use Rattle.tip_stored.specs.Errands.{are_untold, was_done}
 use Rattle.tip_machine.specs.Returns.{Back, are_settlements, are_votes, can_answer, event_of, is_nil, is_settled, is_vote, keeps}
 use Rattle.tip_machine.specs.Types.{Event}
 use Rattle.tip_actor.specs.Promises.{answers_of, answers_to, are_foretold, is_promised, planned, settlements_of, vote_of, votes_of}

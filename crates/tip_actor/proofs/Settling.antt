@@ -1,9 +1,10 @@
 -- Lines that are taken until none may be taken.
+use Rattle.tip_rows.specs.Logs.{Keeping}
 use Rattle.std.proofs.Common.{◌≡◌, ◌≤◌, ◌∙◌, ◌++◌, ℕ, suc, zero, List, Some, None, arith, refl, sym, ap, subst}
 use Rattle.std.proofs.lemmas.List.{append_assoc, append-nil}
 use Rattle.tip_machine.specs.Types.{Event}
 use Rattle.tip_actor.specs.Acting.{Acting, Done, Reading, behind, count_of, goes_on, happens, quiet, takes, takes_next}
-use Rattle.tip_actor.specs.Standing.{Actor, Acts, Host, IsActing, IsActor, IsDone, IsNextLine, Keeping, Leaves}
+use Rattle.tip_actor.specs.Standing.{Actor, Acts, StoredCore, IsActing, IsActor, IsDone, IsNextLine, Leaves}
 use Rattle.tip_actor.proofs.Counting.{lowers}
 use Rattle.tip_actor.proofs.Doing.{leaves_on, stays}
 
@@ -18,38 +19,38 @@ nothing_more (suc left) acting none = ap (λ o. goes_on o acting (takes left)) n
 
 module _ {S : Type 0} (kept : Keeping S) where
   -- so many lines more are enough, behind what was done so far
-  pub record Settles (start host : Host S) (place : ℕ) (first actor : Actor) (before printed : List ℕ) (acting : Acting) : Type 0 where
+  pub record Settles (start stored_core : StoredCore S) (place : ℕ) (first actor : Actor) (before printed : List ℕ) (acting : Acting) : Type 0 where
     pub now : Done
-    pub done : IsDone kept start host place first actor before printed now
+    pub done : IsDone kept start stored_core place first actor before printed now
     pub left : ℕ
     pub enough : count_of now.acting.readings ≤ left
     pub same : takes (count_of acting.readings) acting ≡ behind now.printed (takes left now.acting)
 
-  pub settles_first : (host : Host S) (place : ℕ) (actor : Actor) (printed : List ℕ) (acting : Acting) → IsActing kept host place actor acting → Settles host host place actor actor printed printed acting
-  settles_first host place actor printed acting is = record {
+  pub settles_first : (stored_core : StoredCore S) (place : ℕ) (actor : Actor) (printed : List ℕ) (acting : Acting) → IsActing kept stored_core place actor acting → Settles stored_core stored_core place actor actor printed printed acting
+  settles_first stored_core place actor printed acting is = record {
     now = quiet acting;
-    done = record { own = is; leaves = stays kept host place actor.name; name = refl; text = sym (append-nil printed) };
+    done = record { own = is; leaves = stays kept stored_core place actor.name; name = refl; text = sym (append-nil printed) };
     left = count_of acting.readings;
     enough = omega arith;
     same = refl;
   }
 
   -- a realm whose next line was taken out of its reader
-  without_line : (host : Host S) (place : ℕ) (actor actor' : Actor) (acting : Acting) (readings : List Reading) → IsActing kept host place actor acting → IsActor actor' (record acting { readings = readings }) → IsActing kept host place actor' (record acting { readings = readings })
-  without_line host place actor actor' acting readings is own = record { served = is.served; stored = is.stored; named = is.named; own = own }
+  without_line : (stored_core : StoredCore S) (place : ℕ) (actor actor' : Actor) (acting : Acting) (readings : List Reading) → IsActing kept stored_core place actor acting → IsActor actor' (record acting { readings = readings }) → IsActing kept stored_core place actor' (record acting { readings = readings })
+  without_line stored_core place actor actor' acting readings is own = record { served = is.served; stored = is.stored; named = is.named; own = own }
 
-  pub settles_on : (start host host' : Host S) (place : ℕ) (first actor mid actor' : Actor) (before printed printed' : List ℕ) (acting : Acting) (event : Event) (so : Settles start host place first actor before printed acting) →
-      IsNextLine mid so.now.acting event → Acts kept host host' place mid actor' printed printed' (happens event) → Settles start host' place first actor' before printed' acting
-  settles_on start host host' place first actor mid actor' before printed printed' acting event so next acts =
+  pub settles_on : (start stored_core stored_core' : StoredCore S) (place : ℕ) (first actor mid actor' : Actor) (before printed printed' : List ℕ) (acting : Acting) (event : Event) (so : Settles start stored_core place first actor before printed acting) →
+      IsNextLine mid so.now.acting event → Acts kept stored_core stored_core' place mid actor' printed printed' (happens event) → Settles start stored_core' place first actor' before printed' acting
+  settles_on start stored_core stored_core' place first actor mid actor' before printed printed' acting event so next acts =
       let without = record so.now.acting { readings = next.readings } in
       let name : mid.name ≡ actor.name = next.stands.name ∙ sym so.done.own.own.name in
-      let done = acts without (without_line host place actor mid so.now.acting next.readings so.done.own next.stands) in
+      let done = acts without (without_line stored_core place actor mid so.now.acting next.readings so.done.own next.stands) in
       let more = one_more so.left so.now.acting (happens event without) next.takes so.enough in
       record {
         now = behind so.now.printed (happens event without);
         done = record {
           own = done.own;
-          leaves = leaves_on kept start host host' place first.name so.done.leaves (subst (Leaves kept host host' place) (name ∙ so.done.name) done.leaves);
+          leaves = leaves_on kept start stored_core stored_core' place first.name so.done.leaves (subst (Leaves kept stored_core stored_core' place) (name ∙ so.done.name) done.leaves);
           name = done.name ∙ name ∙ so.done.name;
           text = done.text ∙ ap (λ t. t ++ (happens event without).printed) so.done.text ∙ append_assoc before so.now.printed (happens event without).printed;
         };
@@ -58,7 +59,7 @@ module _ {S : Type 0} (kept : Keeping S) where
         same = so.same ∙ ap (behind so.now.printed) more.2 ∙ ap (λ t. record (takes more.0 (happens event without).acting) { printed = t }) (sym (append_assoc so.now.printed (happens event without).printed (takes more.0 (happens event without).acting).printed));
       }
 
-  pub settled : (start host : Host S) (place : ℕ) (first actor last : Actor) (before printed : List ℕ) (acting : Acting) (so : Settles start host place first actor before printed acting) → takes_next so.now.acting ≡ None → IsActor last so.now.acting → IsDone kept start host place first last before printed (takes (count_of acting.readings) acting)
-  settled start host place first actor last before printed acting so none is =
-      subst (IsDone kept start host place first last before printed) (sym (so.same ∙ ap (behind so.now.printed) (nothing_more so.left so.now.acting none) ∙ ap (λ t. record { printed = t; acting = so.now.acting }) (append-nil so.now.printed)))
+  pub settled : (start stored_core : StoredCore S) (place : ℕ) (first actor last : Actor) (before printed : List ℕ) (acting : Acting) (so : Settles start stored_core place first actor before printed acting) → takes_next so.now.acting ≡ None → IsActor last so.now.acting → IsDone kept start stored_core place first last before printed (takes (count_of acting.readings) acting)
+  settled start stored_core place first actor last before printed acting so none is =
+      subst (IsDone kept start stored_core place first last before printed) (sym (so.same ∙ ap (behind so.now.printed) (nothing_more so.left so.now.acting none) ∙ ap (λ t. record { printed = t; acting = so.now.acting }) (append-nil so.now.printed)))
       (record { own = record { served = so.done.own.served; stored = so.done.own.stored; named = so.done.own.named; own = is }; leaves = so.done.leaves; name = is.name ∙ sym so.done.own.own.name ∙ so.done.name; text = so.done.text })

@@ -1,8 +1,8 @@
 -- Why realms that do not start end a script.
-use Rattle.tip_host.specs.declared.loading.LoadFault.{LoadFault}
-use Rattle.tip_host.specs.declared.loading.LoadFault.TheVariants as load
-use Rattle.tip_host.specs.declared.renewing.RenewFault.{RenewFault}
-use Rattle.tip_host.specs.declared.renewing.RenewFault.TheVariants as renew
+use Rattle.tip_stored.specs.declared.loading.LoadFault.{LoadFault}
+use Rattle.tip_stored.specs.declared.loading.LoadFault.TheVariants as load
+use Rattle.tip_stored.specs.declared.renewing.RenewFault.{RenewFault}
+use Rattle.tip_stored.specs.declared.renewing.RenewFault.TheVariants as renew
 use Rattle.tip_actor.specs.declared.fault.ActFault.{ActFault}
 use Rattle.tip_actor.specs.declared.fault.ActFault.TheVariants.{Memory, Store}
 

@@ -11,7 +11,7 @@ use Rattle.tip_branch.specs.declared.branch.Vote.TheVariants.{Yes}
 use Rattle.tip_branch.specs.declared.member.Errand.{Errand}
 use Rattle.tip_branch.specs.declared.member.Errand.TheVariants as errand
 use Rattle.tip_branch.specs.declared.member.Member.{Member}
-use Rattle.tip_host.specs.Errands.{are_untold}
+use Rattle.tip_stored.specs.Errands.{are_untold}
 use Rattle.tip_machine.specs.Returns.{Back}
 
 -- what a branch answers to a commit, by its plan

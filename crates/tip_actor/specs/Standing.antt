@@ -9,31 +9,21 @@ use Rattle.tip_machine.specs.Steps.{step, wants}
 use Rattle.tip_machine.specs.Types.{Answer, Event}
 use Rattle.tip_branch.specs.Notes.{PartyNotes}
 use Rattle.tip_core.specs.Hosted.{Hosted, HaveNames, realm}
-use Rattle.tip_host.specs.declared.host.Host as hosts
+use Rattle.tip_stored.specs.declared.stored_core.StoredCore as stored_cores
 use Rattle.tip_line.specs.Reading.{Item}
 use Rattle.tip_machine.specs.declared.event.Event.TheVariants as events
 use Rattle.tip_machine.specs.declared.event.Heard.{Heard}
 use Rattle.tip_rows.specs.Keys.{Key}
-use Rattle.tip_rows.specs.Logs.{IsPart, Log}
+use Rattle.tip_rows.specs.Logs.{Keeping, IsPart, Log}
 use Rattle.tip_rows.specs.declared.row.Row.{Row}
 use Rattle.tip_actor.specs.Acting.{Acting, Done, Reading, happens, heard_more, is_next, lines_of, outcome_of, reading_on, said_by, still_due, takes_next}
 use Rattle.tip_actor.specs.declared.actor.Actor as actors
 use Rattle.tip_actor.specs.Listening.{gives}
 use Rattle.tip_actor.specs.declared.reader.Reader.{Reader}
 
--- what a script relies on of a store: the logs for which it may stand, whether it may be relied on, and whether a realm's next
--- change will be refused
-pub record Keeping (S : Type 0) : Type 1 where
-  pub stands : S → Log → Type 0
-  pub is_true : S → Type 0
-  pub is_due : S → List ℕ → Bool
-
-abbrev pub keeping : {S : Type 0} → (S → Log → Type 0) → (S → Type 0) → (S → List ℕ → Bool) → Keeping S
-keeping stands is_true is_due = record { stands = stands; is_true = is_true; is_due = is_due }
-
--- the host of a script
-abbrev pub Host : Type 0 → Type 0
-Host S = hosts.Host S Hosted
+-- the stored core of a script
+abbrev pub StoredCore : Type 0 → Type 0
+StoredCore S = stored_cores.StoredCore S Hosted
 
 abbrev pub Actor : Type 0
 Actor = actors.Actor PartyNotes
@@ -75,20 +65,20 @@ pub record IsStored {S : Type 0} (kept : Keeping S) (store : S) (name : List ℕ
   pub part : IsPart log name epoch rows
   pub known : is_some (log.epochs name) ≡ true
 
--- a realm has this place in the host, whose store refuses its next change or not
-pub record IsServed {S : Type 0} (kept : Keeping S) (host : Host S) (place : ℕ) (state : State) (due : Bool) : Type 0 where
-  pub state_is : realm host.core place ≡ Some state
-  pub names : HaveNames host.core
-  pub due_is : kept.is_due host.store state.head.name ≡ due
+-- a realm has this place in the stored core, whose store refuses its next change or not
+pub record IsServed {S : Type 0} (kept : Keeping S) (stored_core : StoredCore S) (place : ℕ) (state : State) (due : Bool) : Type 0 where
+  pub state_is : realm stored_core.core place ≡ Some state
+  pub names : HaveNames stored_core.core
+  pub due_is : kept.is_due stored_core.store state.head.name ≡ due
 
 -- whatever the other realms were, they are
-pub record Leaves {S : Type 0} (kept : Keeping S) (old new : Host S) (place : ℕ) (name : List ℕ) : Type 0 where
+pub record Leaves {S : Type 0} (kept : Keeping S) (old new : StoredCore S) (place : ℕ) (name : List ℕ) : Type 0 where
   pub realms : (other : ℕ) → other ≢ place → realm new.core other ≡ realm old.core other
   pub due : (other : List ℕ) → bytes_eq name other ≡ false → kept.is_due new.store other ≡ kept.is_due old.store other
   pub stored : (other : List ℕ) (epoch : ℕ) (rows : List (Key × Row)) → bytes_eq name other ≡ false → IsStored kept old.store other epoch rows → IsStored kept new.store other epoch rows
 
 -- one event of a realm has happened, and its change was refused exactly where that was due
-pub record Serves {S : Type 0} (kept : Keeping S) (old new : Host S) (place : ℕ) (state : State) (due : Bool) (event : Event) (happened : Happened) : Type 0 where
+pub record Serves {S : Type 0} (kept : Keeping S) (old new : StoredCore S) (place : ℕ) (state : State) (due : Bool) (event : Event) (happened : Happened) : Type 0 where
   pub change : happened.change ≡ wants state event
   pub outcome : happened.outcome ≡ outcome_of due (wants state event)
   pub answer : happened.answer ≡ (step state event (outcome_of due (wants state event))).answer
@@ -97,29 +87,29 @@ pub record Serves {S : Type 0} (kept : Keeping S) (old new : Host S) (place : �
   pub leaves : Leaves kept old new place state.head.name
 
 -- THE CODE STANDS FOR A REALM AT WORK
-pub record IsActing {S : Type 0} (kept : Keeping S) (host : Host S) (place : ℕ) (actor : Actor) (acting : Acting) : Type 0 where
-  pub served : IsServed kept host place acting.world.state acting.due
-  pub stored : IsStored kept host.store acting.world.state.head.name acting.world.state.head.epoch acting.world.rows
+pub record IsActing {S : Type 0} (kept : Keeping S) (stored_core : StoredCore S) (place : ℕ) (actor : Actor) (acting : Acting) : Type 0 where
+  pub served : IsServed kept stored_core place acting.world.state acting.due
+  pub stored : IsStored kept stored_core.store acting.world.state.head.name acting.world.state.head.epoch acting.world.rows
   pub named : acting.world.state.head.name ≡ acting.name
   pub own : IsActor actor acting
 
 -- a realm has done something, and printed it
-pub record IsDone {S : Type 0} (kept : Keeping S) (host host' : Host S) (place : ℕ) (actor actor' : Actor) (printed printed' : List ℕ) (done : Done) : Type 0 where
-  pub own : IsActing kept host' place actor' done.acting
-  pub leaves : Leaves kept host host' place actor.name
+pub record IsDone {S : Type 0} (kept : Keeping S) (stored_core stored_core' : StoredCore S) (place : ℕ) (actor actor' : Actor) (printed printed' : List ℕ) (done : Done) : Type 0 where
+  pub own : IsActing kept stored_core' place actor' done.acting
+  pub leaves : Leaves kept stored_core stored_core' place actor.name
   pub name : actor'.name ≡ actor.name
   pub text : printed' ≡ printed ++ done.printed
 
 -- whatever realm at work the code stood for, it has done this
-abbrev pub Acts : {S : Type 0} → Keeping S → Host S → Host S → ℕ → Actor → Actor → List ℕ → List ℕ → (Acting → Done) → Type 0
-Acts kept host host' place actor actor' printed printed' f = (acting : Acting) → IsActing kept host place actor acting → IsDone kept host host' place actor actor' printed printed' (f acting)
+abbrev pub Acts : {S : Type 0} → Keeping S → StoredCore S → StoredCore S → ℕ → Actor → Actor → List ℕ → List ℕ → (Acting → Done) → Type 0
+Acts kept stored_core stored_core' place actor actor' printed printed' f = (acting : Acting) → IsActing kept stored_core place actor acting → IsDone kept stored_core stored_core' place actor actor' printed printed' (f acting)
 
 -- it was done, or could not be told
-abbrev pub Tells : {S : Type 0} → Keeping S → Host S → Host S → ℕ → Actor → Actor → List ℕ → List ℕ → Bool → Option Done → Type 0
-Tells kept host host' place actor actor' printed printed' true (Some done) = IsDone kept host host' place actor actor' printed printed' done
-Tells kept host host' place actor actor' printed printed' true None = ⊥
-Tells kept host host' place actor actor' printed printed' false (Some done) = ⊥
-Tells kept host host' place actor actor' printed printed' false None = printed' ≡ printed
+abbrev pub Tells : {S : Type 0} → Keeping S → StoredCore S → StoredCore S → ℕ → Actor → Actor → List ℕ → List ℕ → Bool → Option Done → Type 0
+Tells kept stored_core stored_core' place actor actor' printed printed' true (Some done) = IsDone kept stored_core stored_core' place actor actor' printed printed' done
+Tells kept stored_core stored_core' place actor actor' printed printed' true None = ⊥
+Tells kept stored_core stored_core' place actor actor' printed printed' false (Some done) = ⊥
+Tells kept stored_core stored_core' place actor actor' printed printed' false None = printed' ≡ printed
 
 -- the first line that waits on a connection is taken
 pub record TakesLine (reader' : Reader) (reading : Reading) (heard : Heard) : Type 0 where

@@ -5,7 +5,7 @@ ghost use Rattle.tip_machine.specs.States.{State};
 ghost use Rattle.tip_machine.specs.declared.event.Outcome.TheVariants.{Refused};
 ghost use Rattle.tip_branch.specs.Always.{Always};
 ghost use Rattle.tip_actor.specs.Acting.{Acting, Reading, after_sent, answer_in, happens, lost_on, refuses, still_due, with_opened};
-ghost use Rattle.tip_actor.specs.Standing.{Acts, AreReadings, IsActing, IsDone, IsServed, Serves, keeping};
+ghost use Rattle.tip_actor.specs.Standing.{Acts, AreReadings, IsActing, IsDone, IsServed, Serves};
 
 use crate::fault::ActFault;
 use crate::readers::Readers;
@@ -14,10 +14,10 @@ use std::alloc::{AllocError, Global};
 use std::collections::VecDeque;
 use tip_branch::HeldParty;
 use tip_core::Happened;
-use tip_host::{Host, HostFault};
 use tip_line::Realm;
 use tip_machine::{Event, Item, Outcome, Seat, Sent};
 use tip_rows::RowLog;
+use tip_stored::{StepFault, StoredCore};
 use tip_transcript::{print, print_brought};
 
 /// A realm, who reads what comes on its connections, and its parties that are out.
@@ -50,29 +50,31 @@ impl Actor<HeldParty> {
         }
     }
 
-    /// One event of the realm, which has this place in the host; what it shows is printed. It says whether the event was refused.
+    /// One event of the realm, which has this place in the stored core; what it shows is printed. It says whether the event was
+    /// refused.
     pub fn happen<S: RowLog>(
         &mut self,
         alloc: Global,
-        host: &mut Host<S>,
+        stored_core: &mut StoredCore<S>,
         place: usize,
         event: Event,
         printed: &mut String,
     ) -> Result<bool, ActFault>
         requires always { Always }
-        requires running { host.old.is_stopped ≡ false }
-        ensures truth { S.is_true host.new.store → S.is_true host.old.store }
-        ensures running { host.new.is_stopped ≡ false }
-        ensures acts { OnOk result (Acts (keeping S.stands S.is_true S.is_due) host.old host.new
+        requires running { stored_core.old.is_stopped ≡ false }
+        ensures truth { S.keeping.is_true stored_core.new.store →
+            S.keeping.is_true stored_core.old.store }
+        ensures running { stored_core.new.is_stopped ≡ false }
+        ensures acts { OnOk result (Acts S.keeping stored_core.old stored_core.new
             place self.old self.new (string_bytes printed.old) (string_bytes printed.new)
             (happens event)) }
         ensures refused { (acting : Acting) →
-            IsActing (keeping S.stands S.is_true S.is_due) host.old place self.old acting →
+            IsActing S.keeping stored_core.old place self.old acting →
             IfOk result (λ refused. refused ≡ is_some (answer_in acting event).refusal) }
     {
         let mut calls = String::new(alloc);
         print_brought(&mut calls, self.name.as_str(), &event)?;
-        let happened = step(host, alloc, place, event, self.is_due)?;
+        let happened = step(stored_core, alloc, place, event, self.is_due)?;
         print(printed, alloc, &self.name, &calls, &happened)?;
         let is_refused = happened.answer.refusal.is_some();
         self.learn(happened)?;
@@ -80,16 +82,17 @@ impl Actor<HeldParty> {
     }
 
     /// The next change of its rows is to be refused, where its store can be asked for that.
-    pub fn refuse<S: RowLog, R: Refuser<S>>(&mut self, refuser: &R, host: &mut Host<S>)
+    pub fn refuse<S: RowLog, R: Refuser<S>>(&mut self, refuser: &R, stored_core: &mut StoredCore<S>)
         requires { Always }
-        ensures truth { S.is_true host.new.store → S.is_true host.old.store }
-        ensures running { host.new.is_stopped ≡ host.old.is_stopped }
+        ensures truth { S.keeping.is_true stored_core.new.store →
+            S.keeping.is_true stored_core.old.store }
+        ensures running { stored_core.new.is_stopped ≡ stored_core.old.is_stopped }
         ensures refuses { R.may ≡ true → (place : ℕ) (printed : List ℕ) (acting : Acting) →
-            IsActing (keeping S.stands S.is_true S.is_due) host.old place self.old acting →
-            IsDone (keeping S.stands S.is_true S.is_due) host.old host.new place self.old self.new
+            IsActing S.keeping stored_core.old place self.old acting →
+            IsDone S.keeping stored_core.old stored_core.new place self.old self.new
             printed printed (refuses acting) }
     {
-        refuser.refuse_next(&mut host.store, &self.name);
+        refuser.refuse_next(&mut stored_core.store, &self.name);
         self.is_due = true;
     }
 
@@ -161,26 +164,27 @@ impl Actor<HeldParty> {
     }
 }
 
-/// One event of a realm by the host, whose store refuses its change only where that is due: another refusal ends the script.
+/// One event of a realm by the stored core, whose store refuses its change only where that is due: another refusal ends the script.
 fn step<S: RowLog>(
-    host: &mut Host<S>,
+    stored_core: &mut StoredCore<S>,
     alloc: Global,
     place: usize,
     event: Event,
     is_due: bool,
 ) -> Result<Happened, ActFault>
-    requires { host.old.is_stopped ≡ false }
-    ensures truth { S.is_true host.new.store → S.is_true host.old.store }
-    ensures running { host.new.is_stopped ≡ false }
+    requires { stored_core.old.is_stopped ≡ false }
+    ensures truth { S.keeping.is_true stored_core.new.store →
+        S.keeping.is_true stored_core.old.store }
+    ensures running { stored_core.new.is_stopped ≡ false }
     ensures serves { (state : State) →
-        IsServed (keeping S.stands S.is_true S.is_due) host.old place state is_due →
-        IfOk result (λ happened. Serves (keeping S.stands S.is_true S.is_due) host.old host.new
+        IsServed S.keeping stored_core.old place state is_due →
+        IfOk result (λ happened. Serves S.keeping stored_core.old stored_core.new
         place state is_due event happened) }
 {
-    let happened = match host.step(alloc, place, event) {
+    let happened = match stored_core.step(alloc, place, event) {
         Ok(happened) => happened,
-        Err((HostFault::Memory, _)) => return Err(ActFault::Memory),
-        Err((HostFault::Stopped, _)) => unreachable!(),
+        Err((StepFault::Memory, _)) => return Err(ActFault::Memory),
+        Err((StepFault::Stopped, _)) => unreachable!(),
     };
     if is_unforeseen(happened.outcome, is_due) {
         return Err(ActFault::Store);

@@ -3,17 +3,17 @@ ghost use Rattle.std.specs.Prelude.{◌≡◌, List, false, IfOk, option_map, st
 ghost use Rattle.tip_script.specs.Moves.{octets_of};
 ghost use Rattle.tip_branch.specs.Always.{Always};
 ghost use Rattle.tip_actor.specs.Acting.{Acting, Reading, loses, on_connection, pulls, pushes, reading_on};
-ghost use Rattle.tip_actor.specs.Standing.{AreReadings, IsActing, IsFed, Tells, keeping};
+ghost use Rattle.tip_actor.specs.Standing.{AreReadings, IsActing, IsFed, Tells};
 
 use crate::actor::Actor;
 use crate::fault::ActFault;
 use std::alloc::{AllocError, Global};
 use tip_branch::HeldParty;
-use tip_host::Host;
 use tip_line::Id;
 use tip_machine::{Event, Seat};
 use tip_rows::RowLog;
 use tip_script::Octets;
+use tip_stored::StoredCore;
 
 impl Actor<HeldParty> {
     /// Octets come on a connection. It says whether the realm has given that connection.
@@ -37,25 +37,26 @@ impl Actor<HeldParty> {
     pub fn lose_connection<S: RowLog>(
         &mut self,
         alloc: Global,
-        host: &mut Host<S>,
+        stored_core: &mut StoredCore<S>,
         place: usize,
         connection: u32,
         printed: &mut String,
     ) -> Result<bool, ActFault>
         requires always { Always }
-        requires running { host.old.is_stopped ≡ false }
-        ensures truth { S.is_true host.new.store → S.is_true host.old.store }
-        ensures running { host.new.is_stopped ≡ false }
+        requires running { stored_core.old.is_stopped ≡ false }
+        ensures truth { S.keeping.is_true stored_core.new.store →
+            S.keeping.is_true stored_core.old.store }
+        ensures running { stored_core.new.is_stopped ≡ false }
         ensures tells { (acting : Acting) →
-            IsActing (keeping S.stands S.is_true S.is_due) host.old place self.old acting →
-            IfOk result (λ told. Tells (keeping S.stands S.is_true S.is_due) host.old host.new place
+            IsActing S.keeping stored_core.old place self.old acting →
+            IfOk result (λ told. Tells S.keeping stored_core.old stored_core.new place
             self.old self.new (string_bytes printed.old) (string_bytes printed.new) told
             (on_connection loses connection acting)) }
     {
         let Some(seat) = self.seat(connection) else {
             return Ok(false);
         };
-        let is_refused = self.happen(alloc, host, place, Event::Lost { seat }, printed)?;
+        let is_refused = self.happen(alloc, stored_core, place, Event::Lost { seat }, printed)?;
         if !is_refused {
             self.forget(connection);
         }
@@ -66,26 +67,33 @@ impl Actor<HeldParty> {
     pub fn push<S: RowLog>(
         &mut self,
         alloc: Global,
-        host: &mut Host<S>,
+        stored_core: &mut StoredCore<S>,
         place: usize,
         connection: u32,
         id: Id,
         printed: &mut String,
     ) -> Result<bool, ActFault>
         requires always { Always }
-        requires running { host.old.is_stopped ≡ false }
-        ensures truth { S.is_true host.new.store → S.is_true host.old.store }
-        ensures running { host.new.is_stopped ≡ false }
+        requires running { stored_core.old.is_stopped ≡ false }
+        ensures truth { S.keeping.is_true stored_core.new.store →
+            S.keeping.is_true stored_core.old.store }
+        ensures running { stored_core.new.is_stopped ≡ false }
         ensures tells { (acting : Acting) →
-            IsActing (keeping S.stands S.is_true S.is_due) host.old place self.old acting →
-            IfOk result (λ told. Tells (keeping S.stands S.is_true S.is_due) host.old host.new place
+            IsActing S.keeping stored_core.old place self.old acting →
+            IfOk result (λ told. Tells S.keeping stored_core.old stored_core.new place
             self.old self.new (string_bytes printed.old) (string_bytes printed.new) told
             (on_connection (pushes id) connection acting)) }
     {
         let Some(seat) = self.seat(connection) else {
             return Ok(false);
         };
-        self.happen(alloc, host, place, Event::AskPush { seat, id }, printed)?;
+        self.happen(
+            alloc,
+            stored_core,
+            place,
+            Event::AskPush { seat, id },
+            printed,
+        )?;
         Ok(true)
     }
 
@@ -94,19 +102,20 @@ impl Actor<HeldParty> {
     pub fn pull<S: RowLog>(
         &mut self,
         alloc: Global,
-        host: &mut Host<S>,
+        stored_core: &mut StoredCore<S>,
         place: usize,
         connection: u32,
         superior: Id,
         printed: &mut String,
     ) -> Result<bool, ActFault>
         requires always { Always }
-        requires running { host.old.is_stopped ≡ false }
-        ensures truth { S.is_true host.new.store → S.is_true host.old.store }
-        ensures running { host.new.is_stopped ≡ false }
+        requires running { stored_core.old.is_stopped ≡ false }
+        ensures truth { S.keeping.is_true stored_core.new.store →
+            S.keeping.is_true stored_core.old.store }
+        ensures running { stored_core.new.is_stopped ≡ false }
         ensures tells { (acting : Acting) →
-            IsActing (keeping S.stands S.is_true S.is_due) host.old place self.old acting →
-            IfOk result (λ told. Tells (keeping S.stands S.is_true S.is_due) host.old host.new place
+            IsActing S.keeping stored_core.old place self.old acting →
+            IfOk result (λ told. Tells S.keeping stored_core.old stored_core.new place
             self.old self.new (string_bytes printed.old) (string_bytes printed.new) told
             (on_connection (pulls superior) connection acting)) }
     {
@@ -115,7 +124,7 @@ impl Actor<HeldParty> {
         };
         self.happen(
             alloc,
-            host,
+            stored_core,
             place,
             Event::AskPull { seat, superior },
             printed,

@@ -8,7 +8,7 @@ ghost use Rattle.tip_machine.specs.Outputs.{drops_of};
 ghost use Rattle.tip_machine.specs.States.{State};
 ghost use Rattle.tip_transcript.specs.Printing.{shown_text};
 ghost use Rattle.tip_actor.specs.Acting.{Acting, restarts};
-ghost use Rattle.tip_actor.specs.Standing.{IsActing, keeping};
+ghost use Rattle.tip_actor.specs.Standing.{IsActing};
 
 use crate::actor::Actor;
 use crate::readers::Readers;
@@ -16,9 +16,9 @@ use std::alloc::{AllocError, Global};
 use std::collections::VecDeque;
 use tip_branch::HeldParty;
 use tip_core::Core;
-use tip_host::Host;
 use tip_machine::PartyPlace;
 use tip_rows::RowLog;
+use tip_stored::StoredCore;
 use tip_transcript::print_drops;
 
 impl Actor<HeldParty> {
@@ -26,19 +26,19 @@ impl Actor<HeldParty> {
     /// and then of those that are here.
     pub fn print_leaving<S: RowLog>(
         &self,
-        host: &Host<S>,
+        stored_core: &StoredCore<S>,
         place: usize,
         printed: &mut String,
     ) -> Result<(), AllocError>
         requires { Always }
         ensures { (acting : Acting) →
-            IsActing (keeping S.stands S.is_true S.is_due) host.now place self.now acting →
+            IsActing S.keeping stored_core.now place self.now acting →
             OnOk result
             (string_bytes printed.new ≡ string_bytes printed.old ++ (restarts acting).printed) }
     {
         let name = self.name.as_str();
         print_out(printed, name, &self.errands)?;
-        print_here(printed, name, &host.core, place)
+        print_here(printed, name, &stored_core.core, place)
     }
 
     /// The realm where the process starts again: no connection is there, and no party is out.

@@ -6,15 +6,15 @@ ghost use Rattle.tip_machine.specs.Returns.{event_of};
 ghost use Rattle.tip_branch.specs.Always.{Always};
 ghost use Rattle.tip_actor.specs.Acting.{Acting, drops_from, goes_for};
 ghost use Rattle.tip_actor.specs.Promises.{answers_of, are_foretold, is_promised};
-ghost use Rattle.tip_actor.specs.Standing.{IsActing, IsDone, Tells, keeping};
+ghost use Rattle.tip_actor.specs.Standing.{IsActing, IsDone, Tells};
 
 use crate::actor::Actor;
 use crate::fault::ActFault;
 use std::alloc::{AllocError, Global};
 use tip_branch::{Errand, HeldParty, Member, Plan};
-use tip_host::{Host, are_untold, done};
 use tip_machine::Event;
 use tip_rows::RowLog;
+use tip_stored::{StoredCore, are_untold, done};
 use tip_transcript::{print_drops, print_idle};
 
 impl Actor<HeldParty> {
@@ -23,17 +23,18 @@ impl Actor<HeldParty> {
     pub fn go<S: RowLog>(
         &mut self,
         alloc: Global,
-        host: &mut Host<S>,
+        stored_core: &mut StoredCore<S>,
         place: usize,
         printed: &mut String,
     ) -> Result<bool, ActFault>
         requires always { Always }
-        requires running { host.old.is_stopped ≡ false }
-        ensures truth { S.is_true host.new.store → S.is_true host.old.store }
-        ensures running { host.new.is_stopped ≡ false }
+        requires running { stored_core.old.is_stopped ≡ false }
+        ensures truth { S.keeping.is_true stored_core.new.store →
+            S.keeping.is_true stored_core.old.store }
+        ensures running { stored_core.new.is_stopped ≡ false }
         ensures tells { (acting : Acting) →
-            IsActing (keeping S.stands S.is_true S.is_due) host.old place self.old acting →
-            IfOk result (λ told. Tells (keeping S.stands S.is_true S.is_due) host.old host.new place
+            IsActing S.keeping stored_core.old place self.old acting →
+            IfOk result (λ told. Tells S.keeping stored_core.old stored_core.new place
             self.old self.new (string_bytes printed.old) (string_bytes printed.new) told
             (goes_for acting.world.errands acting)) }
     {
@@ -44,21 +45,21 @@ impl Actor<HeldParty> {
         let Some(event) = foretold(party) else {
             return Ok(false);
         };
-        self.happen(alloc, host, place, event, printed)?;
+        self.happen(alloc, stored_core, place, event, printed)?;
         Ok(true)
     }
 
     /// The realm's oldest errand is lost.
     pub fn lose<S: RowLog>(
         &mut self,
-        host: &Host<S>,
+        stored_core: &StoredCore<S>,
         place: usize,
         printed: &mut String,
     ) -> Result<(), AllocError>
         requires { Always }
         ensures { (acting : Acting) →
-            IsActing (keeping S.stands S.is_true S.is_due) host.now place self.old acting →
-            OnOk result (IsDone (keeping S.stands S.is_true S.is_due) host.now host.now place
+            IsActing S.keeping stored_core.now place self.old acting →
+            OnOk result (IsDone S.keeping stored_core.now stored_core.now place
             self.old self.new (string_bytes printed.old) (string_bytes printed.new)
             (drops_from acting.world.errands acting)) }
     {

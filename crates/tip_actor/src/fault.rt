@@ -2,7 +2,7 @@
 ghost use Rattle.std.specs.Prelude.{◌≡◌};
 
 use std::alloc::{AllocError, AllocFailed};
-use tip_host::{LoadFault, RenewFault};
+use tip_stored::{LoadFault, RenewFault};
 
 /// Why a line that is understood ends its script. What was printed before stands.
 #[derive(Clone, Copy, Debug, PartialEq, Eq)]

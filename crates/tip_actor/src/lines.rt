@@ -4,37 +4,38 @@ ghost use Rattle.tip_core.specs.Hosted.{realm as realm_at};
 ghost use Rattle.tip_machine.specs.States.{State};
 ghost use Rattle.tip_branch.specs.Always.{Always};
 ghost use Rattle.tip_actor.specs.Acting.{Acting, Reading, count_of, takes};
-ghost use Rattle.tip_actor.specs.Standing.{Acts, Finds, GivesNext, IsActor, IsReading, keeping};
+ghost use Rattle.tip_actor.specs.Standing.{Acts, Finds, GivesNext, IsActor, IsReading};
 
 use crate::actor::Actor;
 use crate::fault::ActFault;
 use std::alloc::{AllocError, Global};
 use tip_branch::HeldParty;
 use tip_core::Core;
-use tip_host::Host;
 use tip_machine::Event;
 use tip_rows::RowLog;
+use tip_stored::StoredCore;
 
 impl Actor<HeldParty> {
     /// Lines are taken, one after another, until none may be taken.
     pub fn settle<S: RowLog>(
         &mut self,
         alloc: Global,
-        host: &mut Host<S>,
+        stored_core: &mut StoredCore<S>,
         place: usize,
         printed: &mut String,
     ) -> Result<(), ActFault>
         requires always { Always }
-        requires running { host.old.is_stopped ≡ false }
-        ensures truth { S.is_true host.new.store → S.is_true host.old.store }
-        ensures running { host.new.is_stopped ≡ false }
-        ensures acts { OnOk result (Acts (keeping S.stands S.is_true S.is_due) host.old host.new
+        requires running { stored_core.old.is_stopped ≡ false }
+        ensures truth { S.keeping.is_true stored_core.new.store →
+            S.keeping.is_true stored_core.old.store }
+        ensures running { stored_core.new.is_stopped ≡ false }
+        ensures acts { OnOk result (Acts S.keeping stored_core.old stored_core.new
             place self.old self.new (string_bytes printed.old) (string_bytes printed.new)
             (λ acting. takes (count_of acting.readings) acting)) }
     {
         for _ in 0..u64::MAX {
-            match self.next_line(alloc, &host.core, place)? {
-                Some(event) => self.happen(alloc, host, place, event, printed)?,
+            match self.next_line(alloc, &stored_core.core, place)? {
+                Some(event) => self.happen(alloc, stored_core, place, event, printed)?,
                 None => return Ok(()),
             };
         }

@@ -126,7 +126,8 @@ impl Readers {
     }
 }
 
-/// The next line that may be taken, of the first of the busy readers that has one; and one of these that has nothing, if one was met.
+/// The next line that may be taken, of the first of the busy readers that has one; and one of these that has nothing, if one was
+/// met.
 fn look(
     all: &mut Vec<Reader>,
     busy: &BTreeSet<usize>,

@@ -16,12 +16,13 @@ pub trait Refuser<S: RowLog> {
 
     /// The next change of this realm is to be refused.
     fn refuse_next(&self, store: &mut S, realm: &Realm)
-        ensures stands { may ≡ true → (log : Log) → S.stands store.old log →
-            S.stands store.new log }
-        ensures due { may ≡ true → (log : Log) → S.stands store.old log → (r : List ℕ) →
-            S.is_due store.new r
-            ≡ (if bytes_eq realm.now r then is_some (log.epochs r) else S.is_due store.old r) }
-        ensures truth { S.is_true store.new → S.is_true store.old };
+        ensures stands { may ≡ true → (log : Log) → S.keeping.stands store.old log →
+            S.keeping.stands store.new log }
+        ensures due { may ≡ true → (log : Log) → S.keeping.stands store.old log → (r : List ℕ) →
+            S.keeping.is_due store.new r
+            ≡ (if bytes_eq realm.now r then is_some (log.epochs r) else S.keeping.is_due store.old
+            r) }
+        ensures truth { S.keeping.is_true store.new → S.keeping.is_true store.old };
 }
 
 /// A script asks rows in memory to refuse.

@@ -13,12 +13,12 @@ use Rattle.std.proofs.lemmas.Slice.Eq.{bytes_eq-Decides}
 use Rattle.tip_agreement.proofs.Runs.{led_on, run_on, run_one, shows, shows_on, shows_one}
 use Rattle.tip_branch.specs.Notes.{PartyNotes}
 use Rattle.tip_core.specs.Hosted.{HaveNames, Hosted, realm}
-use Rattle.tip_host.proofs.Opening.{named_at, read_at, start_at}
-use Rattle.tip_host.proofs.Parts.{can_open, epochs_stay, number_of, opened_known, opened_part, part_after, part_stays, renewed_known, renewed_others, renewed_part, rises}
-use Rattle.tip_host.specs.Keeping.{log_after}
-use Rattle.tip_host.specs.Loading.{names_of, opened, spec_of, start_of}
-use Rattle.tip_host.specs.Recovering.{all_adopted, recovered}
-use Rattle.tip_host.specs.declared.realm_spec.RealmSpec.{RealmSpec}
+use Rattle.tip_stored.proofs.Opening.{named_at, read_at, start_at}
+use Rattle.tip_stored.proofs.Parts.{can_open, epochs_stay, number_of, opened_known, opened_part, part_after, part_stays, renewed_known, renewed_others, renewed_part, rises}
+use Rattle.tip_stored.specs.Keeping.{log_after}
+use Rattle.tip_stored.specs.Loading.{names_of, opened, spec_of, start_of}
+use Rattle.tip_stored.specs.Recovering.{all_adopted, recovered}
+use Rattle.tip_stored.specs.declared.realm_spec.RealmSpec.{RealmSpec}
 use Rattle.tip_machine.proofs.Stepping.{step-epoch, step-named}
 use Rattle.tip_machine.proofs.Storing.{same_rows}
 use Rattle.tip_machine.specs.Heads.{starting}
@@ -38,7 +38,7 @@ use Rattle.tip_recovery.proofs.Rereading.{again_rows}
 use Rattle.tip_recovery.specs.Adopting.{Recovery, Unfinished, stored_of, unadopted}
 use Rattle.tip_recovery.specs.Adopting as Adopting
 use Rattle.tip_rows.specs.Keys.{Key}
-use Rattle.tip_rows.specs.Logs.{IsPart, Log, last_epoch, raised_number, with_raised}
+use Rattle.tip_rows.specs.Logs.{Keeping, IsPart, Log, last_epoch, raised_number, with_raised}
 use Rattle.tip_rows.specs.declared.row.Row.{Row}
 use Rattle.tip_witness.proofs.Asked.{run_is_agreed}
 use Rattle.tip_calls.proofs.Given.{HaveBoxes, adopted_boxes, boxes_at, given_boxes, gives}
@@ -106,27 +106,27 @@ is_move world came left (inr (spot, party, back, out, can, is)) fit = record {
 
 -- One call
 
-module _ {S : Type 0} (stands may_leave : S → Log → Type 0) (is_true : S → Type 0) (faults : S → ℕ) (is_due : S → List ℕ → Bool) where
+module _ {S : Type 0} (kept : Keeping S) where
   -- what a realm makes of calls: a run from the world that it is, which leads to what it is then
   record GoesOn (new : Around S) (place : ℕ) (world : World) (shown : List Output) : Type 0 where
     moves : List Move
     run : is_run world moves ≡ true
     shows_it : shows world moves ≡ shown
-    led : IsHosted stands new place (led_to world moves)
+    led : IsHosted kept new place (led_to world moves)
 
-  nothing : (new : Around S) (place : ℕ) (world : World) (shown : List Output) → shown ≡ [] → IsHosted stands new place world → GoesOn new place world shown
+  nothing : (new : Around S) (place : ℕ) (world : World) (shown : List Output) → shown ≡ [] → IsHosted kept new place world → GoesOn new place world shown
   nothing new place world shown none led = record { moves = []; run = refl; shows_it = sym none; led = led }
 
-  one_move : (new : Around S) (place : ℕ) (world : World) (shown : List Output) (move : Move) → is_honest move world ≡ true → (moved move world).shown ≡ shown → IsHosted stands new place (moved move world).world → GoesOn new place world shown
+  one_move : (new : Around S) (place : ℕ) (world : World) (shown : List Output) (move : Move) → is_honest move world ≡ true → (moved move world).shown ≡ shown → IsHosted kept new place (moved move world).world → GoesOn new place world shown
   one_move new place world shown move honest shows_it led = record { moves = move ∷ []; run = run_one world move honest; shows_it = shows_one world move ∙ shows_it; led = led }
 
   -- A start
 
-  pub has_started : (specs : List RealmSpec) (store : S) (new : Around S) (log : Log) (place : ℕ) (spec : RealmSpec) (epoch : ℕ) (rows : List (Key × Row)) → IsBegun stands may_leave is_true faults is_due specs store new → is_true new.store → stands store log → slice_get specs place ≡ Some spec → IsPart log spec.name epoch rows → HasStarted stands spec epoch rows new place
+  pub has_started : (specs : List RealmSpec) (store : S) (new : Around S) (log : Log) (place : ℕ) (spec : RealmSpec) (epoch : ℕ) (rows : List (Key × Row)) → IsBegun kept specs store new → kept.is_true new.store → kept.stands store log → slice_get specs place ≡ Some spec → IsPart log spec.name epoch rows → HasStarted kept spec epoch rows new place
   has_started specs store new log place spec epoch rows is truth stood here part =
       let name = spec.name in
       let names = names_of specs in
-      let loaded_true : is_true is.loaded.store = subst is_true is.store_is truth in
+      let loaded_true : kept.is_true is.loaded.store = subst kept.is_true is.store_is truth in
       let named = named_at specs place spec here in
       let way = is.loads.ok.rows log stood in
       let read = read_at (opened names log) specs is.loaded.realms place spec (is.loads.read log stood loaded_true) here in
@@ -151,24 +151,24 @@ module _ {S : Type 0} (stands may_leave : S → Log → Type 0) (is_true : S →
               ∙ ap (λ r. Some (restarted (starting (start_of spec (epoch + 1))) r)) (sym all.1);
           out = is.out place;
           log = way.0;
-          stood = subst (λ s. stands s way.0) (sym is.store_is) way.2;
+          stood = subst (λ s. kept.stands s way.0) (sym is.store_is) way.2;
           rows = subst (λ l. IsPart l name (epoch + 1) rows) (sym way.1) (subst (λ e. IsPart (opened names log) name e rows) number own);
           known = ap (λ (l : Log). is_some (l.epochs name)) way.1 ∙ opened_known names place log name epoch rows named part;
         };
         begins = λ head before once. record { head = head; rows = before; boxes = boxes; adopted = all.0; state = refl; known_once = once; errands = refl };
       }
 
-  module _ (old new : Around S) (place : ℕ) (world : World) (hosted : IsHosted stands old place world) where
+  module _ (old new : Around S) (place : ℕ) (world : World) (hosted : IsHosted kept old place world) where
     abbrev name : List ℕ
     name = world.state.head.name
 
     -- a realm that stays, where the log has its rows still
-    stays : (shown : List Output) (log : Log) → shown ≡ [] → realm new.core place ≡ realm old.core place → new.out place ≡ old.out place → stands new.store log → IsPart log name world.state.head.epoch world.rows → is_some (log.epochs name) ≡ true → GoesOn new place world shown
+    stays : (shown : List Output) (log : Log) → shown ≡ [] → realm new.core place ≡ realm old.core place → new.out place ≡ old.out place → kept.stands new.store log → IsPart log name world.state.head.epoch world.rows → is_some (log.epochs name) ≡ true → GoesOn new place world shown
     stays shown log none state out stood rows known = nothing new place world shown none (record { state = state ∙ hosted.state; out = out ∙ hosted.out; log = log; stood = stood; rows = rows; known = known })
 
     -- An event
 
-    own_step : (came : Came) → IsStepped stands may_leave is_true faults is_due old new came → came.place ≡ place → (shown : List Output) → shown ≡ outputs came.event came.change came.outcome came.answer → GoesOn new place world shown
+    own_step : (came : Came) → IsStepped kept old new came → came.place ≡ place → (shown : List Output) → shown ≡ outputs came.event came.change came.outcome came.answer → GoesOn new place world shown
     own_step came is here shown shows_it =
         let there : realm old.core came.place ≡ Some world.state = ap (realm old.core) here ∙ hosted.state in
         let own = is.steps.own world.state there in
@@ -186,7 +186,7 @@ module _ {S : Type 0} (stands may_leave : S → Log → Type 0) (is_true : S →
         (ap (λ m. m.shown) move.goes ∙ shown_is came.event came.outcome met
         ∙ ap (λ c. outputs came.event c came.outcome (step world.state came.event came.outcome).answer) (sym change)
         ∙ ap (λ a. outputs came.event came.change came.outcome a) (sym own.0) ∙ sym shows_it)
-        (subst (IsHosted stands new place) (sym went) (record {
+        (subst (IsHosted kept new place) (sym went) (record {
           state = ap (realm new.core) (sym here) ∙ own.1;
           out = ap new.out (sym here) ∙ is.out ∙ ap (λ a. is.left ++ option_to_list a.work) own.0;
           log = log;
@@ -195,10 +195,10 @@ module _ {S : Type 0} (stands may_leave : S → Log → Type 0) (is_true : S →
           known = ap (λ n. is_some (log.epochs n)) same_name ∙ ap (λ f. is_some (f name)) (epochs_stay name came.change came.outcome hosted.log) ∙ hosted.known;
         }))
 
-    other_step : (came : Came) → IsStepped stands may_leave is_true faults is_due old new came → HaveNames old.core → place ≢ came.place → (shown : List Output) → shown ≡ [] → GoesOn new place world shown
+    other_step : (came : Came) → IsStepped kept old new came → HaveNames old.core → place ≢ came.place → (shown : List Output) → shown ≡ [] → GoesOn new place world shown
     other_step came is names differ shown none = by (realm old.core came.place) refl where
       by : (found : Option State) → realm old.core came.place ≡ found → GoesOn new place world shown
-      by None nowhere = stays shown hosted.log none (is.steps.others place differ) (is.others place differ) (subst (λ s. stands s hosted.log) (sym (is.absent nowhere)) hosted.stood) hosted.rows hosted.known
+      by None nowhere = stays shown hosted.log none (is.steps.others place differ) (is.others place differ) (subst (λ s. kept.stands s hosted.log) (sym (is.absent nowhere)) hosted.stood) hosted.rows hosted.known
       by (Some state) there =
           let apart = names_differ old.core came.place place state world.state names there hosted.state differ in
           stays shown (log_after state.head.name came.change came.outcome hosted.log) none (is.steps.others place differ) (is.others place differ)
@@ -213,21 +213,21 @@ module _ {S : Type 0} (stands may_leave : S → Log → Type 0) (is_true : S →
         let out : picked is.spot world.errands ≡ party ∷ new.out place = ap (picked is.spot) (sym hosted.out) ∙ is.was in
         let lost : moved (Move.Lose is.spot) world ≡ record { shown = drops_of party; world = record world { errands = new.out place } } = ap (λ e. lost_from e world) out in
         one_move new place world shown (Move.Lose is.spot) refl (ap (λ m. m.shown) lost ∙ sym shows_it)
-        (subst (IsHosted stands new place) (sym (ap (λ m. m.world) lost)) (record {
+        (subst (IsHosted kept new place) (sym (ap (λ m. m.world) lost)) (record {
           state = ap (λ c. realm c place) is.core ∙ hosted.state;
           out = refl;
           log = hosted.log;
-          stood = subst (λ s. stands s hosted.log) (sym is.store) hosted.stood;
+          stood = subst (λ s. kept.stands s hosted.log) (sym is.store) hosted.stood;
           rows = hosted.rows;
           known = hosted.known;
         }))
 
     -- A renewal
 
-    own_renewal : (state : State) → IsRisen stands is_true old new place state → is_true new.store → (shown : List Output) → shown ≡ drops_here state → GoesOn new place world shown
+    own_renewal : (state : State) → IsRisen kept old new place state → kept.is_true new.store → (shown : List Output) → shown ≡ drops_here state → GoesOn new place world shown
     own_renewal state is truth shown shows_it =
         let same : state ≡ world.state = same_Some state world.state (sym is.there ∙ hosted.state) in
-        let own : IsRisen stands is_true old new place world.state = subst (IsRisen stands is_true old new place) same is in
+        let own : IsRisen kept old new place world.state = subst (IsRisen kept old new place) same is in
         let fresh = own.renewed.fresh in
         let read = own.renewed.read hosted.log hosted.stood truth in
         let rows : fresh.rows ≡ map (unadopted name) world.rows = read.unadopted ∙ ap (map (unadopted name)) (same_rows read.rows world.rows read.part.rising hosted.rows.rising (λ key. read.part.same key ∙ sym (hosted.rows.same key))) in
@@ -248,7 +248,7 @@ module _ {S : Type 0} (stands may_leave : S → Log → Type 0) (is_true : S →
           known = renewed_known hosted.log name name ∙ hosted.known;
         })
 
-    other_renewal : (here : ℕ) (state : State) → IsRisen stands is_true old new here state → HaveNames old.core → place ≢ here → (shown : List Output) → shown ≡ [] → GoesOn new place world shown
+    other_renewal : (here : ℕ) (state : State) → IsRisen kept old new here state → HaveNames old.core → place ≢ here → (shown : List Output) → shown ≡ [] → GoesOn new place world shown
     other_renewal here state is names differ shown none =
         stays shown (with_raised state.head.name hosted.log) none (is.others place differ) (is.out place) (is.rows hosted.log hosted.stood)
         (renewed_others hosted.log state.head.name name world.state.head.epoch world.rows (names_differ old.core here place state world.state names is.there hosted.state differ) hosted.rows)
@@ -256,7 +256,7 @@ module _ {S : Type 0} (stands may_leave : S → Log → Type 0) (is_true : S →
 
     -- A restart
 
-    own_restart : IsRestarted stands may_leave is_true faults is_due old new → is_true new.store → (shown : List Output) → shown ≡ flat_map drops_of (old.out place) ++ drops_in (realm old.core place) → GoesOn new place world shown
+    own_restart : IsRestarted kept old new → kept.is_true new.store → (shown : List Output) → shown ≡ flat_map drops_of (old.out place) ++ drops_in (realm old.core place) → GoesOn new place world shown
     own_restart is truth shown shows_it =
         let head = world.state.head in
         let here : slice_get is.specs place ≡ Some (spec_of head) = is.declared place ∙ ap (option_map (λ (state : State). spec_of state.head)) hosted.state in
@@ -269,17 +269,17 @@ module _ {S : Type 0} (stands may_leave : S → Log → Type 0) (is_true : S →
     -- Calls of others
 
     other_loss : (here : ℕ) (party : PartyNotes) → IsLetGo old new here party → place ≢ here → (shown : List Output) → shown ≡ [] → GoesOn new place world shown
-    other_loss here party is differ shown none = stays shown hosted.log none (ap (λ c. realm c place) is.core) (is.others place differ) (subst (λ s. stands s hosted.log) (sym is.store) hosted.stood) hosted.rows hosted.known
+    other_loss here party is differ shown none = stays shown hosted.log none (ap (λ c. realm c place) is.core) (is.others place differ) (subst (λ s. kept.stands s hosted.log) (sym is.store) hosted.stood) hosted.rows hosted.known
 
-    no_move : IsStill stands is_true old new → (shown : List Output) → shown ≡ [] → GoesOn new place world shown
+    no_move : IsStill kept old new → (shown : List Output) → shown ≡ [] → GoesOn new place world shown
     no_move is shown none = stays shown hosted.log none (is.realms place) (is.out place) (is.rows hosted.log hosted.stood) hosted.rows hosted.known
 
   -- Each call
 
   abbrev Calls : Around S → Around S → (ℕ → List Output) → Type 0
-  Calls old new shown = IsCall stands may_leave is_true faults is_due old new shown
+  Calls old new shown = IsCall kept old new shown
 
-  on_call : (old new : Around S) (shown : ℕ → List Output) → Calls old new shown → HaveNames old.core → is_true new.store → (place : ℕ) (world : World) → IsHosted stands old place world → GoesOn new place world (shown place)
+  on_call : (old new : Around S) (shown : ℕ → List Output) → Calls old new shown → HaveNames old.core → kept.is_true new.store → (place : ℕ) (world : World) → IsHosted kept old place world → GoesOn new place world (shown place)
   on_call old new shown (Stepped came is shows_it) names truth place world hosted = by (came.place == place) refl (shows_it place) where
     by : (own : Bool) → (came.place == place) ≡ own → shown place ≡ cond own (outputs came.event came.change came.outcome came.answer) [] → GoesOn new place world (shown place)
     by true here it = own_step old new place world hosted came is (same_place came.place place here) (shown place) it
@@ -291,7 +291,7 @@ module _ {S : Type 0} (stands may_leave : S → Log → Type 0) (is_true : S →
   on_call old new shown (Restarted is shows_it) names truth place world hosted = own_restart old new place world hosted is truth (shown place) (shows_it place)
   on_call old new shown (Renewed here state is shows_it) names truth place world hosted = by (here == place) refl (shows_it place) where
     by : (own : Bool) → (here == place) ≡ own → shown place ≡ cond own (drops_here state) [] → GoesOn new place world (shown place)
-    by true same it = own_renewal old new place world hosted state (subst (λ p. IsRisen stands is_true old new p state) (same_place here place same) is) truth (shown place) it
+    by true same it = own_renewal old new place world hosted state (subst (λ p. IsRisen kept old new p state) (same_place here place same) is) truth (shown place) it
     by false same it = other_renewal old new place world hosted here state is names (other_place here place same) (shown place) it
   on_call old new shown (Stays is none) names truth place world hosted = no_move old new place world hosted is (shown place) (none place)
 
@@ -303,24 +303,24 @@ module _ {S : Type 0} (stands may_leave : S → Log → Type 0) (is_true : S →
   names_after old new shown (Stays is none) names = λ place other this that here there. names place other this that (sym (is.realms place) ∙ here) (sym (is.realms other) ∙ there)
 
   -- a store that may be relied on now could be before
-  truth_before : (old new : Around S) (shown : ℕ → List Output) → Calls old new shown → is_true new.store → is_true old.store
+  truth_before : (old new : Around S) (shown : ℕ → List Output) → Calls old new shown → kept.is_true new.store → kept.is_true old.store
   truth_before old new shown (Stepped came is shows_it) truth = by (realm old.core came.place) refl where
-    by : (found : Option State) → realm old.core came.place ≡ found → is_true old.store
-    by None nowhere = subst is_true (is.absent nowhere) truth
+    by : (found : Option State) → realm old.core came.place ≡ found → kept.is_true old.store
+    by None nowhere = subst kept.is_true (is.absent nowhere) truth
     by (Some state) there = (is.keeps state there).truth truth
-  truth_before old new shown (LetGo place party is shows_it) truth = subst is_true is.store truth
-  truth_before old new shown (Restarted is shows_it) truth = is.begins.loads.ok.truth (subst is_true is.begins.store_is truth)
+  truth_before old new shown (LetGo place party is shows_it) truth = subst kept.is_true is.store truth
+  truth_before old new shown (Restarted is shows_it) truth = is.begins.loads.ok.truth (subst kept.is_true is.begins.store_is truth)
   truth_before old new shown (Renewed place state is shows_it) truth = is.truth truth
   truth_before old new shown (Stays is none) truth = is.truth truth
 
   -- Calls one after another
 
-  truth_first : (old new : Around S) (calls : List (ℕ → List Output)) → AreCalls stands may_leave is_true faults is_due old calls new → is_true new.store → is_true old.store
-  truth_first old new [] same truth = subst (λ (a : Around S). is_true a.store) same truth
+  truth_first : (old new : Around S) (calls : List (ℕ → List Output)) → AreCalls kept old calls new → kept.is_true new.store → kept.is_true old.store
+  truth_first old new [] same truth = subst (λ (a : Around S). kept.is_true a.store) same truth
   truth_first old new (shown ∷ more) (between, call, rest) truth = truth_before old between shown call (truth_first between new more rest truth)
 
-  runs : (old new : Around S) (calls : List (ℕ → List Output)) → AreCalls stands may_leave is_true faults is_due old calls new → HaveNames old.core → is_true new.store → (place : ℕ) (world : World) → IsHosted stands old place world → GoesOn new place world (shown_of place calls)
-  runs old new [] same names truth place world hosted = nothing new place world [] refl (subst (λ a. IsHosted stands a place world) (sym same) hosted)
+  runs : (old new : Around S) (calls : List (ℕ → List Output)) → AreCalls kept old calls new → HaveNames old.core → kept.is_true new.store → (place : ℕ) (world : World) → IsHosted kept old place world → GoesOn new place world (shown_of place calls)
+  runs old new [] same names truth place world hosted = nothing new place world [] refl (subst (λ a. IsHosted kept a place world) (sym same) hosted)
   runs old new (shown ∷ more) (between, call, rest) names truth place world hosted =
       let first = on_call old between shown call names (truth_first between new more rest truth) place world hosted in
       let later = runs between new more rest (names_after old between shown call names) truth place (led_to world first.moves) first.led in
@@ -331,10 +331,10 @@ module _ {S : Type 0} (stands may_leave : S → Log → Type 0) (is_true : S →
             ∙ ap (λ l. l ++ shows (led_to world first.moves) later.moves) first.shows_it
             ∙ ap (λ l. shown place ++ l) later.shows_it
             ∙ sym (flat_map-cons (λ (s : ℕ → List Output). s place) shown more);
-        led = subst (IsHosted stands new place) (sym (led_on world first.moves later.moves)) later.led;
+        led = subst (IsHosted kept new place) (sym (led_on world first.moves later.moves)) later.led;
       }
 
-  pub are_run : (old new : Around S) (calls : List (ℕ → List Output)) (place : ℕ) (start : World) (moves : List Move) → IsStart start → is_run start moves ≡ true → HaveNames old.core → is_true new.store → IsHosted stands old place (led_to start moves) → AreCalls stands may_leave is_true faults is_due old calls new → AreRun stands start moves (shown_of place calls) new place
+  pub are_run : (old new : Around S) (calls : List (ℕ → List Output)) (place : ℕ) (start : World) (moves : List Move) → IsStart start → is_run start moves ≡ true → HaveNames old.core → kept.is_true new.store → IsHosted kept old place (led_to start moves) → AreCalls kept old calls new → AreRun kept start moves (shown_of place calls) new place
   are_run old new calls place start moves starts run names truth hosted are =
       let more = runs old new calls are names truth place (led_to start moves) hosted in
       let whole = run_on start moves more.moves run more.run in
@@ -342,6 +342,6 @@ module _ {S : Type 0} (stands may_leave : S → Log → Type 0) (is_true : S →
         more = more.moves;
         run = whole;
         shows = shows_on start moves more.moves ∙ ap (λ l. shows start moves ++ l) more.shows_it;
-        led = subst (IsHosted stands new place) (sym (led_on start moves more.moves)) more.led;
+        led = subst (IsHosted kept new place) (sym (led_on start moves more.moves)) more.led;
         agreed = λ id. run_is_agreed start (moves ++ more.moves) id starts whole;
       }

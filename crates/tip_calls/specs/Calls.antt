@@ -1,4 +1,4 @@
--- CALLS OF A HOST one after another (ours), over any store, by a caller that brings parties back as their errands leave them,
+-- CALLS OF A STORED CORE one after another (ours), over any store, by a caller that brings parties back as their errands leave them,
 -- in any order.
 use Rattle.std.specs.Prelude.{◌≡◌, ◌≢◌, ◌⊎◌, ◌==◌, ◌<◌, ◌+◌, ℕ, Bool, true, List, [], ◌∷◌, ◌++◌, Option, Some, None, Ok, if◌then◌else◌, is_some, option_map, slice_get}
 use Rattle.std.specs.List.{flat_map}
@@ -6,11 +6,11 @@ use Rattle.std.specs.Option.{option_to_list}
 use Rattle.tip_branch.specs.Notes.{PartyNotes}
 use Rattle.tip_branch.specs.declared.branch.Badge.{Badge}
 use Rattle.tip_core.specs.Hosted.{HaveNames, Hosted, Steps, realm}
-use Rattle.tip_host.specs.Keeping.{Keeps}
-use Rattle.tip_host.specs.Loading.{Loads, spec_of, start_of}
-use Rattle.tip_host.specs.Recovering.{Recovering, all_adopted, recovered}
-use Rattle.tip_host.specs.Renewing.{IsRenewed}
-use Rattle.tip_host.specs.declared.realm_spec.RealmSpec.{RealmSpec}
+use Rattle.tip_stored.specs.Keeping.{Keeps}
+use Rattle.tip_stored.specs.Loading.{Loads, spec_of, start_of}
+use Rattle.tip_stored.specs.Recovering.{Recovering, all_adopted, recovered}
+use Rattle.tip_stored.specs.Renewing.{IsRenewed}
+use Rattle.tip_stored.specs.declared.realm_spec.RealmSpec.{RealmSpec}
 use Rattle.tip_machine.specs.Agreement.{IsAgreed}
 use Rattle.tip_machine.specs.Agreement.Traces.{shown_in, traced}
 use Rattle.tip_machine.specs.Heads.{starting}
@@ -28,11 +28,11 @@ use Rattle.tip_machine.specs.declared.event.Change.{Change}
 use Rattle.tip_machine.specs.declared.event.Outcome.{Outcome}
 use Rattle.tip_recovery.specs.Adopting.{Recovery, Unfinished}
 use Rattle.tip_rows.specs.Keys.{Key}
-use Rattle.tip_rows.specs.Logs.{IsPart, Log, last_epoch, with_raised}
+use Rattle.tip_rows.specs.Logs.{Keeping, IsPart, Log, last_epoch, with_raised}
 use Rattle.tip_rows.specs.declared.row.Row.{Row}
 use Rattle.tip_calls.specs.Giving.{AreEachGiven, AreGiven}
 
--- a host, and the parties that are out of each realm, the oldest first, which its caller has
+-- a stored core, and the parties that are out of each realm, the oldest first, which its caller has
 pub record Around (S : Type 0) : Type 0 where
   pub core : Hosted
   pub store : S
@@ -54,12 +54,12 @@ Brings out event left =
     ((brings_no_party event ≡ true) × (left ≡ out))
     ⊎ ((spot : ℕ) × (party : PartyNotes) × (back : Back) × (picked spot out ≡ party ∷ left) × (can_answer party.errand back party.members ≡ true) × (event ≡ event_of party back))
 
--- what Host::step says of it
-pub record IsStepped {S : Type 0} (stands may_leave : S → Log → Type 0) (is_true : S → Type 0) (faults : S → ℕ) (is_due : S → List ℕ → Bool) (old new : Around S) (came : Came) : Type 0 where
+-- what StoredCore::step says of it
+pub record IsStepped {S : Type 0} (kept : Keeping S) (old new : Around S) (came : Came) : Type 0 where
   pub steps : Steps old.core new.core came.place came.event came.outcome came.answer
   pub wanted : (state : State) → realm old.core came.place ≡ Some state → came.change ≡ wants state came.event
   pub fits : fits came.change came.outcome ≡ true
-  pub keeps : (state : State) → realm old.core came.place ≡ Some state → Keeps stands may_leave is_true faults is_due state.head.name came.change came.outcome old.store new.store
+  pub keeps : (state : State) → realm old.core came.place ≡ Some state → Keeps kept state.head.name came.change came.outcome old.store new.store
   pub absent : realm old.core came.place ≡ None → new.store ≡ old.store
   pub names : HaveNames new.core
   pub left : List PartyNotes
@@ -69,7 +69,7 @@ pub record IsStepped {S : Type 0} (stands may_leave : S → Log → Type 0) (is_
 
 -- The other calls
 
--- a party that is out of a realm is let go, which is no call of the host
+-- a party that is out of a realm is let go, which is no call of the stored core
 pub record IsLetGo {S : Type 0} (old new : Around S) (place : ℕ) (party : PartyNotes) : Type 0 where
   pub core : new.core ≡ old.core
   pub store : new.store ≡ old.store
@@ -77,10 +77,10 @@ pub record IsLetGo {S : Type 0} (old new : Around S) (place : ℕ) (party : Part
   pub was : picked spot (old.out place) ≡ party ∷ new.out place
   pub others : (other : ℕ) → other ≢ place → new.out other ≡ old.out other
 
--- these realms start from what a store has: Host::load or Host::restart, boxes for each row, and Recovering::begin. No party is out
-pub record IsBegun {S : Type 0} (stands may_leave : S → Log → Type 0) (is_true : S → Type 0) (faults : S → ℕ) (is_due : S → List ℕ → Bool) (specs : List RealmSpec) (store : S) (new : Around S) : Type 0 where
+-- these realms start from what a store has: StoredCore::load or StoredCore::restart, boxes for each row, and Recovering::begin. No party is out
+pub record IsBegun {S : Type 0} (kept : Keeping S) (specs : List RealmSpec) (store : S) (new : Around S) : Type 0 where
   pub loaded : Recovering S
-  pub loads : Loads stands may_leave is_true faults is_due specs store (Ok loaded)
+  pub loads : Loads kept specs store (Ok loaded)
   pub realms : List Recovery
   pub given : AreEachGiven loaded.realms realms
   pub adopted : all_adopted realms ≡ true
@@ -89,30 +89,30 @@ pub record IsBegun {S : Type 0} (stands may_leave : S → Log → Type 0) (is_tr
   pub names : HaveNames new.core
   pub out : (place : ℕ) → new.out place ≡ []
 
--- the realms start again, as Host::declarations says them: all parties are let go
-pub record IsRestarted {S : Type 0} (stands may_leave : S → Log → Type 0) (is_true : S → Type 0) (faults : S → ℕ) (is_due : S → List ℕ → Bool) (old new : Around S) : Type 0 where
+-- the realms start again, as StoredCore::declarations says them: all parties are let go
+pub record IsRestarted {S : Type 0} (kept : Keeping S) (old new : Around S) : Type 0 where
   pub specs : List RealmSpec
   pub declared : (place : ℕ) → slice_get specs place ≡ option_map (λ (state : State). spec_of state.head) (realm old.core place)
-  pub begins : IsBegun stands may_leave is_true faults is_due specs old.store new
+  pub begins : IsBegun kept specs old.store new
 
--- Host::renew where it succeeds, by rows that Host::doubts has read, with their boxes
-pub record IsRisen {S : Type 0} (stands : S → Log → Type 0) (is_true : S → Type 0) (old new : Around S) (place : ℕ) (state : State) : Type 0 where
+-- StoredCore::renew where it succeeds, by rows that StoredCore::doubts has read, with their boxes
+pub record IsRisen {S : Type 0} (kept : Keeping S) (old new : Around S) (place : ℕ) (state : State) : Type 0 where
   pub there : realm old.core place ≡ Some state
   pub read : List Unfinished
   pub recovery : Recovery
   pub given : AreGiven read recovery.rows
-  pub rows : (log : Log) → stands old.store log → stands new.store (with_raised state.head.name log)
-  pub truth : is_true new.store → is_true old.store
-  pub renewed : IsRenewed stands is_true recovery state old.store new.store (realm new.core place)
+  pub rows : (log : Log) → kept.stands old.store log → kept.stands new.store (with_raised state.head.name log)
+  pub truth : kept.is_true new.store → kept.is_true old.store
+  pub renewed : IsRenewed kept recovery state old.store new.store (realm new.core place)
   pub others : (other : ℕ) → other ≢ place → realm new.core other ≡ realm old.core other
   pub names : HaveNames new.core
   pub out : (other : ℕ) → new.out other ≡ old.out other
 
 -- a call that reads, or that is refused
-pub record IsStill {S : Type 0} (stands : S → Log → Type 0) (is_true : S → Type 0) (old new : Around S) : Type 0 where
+pub record IsStill {S : Type 0} (kept : Keeping S) (old new : Around S) : Type 0 where
   pub realms : (place : ℕ) → realm new.core place ≡ realm old.core place
-  pub rows : (log : Log) → stands old.store log → stands new.store log
-  pub truth : is_true new.store → is_true old.store
+  pub rows : (log : Log) → kept.stands old.store log → kept.stands new.store log
+  pub truth : kept.is_true new.store → kept.is_true old.store
   pub out : (place : ℕ) → new.out place ≡ old.out place
 
 -- Calls
@@ -126,18 +126,18 @@ drops_in None = []
 drops_in (Some state) = drops_here state
 
 -- ONE CALL, and what it shows of each realm: what the event came to, and what is let go
-pub data IsCall {S : Type 0} (stands may_leave : S → Log → Type 0) (is_true : S → Type 0) (faults : S → ℕ) (is_due : S → List ℕ → Bool) (old new : Around S) (shown : ℕ → List Output) : Type 0 where
-  Stepped : (came : Came) → IsStepped stands may_leave is_true faults is_due old new came → ((place : ℕ) → shown place ≡ at came.place (outputs came.event came.change came.outcome came.answer) place) → IsCall stands may_leave is_true faults is_due old new shown
-  LetGo : (place : ℕ) (party : PartyNotes) → IsLetGo old new place party → ((other : ℕ) → shown other ≡ at place (drops_of party) other) → IsCall stands may_leave is_true faults is_due old new shown
-  Restarted : IsRestarted stands may_leave is_true faults is_due old new → ((place : ℕ) → shown place ≡ flat_map drops_of (old.out place) ++ drops_in (realm old.core place)) → IsCall stands may_leave is_true faults is_due old new shown
-  Renewed : (place : ℕ) (state : State) → IsRisen stands is_true old new place state → ((other : ℕ) → shown other ≡ at place (drops_here state) other) → IsCall stands may_leave is_true faults is_due old new shown
-  Stays : IsStill stands is_true old new → ((place : ℕ) → shown place ≡ []) → IsCall stands may_leave is_true faults is_due old new shown
+pub data IsCall {S : Type 0} (kept : Keeping S) (old new : Around S) (shown : ℕ → List Output) : Type 0 where
+  Stepped : (came : Came) → IsStepped kept old new came → ((place : ℕ) → shown place ≡ at came.place (outputs came.event came.change came.outcome came.answer) place) → IsCall kept old new shown
+  LetGo : (place : ℕ) (party : PartyNotes) → IsLetGo old new place party → ((other : ℕ) → shown other ≡ at place (drops_of party) other) → IsCall kept old new shown
+  Restarted : IsRestarted kept old new → ((place : ℕ) → shown place ≡ flat_map drops_of (old.out place) ++ drops_in (realm old.core place)) → IsCall kept old new shown
+  Renewed : (place : ℕ) (state : State) → IsRisen kept old new place state → ((other : ℕ) → shown other ≡ at place (drops_here state) other) → IsCall kept old new shown
+  Stays : IsStill kept old new → ((place : ℕ) → shown place ≡ []) → IsCall kept old new shown
 
 -- one after another
-abbrev pub AreCalls : {S : Type 0} → (stands may_leave : S → Log → Type 0) → (is_true : S → Type 0) → (faults : S → ℕ) → (is_due : S → List ℕ → Bool) → Around S → List (ℕ → List Output) → Around S → Type 0
-AreCalls stands may_leave is_true faults is_due old [] new = new ≡ old
-AreCalls stands may_leave is_true faults is_due old (shown ∷ more) new =
-    (between : Around _) × IsCall stands may_leave is_true faults is_due old between shown × AreCalls stands may_leave is_true faults is_due between more new
+abbrev pub AreCalls : {S : Type 0} → Keeping S → Around S → List (ℕ → List Output) → Around S → Type 0
+AreCalls kept old [] new = new ≡ old
+AreCalls kept old (shown ∷ more) new =
+    (between : Around _) × IsCall kept old between shown × AreCalls kept between more new
 
 -- what they show of one realm
 abbrev pub shown_of : ℕ → List (ℕ → List Output) → List Output
@@ -146,21 +146,21 @@ shown_of place calls = flat_map (λ shown. shown place) calls
 -- Runs
 
 -- THE REALM AT A PLACE is this world: its state, what is stored of it, and its parties that are out
-pub record IsHosted {S : Type 0} (stands : S → Log → Type 0) (around : Around S) (place : ℕ) (world : World) : Type 0 where
+pub record IsHosted {S : Type 0} (kept : Keeping S) (around : Around S) (place : ℕ) (world : World) : Type 0 where
   pub state : realm around.core place ≡ Some world.state
   pub out : around.out place ≡ world.errands
   pub log : Log
-  pub stood : stands around.store log
+  pub stood : kept.stands around.store log
   pub rows : IsPart log world.state.head.name world.state.head.epoch world.rows
   pub known : is_some (log.epochs world.state.head.name) ≡ true
 
 -- WHAT IS CALLED IS A RUN OF EACH REALM'S OWN MACHINE, behind the moves that it had made: the calls show what that run shows, the
 -- realm is where it leads, and none of its transactions is half committed
-pub record AreRun {S : Type 0} (stands : S → Log → Type 0) (start : World) (moves : List Move) (shown : List Output) (now : Around S) (place : ℕ) : Type 0 where
+pub record AreRun {S : Type 0} (kept : Keeping S) (start : World) (moves : List Move) (shown : List Output) (now : Around S) (place : ℕ) : Type 0 where
   pub more : List Move
   pub run : is_run start (moves ++ more) ≡ true
   pub shows : shown_in (traced start (moves ++ more)) ≡ shown_in (traced start moves) ++ shown
-  pub led : IsHosted stands now place (led_to start (moves ++ more))
+  pub led : IsHosted kept now place (led_to start (moves ++ more))
   pub agreed : (id : List ℕ) → IsAgreed start (traced start (moves ++ more)) id
 
 -- Where a run begins
@@ -170,9 +170,9 @@ abbrev pub first_of : RealmSpec → ℕ → (Key → List Badge) → List (Key �
 first_of spec epoch boxes rows = record { state = restarted (starting (start_of spec (epoch + 1))) (loaded boxes rows); rows = rows; errands = [] }
 
 -- A REALM HAS STARTED from the rows and the epoch that were stored of it: it is where a run may begin, where tipd alone wrote them
-pub record HasStarted {S : Type 0} (stands : S → Log → Type 0) (spec : RealmSpec) (epoch : ℕ) (rows : List (Key × Row)) (new : Around S) (place : ℕ) : Type 0 where
+pub record HasStarted {S : Type 0} (kept : Keeping S) (spec : RealmSpec) (epoch : ℕ) (rows : List (Key × Row)) (new : Around S) (place : ℕ) : Type 0 where
   pub boxes : Key → List Badge
   pub adopted : are_adopted boxes rows ≡ true
   pub rises : epoch < last_epoch
-  pub hosted : IsHosted stands new place (first_of spec epoch boxes rows)
+  pub hosted : IsHosted kept new place (first_of spec epoch boxes rows)
   pub begins : is_starting (starting (start_of spec (epoch + 1))) ≡ true → AreRowsBefore (epoch + 1) rows → are_known_once (first_of spec epoch boxes rows).state ≡ true → IsStart (first_of spec epoch boxes rows)

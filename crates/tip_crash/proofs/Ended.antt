@@ -11,8 +11,8 @@ use Rattle.tip_branch.specs.Notes.{PartyNotes}
 use Rattle.tip_rows.specs.Keys.{Key}
 use Rattle.tip_rows.specs.Logs.{IsPart, Log}
 use Rattle.tip_rows.specs.declared.row.Row.{Row}
-use Rattle.tip_host.proofs.Parts.{part_after, part_stays}
-use Rattle.tip_host.specs.Keeping.{log_after}
+use Rattle.tip_stored.proofs.Parts.{part_after, part_stays}
+use Rattle.tip_stored.specs.Keeping.{log_after}
 use Rattle.tip_machine.specs.Agreement.Traces.{shown_in, traced}
 use Rattle.tip_machine.specs.Agreement.Verdicts.{Verdict, is_abort, is_commit, is_unanimous, told, told_by}
 use Rattle.tip_machine.specs.Honest.{brings_no_party, is_honest, is_run}

@@ -10,31 +10,35 @@ ghost use Rattle.tip_machine.specs.Starting.{IsStart};
 ghost use Rattle.tip_machine.specs.Steps.{wants};
 ghost use Rattle.tip_machine.specs.Types.{Event};
 ghost use Rattle.tip_machine.specs.declared.event.Outcome.{Outcome};
-ghost use Rattle.tip_host.specs.Keeping.{Keeps};
+ghost use Rattle.tip_stored.specs.Keeping.{Keeps};
 ghost use Rattle.tip_crash.specs.Crashes.{HasEnded, IsLeft, IsUnder, Under};
 
 use tip_rows::RowLog;
 
-/// What `Host::step` says of a store tells what a process leaves that ends at any time behind it, where before it nothing else could
-/// be left: the rows of before or those with the event's change, and every other realm's rows.
+/// What `StoredCore::step` says of a store tells what a process leaves that ends at any time behind it, where before it nothing
+/// else could be left: the rows of before or those with the event's change, and every other realm's rows.
 pub fn a_step_leaves_the_rows_of_before_or_with_its_change<S: RowLog>()
     ensures own { (old new : S) (name : List ℕ) (world : World) (event : Event) (outcome : Outcome)
-        (log left : Log) → Keeps S.stands S.may_leave S.is_true S.faults S.is_due name
-        (wants world.state event) outcome old new → S.is_true new → S.stands old log →
-        ((other : Log) → S.may_leave old other → other ≡ log) → S.may_leave new left →
+        (log left : Log) → Keeps S.keeping name
+        (wants world.state event) outcome old new → S.keeping.is_true new →
+        S.keeping.stands old log →
+        ((other : Log) → S.keeping.may_leave old other → other ≡ log) →
+        S.keeping.may_leave new left →
         IsPart log name world.state.head.epoch world.rows →
         (rows : List (Key × Row)) × IsPart left name world.state.head.epoch rows
         × IsLeft world event rows }
     ensures others { (old new : S) (name : List ℕ) (world : World) (event : Event)
-        (outcome : Outcome) (log left : Log) → Keeps S.stands S.may_leave S.is_true S.faults
-        S.is_due name (wants world.state event) outcome old new → S.is_true new → S.stands old log →
-        ((other : Log) → S.may_leave old other → other ≡ log) → S.may_leave new left →
+        (outcome : Outcome) (log left : Log) →
+        Keeps S.keeping name (wants world.state event) outcome old new → S.keeping.is_true new →
+        S.keeping.stands old log →
+        ((other : Log) → S.keeping.may_leave old other → other ≡ log) →
+        S.keeping.may_leave new left →
         (other : List ℕ) (epoch : ℕ) (rows : List (Key × Row)) → bytes_eq name other ≡ false →
         IsPart log other epoch rows → IsPart left other epoch rows }
 {}
 
-/// CRASH CONSISTENCY: a process that ends while an event is under way has made an honest run, by which these rows are left; what was
-/// told by then is told in it, and whatever follows, no transaction is half committed.
+/// CRASH CONSISTENCY: a process that ends while an event is under way has made an honest run, by which these rows are left; what
+/// was told by then is told in it, and whatever follows, no transaction is half committed.
 pub fn a_process_that_ends_has_made_a_run()
     ensures { (start : World) (moves : List Move) (under : Under) (event : Event)
         (rows : List (Key × Row)) → IsStart start → is_run start moves ≡ true →

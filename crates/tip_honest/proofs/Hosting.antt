@@ -1,6 +1,6 @@
 -- What happens at a host leaves all realms honest.
 use Rattle.std.proofs.Common.{◌≡◌, ◌≢◌, ◌+◌, ◌++◌, ◌∷◌, ℕ, Bool, true, false, cond, List, [], Option, Some, None, refl, ap, arith, sym, subst, ◌∙◌, inl, inr}
-use Rattle.std.specs.Prelude.{IfSome, nat_lt, option_map, slice_get}
+use Rattle.std.specs.Prelude.{nat_lt, option_map, slice_get}
 use Rattle.std.specs.Option.{option_to_list}
 use Rattle.std.proofs.lemmas.Bool.{and_from, cases_eq}
 use Rattle.std.proofs.lemmas.Bool.Decides.{nat_tests}
@@ -26,7 +26,7 @@ use Rattle.tip_rows.specs.declared.row.Row.{Row}
 use Rattle.tip_honest.proofs.Agreed.{agreed_so}
 use Rattle.tip_honest.proofs.Boxes.{adopted_so, loaded_again}
 use Rattle.tip_honest.proofs.More.{honest_more}
-use Rattle.tip_honest.specs.Hosts.{AreAllHonest, AreOthersKept, Brings, HasCome, IsHonestAt, IsHonestRun, IsLost, IsRenewed, IsSame, Known}
+use Rattle.tip_honest.specs.Hosts.{AreAllHonest, AreOthersKept, Brings, HasCome, HasHonestRun, IsHonestAt, IsLost, IsRenewed, IsSame, Known}
 use Rattle.tip_honest.specs.Honesty.{AreHonest, Journal, boxes_of, came_back, entered_in, next_of, noted}
 use Rattle.tip_honest.specs.declared.entry.Entry.{Entry}
 
@@ -176,10 +176,10 @@ all_same old new same all at =
     same_at (old.realm at) (new.realm at) (old.out at) (new.out at) (old.rows at) (new.rows at) (slice_get old.journals at) (slice_get new.journals at) (same.realms at) (same.out at) (same.rows at) (ap (λ js. slice_get js at) same.journals) (all at)
 
 -- what an honest realm's journals say
-pub run_at : (known : Known) → AreAllHonest known → (place : ℕ) → IfSome (slice_get known.journals place) (IsHonestRun (known.rows place))
+pub run_at : (known : Known) → AreAllHonest known → (place : ℕ) → HasHonestRun (known.realm place) (known.out place) (known.rows place) (slice_get known.journals place)
 run_at known all place = by (known.realm place) (slice_get known.journals place) (all place) where
-  by : (s : Option State) (found : Option (List Journal)) → IsHonestAt s (known.out place) (known.rows place) found → IfSome found (IsHonestRun (known.rows place))
-  by None None is = tt
-  by None (Some js) is = absurd is
-  by (Some state) None is = absurd is
-  by (Some state) (Some js) is = let world : World = record { state = state; rows = known.rows place; errands = known.out place } in record { world = world; leads = refl; honest = is; agreed = agreed_so world js is }
+  by : (s : Option State) (found : Option (List Journal)) → IsHonestAt s (known.out place) (known.rows place) found → HasHonestRun s (known.out place) (known.rows place) found
+  by None None is = is
+  by None (Some js) is = is
+  by (Some state) None is = is
+  by (Some state) (Some js) is = record { honest = is; agreed = agreed_so _ js is }

@@ -39,13 +39,18 @@ IsHonestAt (Some state) out rows (Some journals) = AreHonest (record { state = s
 abbrev pub AreAllHonest : Known → Type 0
 AreAllHonest known = (place : ℕ) → IsHonestAt (known.realm place) (known.out place) (known.rows place) (slice_get known.journals place)
 
--- A REALM'S JOURNALS ARE THOSE OF AN HONEST RUN that leads to these stored rows; and where that begins as a run may begin, no
--- transaction of it is half committed
-pub record IsHonestRun (rows : List (Key × Row)) (journals : List Journal) : Type 0 where
-  pub world : World
-  pub leads : world.rows ≡ rows
+-- A REALM'S JOURNALS ARE THOSE OF AN HONEST RUN that leads to this state, these stored rows and these parties that are out; and where
+-- that begins as a run may begin, no transaction of it is half committed
+pub record IsHonestRun (world : World) (journals : List Journal) : Type 0 where
   pub honest : AreHonest world journals
   pub agreed : IsStart honest.start → (id : List ℕ) → IsAgreed honest.start (traced honest.start honest.moves) id
+
+-- So it is of a realm of a host. Where no realm is, no journal is, and nobody is out
+abbrev pub HasHonestRun : Option State → List PartyNotes → List (Key × Row) → Option (List Journal) → Type 0
+HasHonestRun None out rows None = out ≡ []
+HasHonestRun None out rows (Some journals) = ⊥
+HasHonestRun (Some state) out rows None = ⊥
+HasHonestRun (Some state) out rows (Some journals) = IsHonestRun (record { state = state; rows = rows; errands = out }) journals
 
 -- nothing has happened
 pub record IsSame (old new : Known) : Type 0 where

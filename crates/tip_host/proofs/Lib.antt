@@ -1,7 +1,10 @@
-pub mod Answering
-pub mod Happening
-pub mod Opening
-pub mod Parts
-pub mod Rising
-pub mod TakingUp
+pub mod Batches
+pub mod Journals
+pub mod Entering
+pub mod Honestly
+pub mod Taking
+pub mod Ending
+pub mod Beginning
 pub mod Renewals
+pub mod Served
+pub mod Dropping

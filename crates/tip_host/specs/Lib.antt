@@ -1,5 +1,8 @@
-pub mod Keeping
-pub mod Errands
-pub mod Recovering
-pub mod Loading
-pub mod Renewing
+pub mod Outboxes
+pub mod Entries
+pub mod Works
+pub mod Books
+pub mod Openings
+pub mod Notings
+pub mod Hosts
+pub mod Renewals

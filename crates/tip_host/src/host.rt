@@ -1,143 +1,300 @@
-//! The core of all realms over a store of their rows.
-ghost use Rattle.std.specs.Prelude.{◌≡◌, ◌↔◌, ℕ, None, Some, true, false, IfOk, IfErr, OnOk};
+//! A stored core with what is kept of its realms beside it.
+ghost use Rattle.std.specs.Prelude.{◌≡◌, ◌≢◌, ◌↔◌, ℕ, [], None, true, false, find, if◌then◌else◌, map, slice_get, IfErr, IfOk, IfSome, OnErr, OnOk, IsTrue, Err, option_map};
+ghost use Rattle.std.specs.Option.{option_map_or};
 ghost use Rattle.tip_branch.specs.Always.{Always};
-ghost use Rattle.tip_core.specs.Hosted.{realm as realm_at, HaveNames, IsRoomFor, Steps};
+ghost use Rattle.tip_core.specs.Hosted.{HaveNames, may_take_in, realm as realm_at};
+ghost use Rattle.tip_honest.specs.Hosts.{HasHonestRun};
+ghost use Rattle.tip_stored.specs.Recovering.{all_adopted, recovered};
+ghost use Rattle.tip_stored.specs.declared.stored_core.StepFault.TheVariants as StepFault;
+ghost use Rattle.tip_journal.specs.Audit.{AreAudited, report_of};
+ghost use Rattle.tip_journal.specs.Fits.{Fits};
+ghost use Rattle.tip_kept.specs.Keeping.{rows_at};
+ghost use Rattle.tip_machine.specs.Honest.{brings_no_party};
 ghost use Rattle.tip_machine.specs.States.{State};
-ghost use Rattle.tip_machine.specs.Steps.{fits, wants};
-ghost use Rattle.tip_host.specs.Keeping.{Happens, Keeps};
-ghost use Rattle.tip_host.specs.declared.host.HostFault.TheVariants.{Stopped};
+ghost use Rattle.tip_machine.specs.Steps.{is_for};
+ghost use Rattle.tip_recovery.specs.Adopting.{stored_of};
+ghost use Rattle.tip_table.specs.Lists.{without};
+ghost use Rattle.tip_host.specs.Books.{out_of};
+ghost use Rattle.tip_host.specs.Hosts.{Serves, Stays, is_now};
+ghost use Rattle.tip_host.specs.Entries.{bare};
+ghost use Rattle.tip_host.specs.Openings.{opened};
+ghost use Rattle.tip_host.specs.Outboxes.{waiting};
+ghost use Rattle.tip_host.specs.Works.{BringsAt, standing_at};
+ghost use Rattle.tip_host.specs.declared.host.HostFault.TheVariants.{NotOut, Party, Stopped};
+ghost use Rattle.tip_host.specs.declared.host.OpenFault.TheVariants.{Unadopted};
 
-use crate::keeping::keep;
-use std::alloc::{AllocError, Global};
+use crate::books::Books;
+use crate::opening::{Opening, open_all};
+use crate::outboxes::take;
+use crate::reply::Reply;
+use crate::serving::{finish, make_ready};
+use std::alloc::Global;
+use std::marker::Model;
 use thiserror::Error;
-use tip_core::{Core, Happened, Room};
-use tip_machine::{Event, Outcome};
+use tip_core::Core;
+use tip_honest::Entry;
+use tip_journal::{AuditFault, Journals, Pass, Reported, audit, fits};
+use tip_machine::{Event, Seat, Sent};
 use tip_rows::RowLog;
+use tip_stored::{Recovering, StepFault, StoredCore};
+use tip_table::Table;
+
+/// Why a host is not opened.
+#[derive(Clone, Copy, Debug, PartialEq, Eq, Error)]
+pub enum OpenFault {
+    #[error("a row with branches was not adopted")]
+    Unadopted,
+    #[error("out of memory")]
+    Memory,
+}
 
 /// Why an event did not happen.
 #[derive(Clone, Copy, Debug, PartialEq, Eq, Error)]
 pub enum HostFault {
     #[error("the host is stopped")]
     Stopped,
+    #[error("an event brings a party back by itself")]
+    Party,
+    #[error("the party is not out of this realm")]
+    NotOut,
     #[error("out of memory")]
     Memory,
 }
 
-impl From<AllocError> for HostFault {
-    ghost use Rattle.tip_host.specs.declared.host.HostFault.TheVariants.{Memory};
+impl From<StepFault> for HostFault {
+    ghost use Rattle.tip_host.specs.Hosts.{fault_of};
 
-    ghost from_gives = { λ _ fault. fault ≡ Memory };
+    ghost from_gives = { λ why fault. fault ≡ fault_of why };
 
-    fn from(_: AllocError) -> HostFault {
-        HostFault::Memory
+    fn from(fault: StepFault) -> HostFault {
+        match fault {
+            StepFault::Stopped => HostFault::Stopped,
+            StepFault::Memory => HostFault::Memory,
+        }
     }
 }
 
-/// All realms, each by its place in the order of declaration, and the store of their rows.
+/// A stored core, and what is kept of its realms beside it: their journals, how their rows are stored, who is out, and what waits
+/// to go out on each connection.
 #[derive(Drop)]
-pub struct Host<S, C = Core> {
-    pub store: S,
-    pub core: C,
-    pub is_stopped: bool,
+pub struct Host<S> {
+    pub(crate) stored: StoredCore<S, Core>,
+    pub(crate) books: Books,
 }
 
-impl<S: RowLog> Host<S, Core> {
-    /// These realms over this store.
-    pub fn new(store: S, core: Core) -> Host<S, Core>
-        requires { Always }
-        ensures store { result.store ≡ store }
-        ensures core { result.core ≡ core }
-        ensures stopped { result.is_stopped ≡ false }
-    {
-        Host {
-            store,
-            core,
-            is_stopped: false,
-        }
-    }
+impl<S> Model for Host<S> {
+    ghost use Rattle.tip_host.specs.Books.{IsHonest};
+    ghost use Rattle.tip_host.specs.Hosts.{Host};
 
-    /// All the memory that an event of a realm takes. After it nothing can be wanting, and nothing has happened yet.
-    pub fn room(&mut self, alloc: Global, realm: usize, event: &Event) -> Result<Room, HostFault>
-        requires { Always }
-        ensures room { IfOk result (IsRoomFor self.new.core realm event.now) }
-        ensures store { self.new.store ≡ self.old.store }
-        ensures realms { (place : ℕ) → realm_at self.new.core place ≡ realm_at self.old.core place }
-        ensures stopped { self.new.is_stopped ≡ self.old.is_stopped }
-        ensures running { OnOk result (self.old.is_stopped ≡ false) }
-        ensures stopping { IfErr result
-            (λ fault. (fault ≡ Stopped) ↔ (self.old.is_stopped ≡ true)) }
-    {
-        if self.is_stopped {
-            return Err(HostFault::Stopped);
-        }
-        Ok(self.core.room(alloc, realm, event)?)
-    }
+    ghost Value = { Host S };
 
-    /// One event of one realm, in the room that was made for it: the change that it wants is asked of the store, at most one;
-    /// then its realm goes on by what became of it. It takes no memory.
-    pub fn happen(&mut self, realm: usize, event: Event, room: Room) -> Happened
-        requires always { Always }
-        requires room { IsRoomFor self.old.core realm event room }
-        ensures happens { Happens S.stands S.may_leave S.is_true S.faults S.is_due self.old self.new
-            realm event result }
-        ensures change { result.change ≡ room.change }
-        ensures stopped { self.new.is_stopped ≡ self.old.is_stopped }
+    ghost view = { λ d. record { stored = d.stored; books = d.books } };
+
+    ghost invariant = { λ d. IsHonest d.stored.core d.books };
+}
+
+impl<S: RowLog + Drop> Host<S> {
+    /// The stored core begins, each realm with a journal that says with which rows and boxes it begins. At a fault all is handed
+    /// back.
+    pub fn open(
+        alloc: Global,
+        recovering: Recovering<S>,
+    ) -> Result<Host<S>, (OpenFault, Recovering<S>)>
+        requires { Always }
+        ensures store { IfOk result (λ host. host.stored.store ≡ recovering.store) }
+        ensures realms { IfOk result (λ host. (place : ℕ) → realm_at host.stored.core place ≡
+            recovered (slice_get recovering.realms place)
+            (realm_at recovering.core place)) }
+        ensures names { IfOk result (λ host. HaveNames host.stored.core) }
+        ensures running { IfOk result (λ host. host.stored.is_stopped ≡ false) }
+        ensures journals { IfOk result
+            (λ host. host.books.journals ≡ map opened recovering.realms) }
+        ensures rows { IfOk result (λ host. (place : ℕ) → rows_at host.books.rows place
+            ≡ option_map_or (λ recovery. stored_of recovery.rows)
+            (slice_get recovering.realms place) []) }
+        ensures out { IfOk result (λ host. (place : ℕ) → out_of host.books place ≡ []) }
+        ensures lines { IfOk result
+            (λ host. (place : ℕ) → waiting host.books.outboxes place ≡ []) }
+        ensures adopted { OnOk result (all_adopted recovering.realms ≡ true) }
+        ensures unadopted { IfErr result
+            (λ fault. fault.0 ≡ Unadopted → all_adopted recovering.realms ≡ false) }
+        ensures back { IfErr result (λ fault. fault.1 ≡ recovering) }
     {
-        let outcome = match self.core.name(realm) {
-            Some(name) => keep(&mut self.store, name, room.wants()),
-            None => Outcome::NoChange,
+        let Ok((journals, rows)) = open_all(alloc, recovering.realms()) else {
+            return Err((OpenFault::Memory, recovering));
         };
-        self.core.apply(realm, event, room, outcome)
+        let books = Books {
+            journals,
+            outboxes: Table::new(alloc),
+            rows,
+            work: Table::new(alloc),
+            out: Table::new(alloc),
+        };
+        match recovering.begin() {
+            Ok(stored) => Ok(Host { stored, books }),
+            Err((_, recovering)) => Err((OpenFault::Unadopted, recovering)),
+        }
     }
 
-    /// Room is made for one event of one realm, and it happens. A fault hands the event back, and nothing has happened.
+    /// A pass for whoever makes events here. It takes no memory.
+    pub fn pass(&self, alloc: Global) -> Pass<Entry>
+        ensures { result.noted ≡ [] }
+    {
+        Pass::new(alloc)
+    }
+
+    /// One event of a realm, which brings no party. Its lines wait in the outboxes, its entry stands in the realm's journal and in
+    /// this pass, and the party that goes out waits to be taken. A fault hands the event back, and nothing has happened.
     pub fn step(
         &mut self,
         alloc: Global,
+        pass: &mut Pass<Entry>,
         realm: usize,
         event: Event,
-    ) -> Result<Happened, (HostFault, Event)>
+    ) -> Result<Reply, (HostFault, Event)>
         requires { Always }
-        ensures steps { IfOk result (λ happened. Steps self.old.core self.new.core realm event
-            happened.outcome happened.answer) }
-        ensures wanted { IfOk result (λ happened. (state : State) →
-            realm_at self.old.core realm ≡ Some state → happened.change ≡ wants state event) }
-        ensures absent { IfOk result (λ happened. realm_at self.old.core realm ≡ None →
-            (happened.change ≡ None) × (self.new.store ≡ self.old.store)) }
-        ensures fits { IfOk result (λ happened. fits happened.change happened.outcome ≡ true) }
-        ensures keeps { IfOk result (λ happened. (state : State) →
-            realm_at self.old.core realm ≡ Some state →
-            Keeps S.stands S.may_leave S.is_true S.faults S.is_due state.head.name
-            happened.change happened.outcome self.old.store self.new.store) }
+        ensures serves { IfOk result
+            (λ reply. Serves S.keeping self.old self.new pass.old.noted pass.new.noted realm event
+            None reply) }
+        ensures nobody { OnOk result (brings_no_party event ≡ true) }
+        ensures stays { OnErr result (Stays self.old self.new) }
+        ensures pass { OnErr result (pass.new.noted ≡ pass.old.noted) }
         ensures back { IfErr result (λ fault. fault.1 ≡ event) }
-        ensures store { IfErr result (λ fault. self.new.store ≡ self.old.store) }
-        ensures realms { IfErr result
-            (λ fault. (place : ℕ) → realm_at self.new.core place ≡ realm_at self.old.core place) }
-        ensures names { IfOk result (λ happened. HaveNames self.new.core) }
-        ensures stopped { self.new.is_stopped ≡ self.old.is_stopped }
-        ensures running { IfOk result (λ happened. self.old.is_stopped ≡ false) }
+        ensures stopped { self.new.stored.is_stopped ≡ self.old.stored.is_stopped }
+        ensures running { OnOk result (self.old.stored.is_stopped ≡ false) }
         ensures stopping { IfErr result
-            (λ fault. (fault.0 ≡ Stopped) ↔ (self.old.is_stopped ≡ true)) }
+            (λ fault. (fault.0 ≡ Stopped) ↔ (self.old.stored.is_stopped ≡ true)) }
+        ensures party { IfErr result (λ fault. fault.0 ≡ Party → brings_no_party event ≡ false) }
+        ensures sent { IfErr result (λ fault. fault.0 ≢ NotOut) }
     {
-        match self.room(alloc, realm, &event) {
-            Ok(room) => Ok(self.happen(realm, event, room)),
-            Err(fault) => Err((fault, event)),
+        if self.stored.is_stopped {
+            return Err((HostFault::Stopped, event));
         }
+        if !brings_no_party(&event) {
+            return Err((HostFault::Party, event));
+        }
+        match self.happen(alloc, pass, realm, event, None) {
+            Ok(reply) => Ok(reply),
+            Err((fault, event)) => Err((fault.into(), event)),
+        }
+    }
+
+    /// One event of a realm, which brings nobody, or who was taken out and stands at a place.
+    pub(crate) fn happen(
+        &mut self,
+        alloc: Global,
+        pass: &mut Pass<Entry>,
+        realm: usize,
+        event: Event,
+        back: Option<usize>,
+    ) -> Result<Reply, (StepFault, Event)>
+        requires always { Always }
+        requires brings { BringsAt self.old.books.out realm event back }
+        ensures serves { IfOk result
+            (λ reply. Serves S.keeping self.old self.new pass.old.noted pass.new.noted realm event
+            (standing_at self.old.books.out back) reply) }
+        ensures stays { OnErr result (Stays self.old self.new) }
+        ensures pass { OnErr result (pass.new.noted ≡ pass.old.noted) }
+        ensures back { IfErr result (λ fault. fault.1 ≡ event) }
+        ensures out { OnErr result (self.new.books.out ≡ self.old.books.out) }
+        ensures stopped { self.new.stored.is_stopped ≡ self.old.stored.is_stopped }
+        ensures running { OnOk result (self.old.stored.is_stopped ≡ false) }
+        ensures stopping { IfErr result
+            (λ fault. (fault.0 ≡ StepFault.Stopped) ↔ (self.old.stored.is_stopped ≡ true)) }
+    {
+        let room = match self.stored.room(alloc, realm, &event) {
+            Ok(room) => room,
+            Err(fault) => return Err((fault, event)),
+        };
+        let core = &self.stored.core;
+        let Ok(ready) = make_ready(alloc, core, &mut self.books, pass, realm, &event, &room) else {
+            return Err((StepFault::Memory, event));
+        };
+        let happened = self.stored.happen(realm, event, room);
+        Ok(finish(&mut self.books, pass, realm, ready, back, happened))
+    }
+
+    /// The oldest line or closing that waits for a connection is taken out. None waits for a connection of an earlier start.
+    pub fn take_out(&mut self, realm: usize, seat: Seat) -> Option<Sent>
+        ensures taken { result ≡ (if is_now seat (realm_at self.old.stored.core realm)
+            then find (is_for seat.number) (waiting self.old.books.outboxes realm) else None) }
+        ensures left { waiting self.new.books.outboxes realm ≡ (if is_now seat
+            (realm_at self.old.stored.core realm)
+            then without (is_for seat.number) (waiting self.old.books.outboxes realm)
+            else waiting self.old.books.outboxes realm) }
+        ensures others { (other : ℕ) → other ≢ realm →
+            waiting self.new.books.outboxes other ≡ waiting self.old.books.outboxes other }
+        ensures rest { self.new ≡ record self.old
+            { books = record self.old.books { outboxes = self.new.books.outboxes } } }
+    {
+        if self.epoch(realm) != Some(seat.epoch) {
+            return None;
+        }
+        take(&mut self.books.outboxes, realm, seat.number)
+    }
+
+    /// Whether a line may be taken on a connection now.
+    pub fn may_take(&self, realm: usize, seat: Seat) -> bool
+        ensures { result ≡ may_take_in seat (realm_at self.now.stored.core realm) }
+    {
+        self.stored.core.may_take(realm, seat)
+    }
+
+    /// The epoch of a realm; None where it is not hosted.
+    pub fn epoch(&self, realm: usize) -> Option<u32>
+        ensures { result
+            ≡ option_map (λ state. state.head.epoch) (realm_at self.now.stored.core realm) }
+    {
+        Some(self.stored.core.heads().get(realm)?.epoch)
+    }
+
+    /// Whether the last entry that a pass has of a realm's current epoch stands in the realm's journal.
+    pub fn fits(&self, pass: &Pass<Entry>, realm: usize) -> bool
+        ensures { IsTrue result ↔ Fits self.now.books.journals pass.now.noted realm }
+    {
+        fits(&self.books.journals, pass, realm)
+    }
+
+    /// Whether these passes have the entries of all journals, each in one pass, once; and then how many each journal has, by
+    /// declaration, then by epoch.
+    pub fn audit(&self, alloc: Global, passes: &[Pass<Entry>]) -> Result<Vec<Reported>, AuditFault>
+        ensures audited { OnOk result (AreAudited self.now.books.journals passes.now) }
+        ensures report { IfOk result (λ report. report.items ≡ report_of self.now.books.journals) }
+        ensures mismatch { result ≡ Err AuditFault.PassMismatch →
+            ¬ AreAudited self.now.books.journals passes.now }
+    {
+        audit(alloc, &self.books.journals, passes)
     }
 
     /// From now on each step is refused.
     pub fn stop(&mut self)
-        ensures { self.new ≡ record self.old { is_stopped = true } }
+        ensures { self.new
+            ≡ record self.old { stored = record self.old.stored { is_stopped = true } } }
     {
-        self.is_stopped = true;
+        self.stored.is_stopped = true;
     }
 
-    /// Ends the host, stopped or not: all connections, boxes and parties are dropped, which calls their branches, and the store
-    /// comes back with its rows and epochs as they are.
-    pub fn shut(self) -> S
+    /// HONEST RUNS of a host that ends, stopped or not, whoever came back in whatever order: the journals of each realm are what
+    /// one honest run of its own machine leaves, which leads to its state, to its stored rows, as the store has answered, and to
+    /// its parties that are out; so no transaction of it is half committed. All connections, boxes and parties are dropped, which
+    /// calls their branches, and the store comes back with its rows and epochs as they are, and the journals.
+    pub fn shut(self) -> (S, Journals<Opening, Entry>)
         requires { Always }
-        ensures { result ≡ self.store }
+        ensures store { result.0 ≡ self.stored.store }
+        ensures journals { result.1 ≡ self.books.journals }
+        ensures honest { (place : ℕ) → HasHonestRun (realm_at self.stored.core place)
+            (out_of self.books place) (rows_at self.books.rows place)
+            (slice_get (bare result.1) place) }
     {
-        self.store
+        let Host { stored, books } = self;
+        let Books { journals, .. } = books;
+        (stored.shut(), journals)
     }
+}
+
+/// Whether an event brings no party back.
+fn brings_no_party(event: &Event) -> bool
+    ensures { result ≡ brings_no_party event.now }
+{
+    !matches!(event, Event::Voted(_) | Event::Settled(_))
 }

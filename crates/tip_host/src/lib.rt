@@ -1,17 +1,23 @@
-//! The host: the core of all realms over a store of their rows.
+//! The host: a stored core that keeps a journal of each realm, how its rows are stored, who is out, and what is to go out on each
+//! connection. Whoever serves a connection makes its events here, and has a pass that tells which they were.
 #![tactic(auto)]
 
+mod batch;
+mod books;
+mod closing;
 mod host;
-mod keeping;
-mod loading;
-mod realm_spec;
-mod recovering;
+mod leaving;
+mod noting;
+mod opening;
+mod outboxes;
 mod renewing;
+mod reply;
+mod returning;
+mod serving;
 mod work;
 
-pub use host::{Host, HostFault};
-pub use loading::LoadFault;
-pub use realm_spec::{BadRealm, RealmSpec};
-pub use recovering::{Recovering, Unadopted};
-pub use renewing::RenewFault;
-pub use work::{Returned, Work, are_untold, done};
+pub use closing::CloseFault;
+pub use host::{Host, HostFault, OpenFault};
+pub use opening::{OpenedRow, Opening};
+pub use reply::Reply;
+pub use work::{Returned, Work};

@@ -1,116 +1,75 @@
-//! A realm that starts again while the others run.
-ghost use Rattle.std.specs.Prelude.{◌≡◌, ◌≢◌, ◌↔◌, ◌<◌, ◌+◌, ℕ, None, Some, Err, false, true, length, map, IfErr, IfOk, OnOk};
+//! A realm that starts again at a host while the others run.
+ghost use Rattle.std.specs.Prelude.{◌≡◌, ◌≢◌, ◌↔◌, ◌+◌, ◌<◌, ◌≤◌, ◌-◌, ◌==◌, ℕ, if◌then◌else◌, slice_get, true, false, [], Err, None, Some, length, map, IfErr, IfOk, IsSomeAnd, IsTrue, OnErr, OnOk, vec_capacity, vec_len};
 ghost use Rattle.tip_branch.specs.Always.{Always};
-ghost use Rattle.tip_core.specs.Hosted.{realm as realm_at, HaveNames};
-ghost use Rattle.tip_core.specs.Renewing.{HasRoom};
-ghost use Rattle.tip_machine.specs.Moves.{risen};
-ghost use Rattle.tip_machine.specs.Recovery.{restarted};
+ghost use Rattle.tip_core.specs.Hosted.{HaveNames, realm as realm_at};
+ghost use Rattle.tip_stored.specs.Loading.{Goes, IsRead, Never, Stays as ReadsAlone};
+ghost use Rattle.tip_honest.specs.Honesty.{are_boxed};
+ghost use Rattle.tip_stored.specs.Renewing.{IsReasonToDoubt, IsRenewed, Rises, was_refused};
+ghost use Rattle.tip_stored.specs.declared.renewing.RenewFault.TheVariants.{NoRealm, Stopped};
+ghost use Rattle.tip_journal.specs.Journal.{begun};
+ghost use Rattle.tip_journal.specs.Journals.{IsWithdrawable, changed_at, current, renewed, without_last};
 ghost use Rattle.tip_machine.specs.States.{State};
 ghost use Rattle.tip_machine.specs.Types.{seen};
-ghost use Rattle.tip_recovery.specs.Adopting.{Recovery as Reading, are_adopted, loaded};
-ghost use Rattle.tip_recovery.specs.Renewing.{is_read_again};
-ghost use Rattle.tip_rows.specs.Logs.{Log, IsSettled, last_epoch};
-ghost use Rattle.tip_host.specs.Loading.{Goes, IsRead, Never, Stays};
-ghost use Rattle.tip_host.specs.Renewing.{IsReasonToDoubt, IsReasonToRenew, IsRenewed, Rises, renew_fault_of, was_refused};
-ghost use Rattle.tip_host.specs.declared.renewing.RenewFault.TheVariants.{NoRealm, NotRaised, Stopped};
+ghost use Rattle.tip_kept.specs.Keeping.{rows_at};
+ghost use Rattle.tip_recovery.specs.Adopting.{are_adopted, loaded, stored_of};
+ghost use Rattle.std.specs.Option.{option_and_then};
+ghost use Rattle.tip_rows.specs.Logs.{Log, is_rising, last_epoch};
+ghost use Rattle.tip_table.specs.Kept.{capacity, of};
+ghost use Rattle.tip_host.specs.Entries.{bare};
+ghost use Rattle.tip_host.specs.Books.{out_of};
+ghost use Rattle.tip_host.specs.Renewals.{AreKeptBut, IsReady, IsReason, next_epoch};
+ghost use Rattle.tip_host.specs.Outboxes.{waiting};
 
+use crate::batch::Batch;
+use crate::books::Books;
 use crate::host::Host;
-use crate::loading::{LoadFault, read};
+use crate::opening::Opening;
 use std::alloc::{AllocError, Global};
-use thiserror::Error;
-use tip_core::{Core, Left, Parting};
+use std::mem::replace;
+use tip_core::Left;
+use tip_machine::next_epoch;
 use tip_recovery::Recovery;
-use tip_rows::{RaiseFault, RowLog};
+use tip_rows::RowLog;
+use tip_stored::RenewFault;
+use tip_table::Table;
 
-/// Why a realm was not renewed.
-#[derive(Clone, Copy, Debug, PartialEq, Eq, Error)]
-pub enum RenewFault {
-    #[error("the host is stopped")]
-    Stopped,
-    #[error("there is no such realm")]
-    NoRealm,
-    #[error("the store refused to read")]
-    NotRead,
-    #[error("what is stored is no row")]
-    BadRow,
-    #[error("the epoch is at its end")]
-    EpochEnd,
-    #[error("what is stored has changed since it was read")]
-    NotInDoubt,
-    #[error("a row with branches was not adopted")]
-    Unadopted,
-    #[error("the store refused to raise the epoch")]
-    NotRaised,
-    #[error("out of memory")]
-    Memory,
+/// What it takes to clear a realm's outboxes: a table for the lines of the other realms, and room for those that are let go.
+#[derive(Drop)]
+struct Clearing {
+    spare: Table<Batch>,
+    left: Vec<Batch>,
 }
 
-impl From<LoadFault> for RenewFault {
-    ghost use Rattle.tip_host.specs.Renewing.{renew_fault_of};
-
-    ghost from_gives = { λ why fault. fault ≡ renew_fault_of why };
-
-    fn from(fault: LoadFault) -> RenewFault {
-        match fault {
-            LoadFault::Refused => RenewFault::NotRead,
-            LoadFault::EpochEnd => RenewFault::EpochEnd,
-            LoadFault::BadRow => RenewFault::BadRow,
-            LoadFault::Memory => RenewFault::Memory,
-            LoadFault::BadRealm => RenewFault::NoRealm,
-        }
-    }
-}
-
-impl From<AllocError> for RenewFault {
-    ghost use Rattle.tip_host.specs.declared.renewing.RenewFault.TheVariants.{Memory};
-
-    ghost from_gives = { λ _ fault. fault ≡ Memory };
-
-    fn from(_: AllocError) -> RenewFault {
-        RenewFault::Memory
-    }
-}
-
-impl From<RaiseFault> for RenewFault {
-    ghost use Rattle.tip_host.specs.Renewing.{raise_fault_of};
-
-    ghost from_gives = { λ why fault. fault ≡ raise_fault_of why };
-
-    fn from(fault: RaiseFault) -> RenewFault {
-        match fault {
-            RaiseFault::Refused => RenewFault::NotRaised,
-            RaiseFault::EpochEnd => RenewFault::EpochEnd,
-        }
-    }
-}
-
-impl<S: RowLog> Host<S, Core> {
+impl<S: RowLog + Drop> Host<S> {
     /// What is stored of a realm: boxes are adopted for its rows, and it is renewed by it. Faults are NoRealm, NotRead, BadRow and
-    /// Memory.
+    /// Memory; all stays but the store's count of faults.
     pub fn doubts(&mut self, alloc: Global, realm: usize) -> Result<Recovery, RenewFault>
         requires { Always }
-        ensures store { Goes S.stands S.may_leave S.is_true S.faults S.is_due
-            (was_refused (λ fault. fault) result) Stays Never self.old.store self.new.store }
-        ensures core { self.new.core ≡ self.old.core }
-        ensures stopped { self.new.is_stopped ≡ self.old.is_stopped }
-        ensures here { OnOk result (realm_at self.old.core realm ≢ None) }
-        ensures absent { realm_at self.old.core realm ≡ None → result ≡ Err RenewFault.NoRealm }
-        ensures read { (log : Log) (state : State) → S.stands self.old.store log →
-            realm_at self.old.core realm ≡ Some state → S.is_true self.new.store →
+        ensures store { Goes S.keeping
+            (was_refused (λ fault. fault) result) ReadsAlone Never self.old.stored.store
+            self.new.stored.store }
+        ensures rest { self.new ≡ record self.old {
+          stored = record self.old.stored { store = self.new.stored.store };
+        } }
+        ensures here { OnOk result (realm_at self.old.stored.core realm ≢ None) }
+        ensures absent { realm_at self.old.stored.core realm ≡ None →
+            result ≡ Err RenewFault.NoRealm }
+        ensures read { (log : Log) (state : State) → S.keeping.stands self.old.stored.store log →
+            realm_at self.old.stored.core realm ≡ Some state →
+            S.keeping.is_true self.new.stored.store →
             IfOk result (IsRead log state.head.name) }
-        ensures reason { (log : Log) (state : State) → S.stands self.old.store log →
-            realm_at self.old.core realm ≡ Some state → S.is_true self.new.store →
+        ensures reason { (log : Log) (state : State) → S.keeping.stands self.old.stored.store log →
+            realm_at self.old.stored.core realm ≡ Some state →
+            S.keeping.is_true self.new.stored.store →
             IfErr result (IsReasonToDoubt log) }
     {
-        match self.core.name(realm) {
-            Some(name) => Ok(read(alloc, &mut self.store, name)?),
-            None => Err(RenewFault::NoRealm),
-        }
+        self.stored.doubts(alloc, realm)
     }
 
-    /// A realm starts again while the others run, by what `doubts` said of it, once boxes were adopted for its rows. What it had
-    /// comes back, to be dropped where nothing waits for the host; its parties that are out stay out, and are strangers when they
-    /// come back. Where it is refused all is as it was.
+    /// A realm starts again while the others run, by what `doubts` said of it, once boxes were adopted for its rows. Its journal
+    /// ends, and is kept; the next one begins with these rows and boxes. What waited to go out on its connections is gone; its
+    /// parties that are out stay out. It is refused by rows that are not its stored ones, word for word. Where it is refused all
+    /// is as it was.
     pub fn renew(
         &mut self,
         alloc: Global,
@@ -118,163 +77,147 @@ impl<S: RowLog> Host<S, Core> {
         recovery: Recovery,
     ) -> Result<Left, (RenewFault, Recovery)>
         requires { Always }
-        ensures store { (state : State) → realm_at self.old.core realm ≡ Some state →
-            Rises S.stands S.may_leave S.is_true S.faults S.is_due (λ fault. fault.0)
-            state.head.name result self.old.store self.new.store }
-        ensures absent { realm_at self.old.core realm ≡ None → self.new.store ≡ self.old.store }
-        ensures renewed { (state : State) → realm_at self.old.core realm ≡ Some state →
-            IfOk result (λ left. IsRenewed S.stands S.is_true recovery state self.old.store
-            self.new.store (realm_at self.new.core realm)) }
-        ensures connections { (state : State) → realm_at self.old.core realm ≡ Some state →
+        ensures store { (state : State) → realm_at self.old.stored.core realm ≡ Some state →
+            Rises S.keeping (λ fault. fault.0)
+            state.head.name result self.old.stored.store self.new.stored.store }
+        ensures absent { realm_at self.old.stored.core realm ≡ None →
+            self.new.stored.store ≡ self.old.stored.store }
+        ensures renewed { (state : State) → realm_at self.old.stored.core realm ≡ Some state →
+            IfOk result (λ left. IsRenewed S.keeping recovery state self.old.stored.store
+            self.new.stored.store (realm_at self.new.stored.core realm)) }
+        ensures connections { (state : State) → realm_at self.old.stored.core realm ≡ Some state →
             IfOk result (λ left. left.connections.items ≡ state.connections) }
-        ensures transactions { (state : State) → realm_at self.old.core realm ≡ Some state →
+        ensures transactions { (state : State) → realm_at self.old.stored.core realm ≡ Some state →
             IfOk result (λ left. map seen left.transactions.items ≡ state.transactions) }
-        ensures others { (other : ℕ) → other ≢ realm →
-            realm_at self.new.core other ≡ realm_at self.old.core other }
-        ensures same { IfErr result
-            (λ fault. (place : ℕ) → realm_at self.new.core place ≡ realm_at self.old.core place) }
+        ensures journal { (state : State) → realm_at self.old.stored.core realm ≡ Some state →
+            OnOk result (bare self.new.books.journals ≡ renewed realm
+            (begun (state.head.epoch + 1) (map loaded recovery.rows))
+            (bare self.old.books.journals)) }
+        ensures lines { OnOk result (waiting self.new.books.outboxes realm ≡ []) }
+        ensures others { AreKeptBut realm self.old self.new }
+        ensures same { IfErr result (λ fault. (place : ℕ) →
+            realm_at self.new.stored.core place ≡ realm_at self.old.stored.core place) }
+        ensures still { OnErr result ((bare self.new.books.journals ≡ bare self.old.books.journals)
+            × (self.new.books.outboxes ≡ self.old.books.outboxes)) }
         ensures back { IfErr result (λ fault. fault.1 ≡ recovery) }
-        ensures reason { (log : Log) (state : State) → S.stands self.old.store log →
-            realm_at self.old.core realm ≡ Some state → S.is_true self.new.store →
-            IfErr result (λ fault. IsReasonToRenew log state recovery fault.0) }
-        ensures here { OnOk result (realm_at self.old.core realm ≢ None) }
-        ensures nowhere { realm_at self.old.core realm ≡ None → self.old.is_stopped ≡ false →
-            IfErr result (λ fault. fault.0 ≡ NoRealm) }
-        ensures names { OnOk result (HaveNames self.new.core) }
-        ensures running { OnOk result (self.old.is_stopped ≡ false) }
+        ensures stored { OnOk result
+            (rows_at self.old.books.rows realm ≡ stored_of recovery.rows) }
+        ensures kept { (place : ℕ) →
+            rows_at self.new.books.rows place ≡ rows_at self.old.books.rows place }
+        ensures out { (place : ℕ) → out_of self.new.books place ≡ out_of self.old.books place }
+        ensures reason { (log : Log) (state : State) → S.keeping.stands self.old.stored.store log →
+            realm_at self.old.stored.core realm ≡ Some state →
+            S.keeping.is_true self.new.stored.store →
+            IfErr result (λ fault.
+            IsReason log state (rows_at self.old.books.rows realm) recovery fault.0) }
+        ensures here { OnOk result (realm_at self.old.stored.core realm ≢ None) }
+        ensures nowhere { realm_at self.old.stored.core realm ≡ None →
+            self.old.stored.is_stopped ≡ false → IfErr result (λ fault. fault.0 ≡ NoRealm) }
+        ensures names { OnOk result (HaveNames self.new.stored.core) }
+        ensures stopped { self.new.stored.is_stopped ≡ self.old.stored.is_stopped }
         ensures stopping { IfErr result
-            (λ fault. (fault.0 ≡ Stopped) ↔ (self.old.is_stopped ≡ true)) }
-        ensures stopped { self.new.is_stopped ≡ self.old.is_stopped }
+            (λ fault. (fault.0 ≡ Stopped) ↔ (self.old.stored.is_stopped ≡ true)) }
     {
-        match self.prepare(alloc, realm, &recovery) {
-            Ok(room) => self.renew_by(realm, recovery, room),
-            Err(fault) => Err((fault, recovery)),
+        let Some(epoch) = self.next_epoch(realm) else {
+            return self.stored.renew(alloc, realm, recovery);
+        };
+        if !are_stored(&self.books, realm, &recovery) {
+            return Err((RenewFault::NotInDoubt, recovery));
+        }
+        let Ok(clearing) = begin(alloc, &mut self.books, realm, epoch, &recovery) else {
+            return Err((RenewFault::Memory, recovery));
+        };
+        match self.stored.renew(alloc, realm, recovery) {
+            Ok(left) => {
+                clear(alloc, &mut self.books, realm, clearing);
+                Ok(left)
+            }
+            Err(fault) => {
+                withdraw(&mut self.books, realm);
+                Err(fault)
+            }
         }
     }
 
-    /// Reads once more what is stored of the realm, which must be what was read before, and makes room for it to start again.
-    fn prepare(
-        &mut self,
-        alloc: Global,
-        realm: usize,
-        recovery: &Recovery,
-    ) -> Result<Parting, RenewFault>
-        requires { Always }
-        ensures store { Goes S.stands S.may_leave S.is_true S.faults S.is_due
-            (was_refused (λ fault. fault) result) Stays Never self.old.store self.new.store }
-        ensures core { self.new.core ≡ self.old.core }
-        ensures stopped { self.new.is_stopped ≡ self.old.is_stopped }
-        ensures running { OnOk result (self.old.is_stopped ≡ false) }
-        ensures here { OnOk result (realm_at self.old.core realm ≢ None) }
-        ensures absent { realm_at self.old.core realm ≡ None → self.new.store ≡ self.old.store }
-        ensures read { (state : State) → realm_at self.old.core realm ≡ Some state →
-            OnOk result ((fresh : Reading) × (fresh.epoch ≡ state.head.epoch)
-            × (is_read_again recovery.now fresh ≡ true)
-            × ((log : Log) → S.stands self.old.store log → S.is_true self.new.store →
-            IsRead log state.head.name fresh)) }
-        ensures named { (state : State) → realm_at self.old.core realm ≡ Some state →
-            OnOk result (recovery.now.realm ≡ state.head.name) }
-        ensures epoch { (state : State) → realm_at self.old.core realm ≡ Some state → OnOk result
-            ((recovery.now.epoch ≡ state.head.epoch) × (state.head.epoch < last_epoch)) }
-        ensures adopted { OnOk result (are_adopted recovery.now.rows ≡ true) }
-        ensures room { IfOk result (HasRoom self.old.core.connections
-            self.old.core.transactions realm (length recovery.now.rows)) }
-        ensures reason { (log : Log) (state : State) → S.stands self.old.store log →
-            realm_at self.old.core realm ≡ Some state → S.is_true self.new.store →
-            IfErr result (IsReasonToRenew log state recovery.now) }
-        ensures not_raised { IfErr result (λ fault. fault ≢ NotRaised) }
-        ensures nowhere { realm_at self.old.core realm ≡ None → self.old.is_stopped ≡ false →
-            IfErr result (λ fault. fault ≡ NoRealm) }
-        ensures stopping { IfErr result
-            (λ fault. (fault ≡ Stopped) ↔ (self.old.is_stopped ≡ true)) }
+    /// The epoch in which a realm may start again; None where it may not, since the host is stopped, the realm is not there, or its
+    /// epoch is the last.
+    fn next_epoch(&self, realm: usize) -> Option<u32>
+        ensures { result
+            ≡ next_epoch self.now.stored.is_stopped (realm_at self.now.stored.core realm) }
     {
-        if self.is_stopped {
-            return Err(RenewFault::Stopped);
+        if self.stored.is_stopped {
+            return None;
         }
-        let Some(head) = self.core.heads().get(realm) else {
-            return Err(RenewFault::NoRealm);
-        };
-        let fresh = read(alloc, &mut self.store, &head.name)?;
-        if fresh.epoch() == u32::MAX {
-            return Err(RenewFault::EpochEnd);
-        }
-        if !fresh.is_read_again(recovery) || fresh.epoch() != head.epoch {
-            return Err(RenewFault::NotInDoubt);
-        }
-        if !recovery.is_adopted() {
-            return Err(RenewFault::Unadopted);
-        }
-        let room = self
-            .core
-            .room_to_renew(alloc, realm, recovery.rows().len())?;
-        Ok(room)
-    }
-
-    /// The realm's epoch rises, and it starts again by its rows.
-    fn renew_by(
-        &mut self,
-        realm: usize,
-        recovery: Recovery,
-        room: Parting,
-    ) -> Result<Left, (RenewFault, Recovery)>
-        requires always { Always }
-        requires here { (state : State) × (realm_at self.old.core realm ≡ Some state)
-            × (recovery.realm ≡ state.head.name) × (recovery.epoch ≡ state.head.epoch)
-            × (state.head.epoch < last_epoch) }
-        requires adopted { are_adopted recovery.rows ≡ true }
-        requires room { HasRoom self.old.core.connections self.old.core.transactions realm
-            (length recovery.rows) room }
-        ensures store { (state : State) → realm_at self.old.core realm ≡ Some state →
-            Rises S.stands S.may_leave S.is_true S.faults S.is_due (λ fault. fault.0)
-            state.head.name result self.old.store self.new.store }
-        ensures renewed { (state : State) → realm_at self.old.core realm ≡ Some state →
-            IfOk result (λ left. realm_at self.new.core realm
-            ≡ Some (restarted (risen state.head) (map loaded recovery.rows))) }
-        ensures connections { (state : State) → realm_at self.old.core realm ≡ Some state →
-            IfOk result (λ left. left.connections.items ≡ state.connections) }
-        ensures transactions { (state : State) → realm_at self.old.core realm ≡ Some state →
-            IfOk result (λ left. map seen left.transactions.items ≡ state.transactions) }
-        ensures others { (other : ℕ) → other ≢ realm →
-            realm_at self.new.core other ≡ realm_at self.old.core other }
-        ensures same { IfErr result
-            (λ fault. (place : ℕ) → realm_at self.new.core place ≡ realm_at self.old.core place) }
-        ensures back { IfErr result (λ fault. fault.1 ≡ recovery) }
-        ensures reason { (log : Log) (state : State) → S.stands self.old.store log →
-            realm_at self.old.core realm ≡ Some state → S.is_true self.new.store →
-            IfErr result (λ fault. IsReasonToRenew log state recovery fault.0) }
-        ensures names { OnOk result (HaveNames self.new.core) }
-        ensures running { IfErr result (λ fault. fault.0 ≢ Stopped) }
-        ensures stopped { self.new.is_stopped ≡ self.old.is_stopped }
-    {
-        let Some(name) = self.core.name(realm) else {
-            return Err((RenewFault::NoRealm, recovery));
-        };
-        match self.store.raise_epoch(name) {
-            Ok(()) => Ok(start_again(&mut self.core, realm, recovery, room)),
-            Err(fault) => Err((fault.into(), recovery)),
-        }
+        next_epoch(self.stored.core.heads(), realm)
     }
 }
 
-/// A realm starts again in its next epoch, by these rows.
-fn start_again(core: &mut Core, realm: usize, mut recovery: Recovery, room: Parting) -> Left
-    requires always { Always }
-    requires here { (state : State) × (realm_at core.old realm ≡ Some state)
-        × (recovery.realm ≡ state.head.name) × (recovery.epoch ≡ state.head.epoch)
-        × (state.head.epoch < last_epoch) }
-    requires adopted { are_adopted recovery.rows ≡ true }
-    requires room { HasRoom core.old.connections core.old.transactions realm (length recovery.rows)
-        room }
-    ensures own { (state : State) → realm_at core.old realm ≡ Some state → realm_at core.new realm
-        ≡ Some (restarted (risen state.head) (map loaded recovery.rows)) }
-    ensures others { (other : ℕ) → other ≢ realm →
-        realm_at core.new other ≡ realm_at core.old other }
-    ensures connections { (state : State) → realm_at core.old realm ≡ Some state →
-        result.connections.items ≡ state.connections }
-    ensures transactions { (state : State) → realm_at core.old realm ≡ Some state →
-        map seen result.transactions.items ≡ state.transactions }
-    ensures named { HaveNames core.new }
+/// Whether these are the stored rows of a realm, word for word.
+pub(crate) fn are_stored(books: &Books, realm: usize, recovery: &Recovery) -> bool
+    requires { Always }
+    ensures same { IsTrue result ↔ (rows_at books.now.rows realm ≡ stored_of recovery.now.rows) }
+    ensures rising { is_rising (stored_of recovery.now.rows) ≡ true }
 {
-    recovery.raise();
-    core.renew(realm, recovery, room)
+    books.rows.are(realm, recovery.rows())
+}
+
+/// A realm's next journal begins, and its outboxes can be cleared. Without memory all is as before.
+fn begin(
+    alloc: Global,
+    books: &mut Books,
+    realm: usize,
+    epoch: u32,
+    recovery: &Recovery,
+) -> Result<Clearing, AllocError>
+    requires always { Always }
+    requires later { IsSomeAnd (current books.old.journals realm)
+        (λ journal. journal.epoch < epoch) }
+    ensures begun { OnOk result (books.new.journals
+        ≡ renewed realm (begun epoch (map loaded recovery.now.rows)) books.old.journals) }
+    ensures boxed { are_adopted recovery.now.rows ≡ true →
+        OnOk result (are_boxed (map loaded recovery.now.rows) ≡ true) }
+    ensures same { OnErr result (books.new.journals ≡ books.old.journals) }
+    ensures rest { books.new ≡ record books.old { journals = books.new.journals } }
+    ensures ready { IfOk result (IsReady books.old.outboxes realm) }
+{
+    let clearing = Clearing {
+        spare: books.outboxes.with_room(alloc, 0)?,
+        left: Vec::with_capacity(alloc, books.outboxes.count(realm))?,
+    };
+    let opening = Opening::of(alloc, recovery.rows())?;
+    books.journals.renew(alloc, realm, epoch, opening)?;
+    Ok(clearing)
+}
+
+/// What waits in a realm is gone.
+fn clear(alloc: Global, books: &mut Books, realm: usize, clearing: Clearing)
+    requires always { Always }
+    requires ready { IsReady books.old.outboxes realm clearing }
+    ensures own { of books.new.outboxes realm ≡ [] }
+    ensures others { (other : ℕ) → other ≢ realm →
+        of books.new.outboxes other ≡ of books.old.outboxes other }
+    ensures rest { books.new ≡ record books.old { outboxes = books.new.outboxes } }
+{
+    clear_lines(alloc, &mut books.outboxes, realm, clearing);
+}
+
+/// A realm's last journal, which has no entry, is gone.
+fn withdraw(books: &mut Books, realm: usize)
+    requires always { Always }
+    requires last { IsSomeAnd (slice_get books.old.journals realm) IsWithdrawable }
+    ensures { books.new ≡ record books.old
+        { journals = changed_at realm without_last books.old.journals } }
+{
+    books.journals.withdraw(realm);
+}
+
+/// The lines of a realm are gone.
+fn clear_lines(alloc: Global, outboxes: &mut Table<Batch>, realm: usize, clearing: Clearing)
+    requires { IsReady outboxes.old realm clearing }
+    ensures own { of outboxes.new realm ≡ [] }
+    ensures others { (other : ℕ) → other ≢ realm → of outboxes.new other ≡ of outboxes.old other }
+{
+    let Clearing { spare, mut left } = clearing;
+    let waiting = replace(outboxes, Table::new(alloc));
+    *outboxes = waiting.part(realm, spare, &mut left);
 }

@@ -1,14 +1,16 @@
-//! Parties that are out for an errand, and that come back from it.
+//! Parties that are out for their errand, and that come back from it.
 ghost use Rattle.std.specs.Prelude.{◌≡◌, true};
 ghost use Rattle.tip_branch.specs.Always.{Always};
-ghost use Rattle.tip_host.specs.Errands.{ComesFrom, are_untold, was_done};
-ghost use Rattle.tip_machine.specs.Returns.{Back, can_answer, event_of};
+ghost use Rattle.tip_host.specs.Works.{ComesFrom};
+ghost use Rattle.tip_stored.specs.Errands.{are_untold};
 
 use std::marker::Model;
-use tip_branch::{Errand, HeldParty, Member, PartyNote};
+use tip_branch::{HeldParty, PartyNote};
 use tip_machine::Event;
+use tip_stored::done;
 
-/// A party that is out for its errand, and how it was sent. One that is dropped is lost: its active branches are rolled back.
+/// A party that is out for its errand, and how it was sent. Only a host gives it out. One that is dropped is lost: its active
+/// branches are rolled back.
 #[derive(Drop)]
 pub struct Work {
     party: HeldParty,
@@ -17,7 +19,7 @@ pub struct Work {
     ghost untold: { are_untold party.members ≡ true },
 }
 
-/// A party that comes back as its errand leaves it. Only `Work::done` makes one.
+/// A party that comes back as its errand leaves it, and how it was sent. Only `Work::done` gives it out.
 #[derive(Drop)]
 pub struct Returned {
     event: Event,
@@ -25,7 +27,7 @@ pub struct Returned {
 }
 
 impl Model for Returned {
-    ghost use Rattle.tip_host.specs.Errands.{Came, ComesFrom};
+    ghost use Rattle.tip_host.specs.Works.{Came, ComesFrom};
 
     ghost Value = { Came };
 
@@ -36,7 +38,7 @@ impl Model for Returned {
 
 impl Work {
     /// A party goes out that was sent so. It takes no memory.
-    pub fn new(party: HeldParty, sent: PartyNote) -> Work
+    pub(crate) fn new(party: HeldParty, sent: PartyNote) -> Work
         requires as_sent { party ≡ sent }
         requires untold { are_untold party.members ≡ true }
         ensures { result.sent ≡ sent }
@@ -60,6 +62,14 @@ impl Work {
         let event = done(party);
         Returned { event, sent }
     }
+
+    /// The party, its errand undone.
+    pub(crate) fn into_party(self) -> HeldParty
+        requires { Always }
+        ensures { result ≡ self.sent }
+    {
+        self.party
+    }
 }
 
 impl Returned {
@@ -71,7 +81,7 @@ impl Returned {
     }
 
     /// The event that it is, and how it was sent.
-    pub fn into_parts(self) -> (Event, PartyNote)
+    pub(crate) fn into_parts(self) -> (Event, PartyNote)
         requires { Always }
         ensures came { ComesFrom self.sent self.event }
         ensures event { result.0 ≡ self.event }
@@ -82,40 +92,11 @@ impl Returned {
     }
 
     /// The same again, where nothing has happened.
-    pub fn of_parts(event: Event, sent: PartyNote) -> Returned
+    pub(crate) fn of_parts(event: Event, sent: PartyNote) -> Returned
         requires { ComesFrom sent event }
         ensures event { result.event ≡ event }
         ensures sent { result.sent ≡ sent }
     {
         Returned { event, sent }
-    }
-}
-
-/// Whether none of these branches of a party was called since its errand was given, so that it may be done.
-pub fn are_untold(members: &[Member]) -> bool
-    ensures { result ≡ are_untold members.now }
-{
-    members.iter().all(|member| member.call.is_none())
-}
-
-/// Does the errand of a party that is out: its branches are asked, or told, and the party comes back as an event. This calls the
-/// branches, and is called where nothing waits for the host.
-#[tactic(auto, using(crate::proofs::Answering::answering))]
-pub fn done(work: HeldParty) -> Event
-    requires { are_untold work.members ≡ true }
-    ensures { (back : Back) × (can_answer work.errand back work.members ≡ true)
-        × (was_done work.errand back ≡ true) × (result ≡ event_of work back) }
-{
-    let mut party = work.into_party();
-    match party.errand() {
-        Errand::Vote => {
-            party.vote_all();
-            Event::Voted(HeldParty::of(party))
-        }
-        Errand::Commit | Errand::Abort => {
-            party.settle();
-            Event::Settled(HeldParty::of(party))
-        }
-        Errand::Idle => Event::Settled(HeldParty::of(party)),
     }
 }

@@ -12,13 +12,13 @@ use tip_rows::{Key, Loaded, Row, RowLog};
 
 /// What is stored: each realm by name with its epoch, and then its rows by rising key, in version 2. Nothing stored changes.
 pub fn listed<L: RowLog>(alloc: Global, log: &mut L) -> Result<String, RowsFault>
-    ensures lists { (now : Log) → L.stands log.old now → L.is_true log.new →
+    ensures lists { (now : Log) → L.keeping.stands log.old now → L.keeping.is_true log.new →
         IfOk result (λ text. IsListing now (string_bytes text)) }
-    ensures fault { (now : Log) → L.stands log.old now → L.is_true log.new →
+    ensures fault { (now : Log) → L.keeping.stands log.old now → L.keeping.is_true log.new →
         IfErr result (Fails (HasBadRow now)) }
-    ensures stop { LeavesSame L.stands L.is_true L.may_leave log.old log.new }
-    ensures same { (now : Log) → L.stands log.old now → L.stands log.new now }
-    ensures truth { L.is_true log.new → L.is_true log.old }
+    ensures stop { LeavesSame L.keeping log.old log.new }
+    ensures same { (now : Log) → L.keeping.stands log.old now → L.keeping.stands log.new now }
+    ensures truth { L.keeping.is_true log.new → L.keeping.is_true log.old }
 {
     let names = log.realms()?;
     list_all(alloc, log, &names)
@@ -27,13 +27,13 @@ pub fn listed<L: RowLog>(alloc: Global, log: &mut L) -> Result<String, RowsFault
 /// What is stored of each of these realms.
 #[tactic(auto, using(crate::proofs::Listings::lists_all))]
 fn list_all<L: RowLog>(alloc: Global, log: &mut L, names: &[Realm]) -> Result<String, RowsFault>
-    ensures lists { (now : Log) → L.stands log.old now → L.is_true log.new →
+    ensures lists { (now : Log) → L.keeping.stands log.old now → L.keeping.is_true log.new →
         IfOk result (λ text. ListsAll now names.now (string_bytes text)) }
-    ensures fault { (now : Log) → L.stands log.old now → L.is_true log.new →
+    ensures fault { (now : Log) → L.keeping.stands log.old now → L.keeping.is_true log.new →
         All (λ name. IsSome (now.epochs name)) names.now → IfErr result (Fails (HasBadRow now)) }
-    ensures stop { LeavesSame L.stands L.is_true L.may_leave log.old log.new }
-    ensures same { (now : Log) → L.stands log.old now → L.stands log.new now }
-    ensures truth { L.is_true log.new → L.is_true log.old }
+    ensures stop { LeavesSame L.keeping log.old log.new }
+    ensures same { (now : Log) → L.keeping.stands log.old now → L.keeping.stands log.new now }
+    ensures truth { L.keeping.is_true log.new → L.keeping.is_true log.old }
 {
     let mut text = String::new(alloc);
     for name in names {
@@ -49,13 +49,13 @@ fn list_part<L: RowLog>(
     name: &Realm,
     text: &mut String,
 ) -> Result<(), RowsFault>
-    ensures lists { (now : Log) → L.stands log.old now → L.is_true log.new →
+    ensures lists { (now : Log) → L.keeping.stands log.old now → L.keeping.is_true log.new →
         OnOk result (ListsPart now name.now (string_bytes text.old) (string_bytes text.new)) }
-    ensures fault { (now : Log) → L.stands log.old now → L.is_true log.new →
+    ensures fault { (now : Log) → L.keeping.stands log.old now → L.keeping.is_true log.new →
         IfErr result (Fails (IsSpoiled now name.now)) }
-    ensures stop { LeavesSame L.stands L.is_true L.may_leave log.old log.new }
-    ensures same { (now : Log) → L.stands log.old now → L.stands log.new now }
-    ensures truth { L.is_true log.new → L.is_true log.old }
+    ensures stop { LeavesSame L.keeping log.old log.new }
+    ensures same { (now : Log) → L.keeping.stands log.old now → L.keeping.stands log.new now }
+    ensures truth { L.keeping.is_true log.new → L.keeping.is_true log.old }
 {
     let loaded = log.load(name)?;
     print_part(alloc, name, &loaded, text)?;

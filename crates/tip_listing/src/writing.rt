@@ -16,11 +16,11 @@ pub fn rows<L: RowLog, W: Write>(
     log: &mut L,
     output: &mut W,
 ) -> Result<(), RowsFault>
-    ensures writes { (now : Log) → L.stands log.old now → L.is_true log.new →
+    ensures writes { (now : Log) → L.keeping.stands log.old now → L.keeping.is_true log.new →
         Writes now (W.contents output.old) (W.contents output.new) result }
-    ensures same { (now : Log) → L.stands log.old now → L.stands log.new now }
-    ensures stop { LeavesSame L.stands L.is_true L.may_leave log.old log.new }
-    ensures truth { L.is_true log.new → L.is_true log.old }
+    ensures same { (now : Log) → L.keeping.stands log.old now → L.keeping.stands log.new now }
+    ensures stop { LeavesSame L.keeping log.old log.new }
+    ensures truth { L.keeping.is_true log.new → L.keeping.is_true log.old }
 {
     let text = listed(alloc, log)?;
     write_text(output, text.as_str())

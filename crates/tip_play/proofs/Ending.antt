@@ -1,9 +1,8 @@
 -- How a script has ended.
 use Rattle.std.proofs.Common.{◌≡◌, ℕ, List, [], Option, Some, None, Ok, Err, IfSome, Result, append-nil, inl, inr, refl, sym, ◌∙◌}
 use Rattle.std.proofs.lemmas.Option.{none-some}
-use Rattle.tip_rows.specs.Logs.{IsSpoiled, empty_log}
+use Rattle.tip_rows.specs.Logs.{Keeping, IsSpoiled, empty_log}
 use Rattle.tip_rows.specs.Memory.{Memory, is_due_in, log_of}
-use Rattle.tip_actor.specs.Standing.{Keeping, keeping}
 use Rattle.tip_scene.specs.Acts.{Basis}
 use Rattle.tip_scene.specs.Stages.{IsBasis, IsReliable, Trusts}
 use Rattle.std.specs.Io.KnownBytes.{Appends, Keeps}
@@ -64,7 +63,7 @@ module _ {S : Type 0} (kept : Keeping S) (basis : Basis) where
 -- Rows in memory
 
 abbrev pub rows_kept : Keeping Memory
-rows_kept = keeping (λ s log. log_of s ≡ log) (λ s. Unit {0}) is_due_in
+rows_kept = record { stands = λ s log. log_of s ≡ log; may_leave = λ s log. log_of s ≡ log; is_true = λ s. Unit {0}; faults = λ s. s.faults; is_due = is_due_in }
 
 sound : (name : List ℕ) → ¬ IsSpoiled empty_log name
 sound name (inl bad) = none-some bad.0 bad.1

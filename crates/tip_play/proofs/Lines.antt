@@ -1,10 +1,10 @@
 -- Lines of a script that were played one after another.
+use Rattle.tip_rows.specs.Logs.{Keeping}
 use Rattle.std.proofs.Common.{◌≡◌, ◌≢◌, ◌≤◌, ◌+◌, ◌++◌, ◌∷◌, [], ℕ, List, length, true, Option, None, Result, Ok, Err, arith, refl, sym, ap, ◌∙◌, subst, length-append}
 use Rattle.std.proofs.KnownBytes.{Appends-nil, Appends-trans}
 use Rattle.std.specs.Io.KnownBytes.{Appends}
 use Rattle.std.proofs.lemmas.List.{append_assoc}
 use Rattle.script_lines.specs.Lines.{AreOfLine, is_inner, is_line_feed, longest_line}
-use Rattle.tip_actor.specs.Standing.{Keeping}
 use Rattle.tip_scene.specs.Acts.{Stage, Declaring, Acted, Basis, acted, closing_of}
 use Rattle.tip_scene.specs.Stages.{AStage, IsStage}
 use Rattle.tip_play.specs.Transcripts.{Played, Reached, Fault, played, played_of, transcript, ended, unended, closing_text, IsFront, Transcribes}

@@ -1,4 +1,5 @@
 -- A script that is read line by line.
+use Rattle.tip_rows.specs.Logs.{Keeping}
 use Rattle.std.proofs.Common.{◌≡◌, ◌≢◌, ◌+◌, ◌++◌, ◌∷◌, [], ℕ, Bool, true, false, List, Option, Some, None, Ok, Err, IfSome, Result, refl, sym, ap, ◌∙◌, subst}
 use Rattle.std.proofs.lemmas.List.{append-nil, append_assoc}
 use Rattle.std.specs.Io.KnownBytes.{Consumes, IsAtEnd}
@@ -8,7 +9,6 @@ use Rattle.script_lines.specs.declared.line.LineEnd.{LineEnd}
 use Rattle.script_lines.specs.declared.line.LineEnd.TheVariants.{LineFeed, EndOfInput, TooLong}
 use Rattle.script_lines.specs.declared.line.LineFault.{LineFault}
 use Rattle.script_lines.specs.declared.line.LineFault.TheVariants as line_fault
-use Rattle.tip_actor.specs.Standing.{Keeping}
 use Rattle.tip_scene.specs.Acts.{Stage, Declaring, Basis, acted, closing_of}
 use Rattle.tip_scene.specs.Stages.{AStage, IsReliable, IsStage, Trusts, store_of}
 use Rattle.tip_play.specs.Faults.{of_line}

@@ -1,9 +1,9 @@
 -- THE TRANSCRIPT OF A SCRIPT: what its octets make tipd print, and where it ends.
+use Rattle.tip_rows.specs.Logs.{Keeping}
 use Rattle.std.specs.Prelude.{◌≡◌, ℕ, ◌+◌, true, List, [], ◌∷◌, ◌++◌, length, take, count_by, slice_index_or, nat_le, Option, Some, None, Result, Ok, Err, if◌then◌else◌}
 use Rattle.std.specs.List.{slice_split}
 use Rattle.std.specs.Io.KnownBytes.{Appends, Consumes}
 use Rattle.script_lines.specs.Lines.{is_line_feed, longest_line}
-use Rattle.tip_actor.specs.Standing.{Keeping}
 use Rattle.tip_scene.specs.Acts.{Stage, Declaring, Acted, Basis, acted, closing_of}
 use Rattle.tip_scene.specs.Stages.{IsReliable}
 use Rattle.tip_play.specs.declared.fault.PlayFault.{PlayFault}

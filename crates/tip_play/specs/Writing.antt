@@ -1,7 +1,7 @@
 -- What is written of one line.
+use Rattle.tip_rows.specs.Logs.{Keeping}
 use Rattle.std.specs.Prelude.{◌≡◌, ◌≢◌, ℕ, Bool, true, false, List, Option, None, Some, Result, Ok, Err}
 use Rattle.std.specs.Io.KnownBytes.{Appends}
-use Rattle.tip_actor.specs.Standing.{Keeping}
 use Rattle.tip_scene.specs.Acts.{Acted, Basis, Stage}
 use Rattle.tip_scene.specs.Stages.{AStage, IsReliable, IsStage, store_of}
 use Rattle.script_lines.specs.Lines.{Reads}

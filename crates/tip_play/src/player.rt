@@ -1,7 +1,6 @@
 //! Playing a script.
 ghost use Rattle.std.specs.Prelude.{◌≡◌, ◌≢◌, true, false, map, IfOk, IfSome};
 ghost use Rattle.script_lines.specs.declared.line.LineEnd.TheVariants.{EndOfInput, TooLong};
-ghost use Rattle.tip_actor.specs.Standing.{keeping};
 ghost use Rattle.tip_branch.specs.Lots.{AreIn};
 ghost use Rattle.tip_branch.specs.declared.branch.Phase.TheVariants.{Active};
 ghost use Rattle.tip_script.specs.Scripts.{move_of};
@@ -19,17 +18,17 @@ use std::io::{BufRead, Write};
 use tip_actor::{ByItself, ByScript, Refuser, Scripted};
 use tip_branch::{Branch, Phase, Plan};
 use tip_core::Core;
-use tip_host::Host;
 use tip_rows::{MemRows, RowLog};
 use tip_scene::{Declared, LineFault, Playing, Stage, Wanted, add_box};
 use tip_script::plan_of;
+use tip_stored::StoredCore;
 use tip_writing::write_front;
 
 /// The number of a line, or of the end of a script, behind which there are no numbers.
 const LAST_LINE: u64 = u64::MAX - 1;
 
-/// Plays the script that is read, over rows in memory, and writes what each realm answers. What was written stands, whatever the end
-/// is.
+/// Plays the script that is read, over rows in memory, and writes what each realm answers. What was written stands, whatever the
+/// end is.
 pub fn play<R: BufRead, W: Write>(
     alloc: Global,
     input: &mut R,
@@ -60,18 +59,18 @@ pub fn play_on<S: RowLog + Drop, R: BufRead, W: Write>(
     input: &mut R,
     output: &mut W,
 ) -> Result<S, (PlayFault, Option<S>)>
-    ensures truth { Trusts (keeping S.stands S.is_true S.is_due) store (λ left. left) result }
+    ensures truth { Trusts S.keeping store (λ left. left) result }
     ensures transcribes { (basis : Basis) → basis.may_refuse ≡ false →
-        IsBasis (keeping S.stands S.is_true S.is_due) basis store →
+        IsBasis S.keeping basis store →
         IfSome (R.remaining input.old) (λ script. TranscribesOn
-        (keeping S.stands S.is_true S.is_due) basis script (R.remaining input.new)
+        S.keeping basis script (R.remaining input.new)
         (W.contents output.old) (W.contents output.new) result) }
 {
     play_over(alloc, store, &ByItself, input, output)
 }
 
-/// Plays the script that is read, over a store that its lines may ask to refuse where the refuser can. The store comes back, but where
-/// memory ends in a start. What was written stands, whatever the end is.
+/// Plays the script that is read, over a store that its lines may ask to refuse where the refuser can. The store comes back, but
+/// where memory ends in a start. What was written stands, whatever the end is.
 fn play_over<S: RowLog + Drop, F: Refuser<S>, R: BufRead, W: Write>(
     alloc: Global,
     store: S,
@@ -79,11 +78,11 @@ fn play_over<S: RowLog + Drop, F: Refuser<S>, R: BufRead, W: Write>(
     input: &mut R,
     output: &mut W,
 ) -> Result<S, (PlayFault, Option<S>)>
-    ensures truth { Trusts (keeping S.stands S.is_true S.is_due) store (λ left. left) result }
+    ensures truth { Trusts S.keeping store (λ left. left) result }
     ensures transcribes { (basis : Basis) → basis.may_refuse ≡ F.may →
-        IsBasis (keeping S.stands S.is_true S.is_due) basis store →
+        IsBasis S.keeping basis store →
         IfSome (R.remaining input.old) (λ script. TranscribesOn
-        (keeping S.stands S.is_true S.is_due) basis script (R.remaining input.new)
+        S.keeping basis script (R.remaining input.new)
         (W.contents output.old) (W.contents output.new) result) }
 {
     let end = play_lines(alloc, store, refuser, input, output);
@@ -114,11 +113,11 @@ fn play_lines<S: RowLog + Drop, F: Refuser<S>, R: BufRead, W: Write>(
     input: &mut R,
     output: &mut W,
 ) -> Result<S, (PlayFault, Option<S>)>
-    ensures truth { Trusts (keeping S.stands S.is_true S.is_due) store (λ left. left) result }
+    ensures truth { Trusts S.keeping store (λ left. left) result }
     ensures transcribes { (basis : Basis) → basis.may_refuse ≡ F.may →
-        IsBasis (keeping S.stands S.is_true S.is_due) basis store →
+        IsBasis S.keeping basis store →
         IfSome (R.remaining input.old) (λ script. TranscribesOn
-        (keeping S.stands S.is_true S.is_due) basis script (R.remaining input.new)
+        S.keeping basis script (R.remaining input.new)
         (W.contents output.old) (W.contents output.new) result) }
 {
     let Ok(mut line) = ScriptLine::new(alloc) else {
@@ -191,7 +190,7 @@ struct Coming {
 
 /// The next line that is read, or the end of the script where it was read to its end. The store is read, and stays as it is.
 fn next<S: RowLog + Drop, R: BufRead>(
-    stage: &mut Stage<Declared<S>, Playing<Host<S>>>,
+    stage: &mut Stage<Declared<S>, Playing<StoredCore<S>>>,
     alloc: Global,
     number: u64,
     is_over: bool,
@@ -199,10 +198,11 @@ fn next<S: RowLog + Drop, R: BufRead>(
     input: &mut R,
 ) -> Result<Coming, PlayFault>
     ensures sound { IsSound stage.old → IsSound stage.new }
-    ensures truth { S.is_true (store_of stage.new) → S.is_true (store_of stage.old) }
+    ensures truth { S.keeping.is_true (store_of stage.new) →
+        S.keeping.is_true (store_of stage.old) }
     ensures stands { (basis : Basis) (now : AStage) →
-        IsStage (keeping S.stands S.is_true S.is_due) basis stage.old now →
-        IsStage (keeping S.stands S.is_true S.is_due) basis stage.new now }
+        IsStage S.keeping basis stage.old now →
+        IsStage S.keeping basis stage.new now }
     ensures coming { HasCome (R.remaining input.old) (R.remaining input.new) number is_over
         line.new.octets.items result }
 {
@@ -245,7 +245,7 @@ fn is_too_long(end: LineEnd) -> bool
 
 /// Does what a line says, and writes what it prints.
 fn act<S: RowLog + Drop, F: Refuser<S>, W: Write>(
-    stage: Stage<Declared<S>, Playing<Host<S>>>,
+    stage: Stage<Declared<S>, Playing<StoredCore<S>>>,
     alloc: Global,
     refuser: &F,
     number: u64,
@@ -254,16 +254,16 @@ fn act<S: RowLog + Drop, F: Refuser<S>, W: Write>(
     pool: &mut Vec<Box<dyn Branch + Send>>,
     printed: &mut String,
     output: &mut W,
-) -> Result<Stage<Declared<S>, Playing<Host<S>>>, (PlayFault, Option<S>)>
+) -> Result<Stage<Declared<S>, Playing<StoredCore<S>>>, (PlayFault, Option<S>)>
     requires sound { IsSound stage }
     requires active { AreIn Active (map standing boxes.items) }
     requires willing { AreWilling (map standing pool.old.items) }
     ensures sound { IfOk result IsSound }
-    ensures truth { Trusts (keeping S.stands S.is_true S.is_due) (store_of stage) store_of result }
+    ensures truth { Trusts S.keeping (store_of stage) store_of result }
     ensures acts { (basis : Basis) (now : AStage) → basis.may_refuse ≡ F.may →
-        IsStage (keeping S.stands S.is_true S.is_due) basis stage now →
+        IsStage S.keeping basis stage now →
         ComeWith (move_of line.now) (map standing boxes.items) →
-        ActsOn (keeping S.stands S.is_true S.is_due) basis number (acted basis now line.now)
+        ActsOn S.keeping basis number (acted basis now line.now)
         (W.contents output.old) (W.contents output.new) result }
 {
     printed.clear();
@@ -283,7 +283,7 @@ fn act<S: RowLog + Drop, F: Refuser<S>, W: Write>(
 
 /// The script has ended: the realms start, if they have not.
 fn finish<S: RowLog + Drop, W: Write>(
-    stage: Stage<Declared<S>, Playing<Host<S>>>,
+    stage: Stage<Declared<S>, Playing<StoredCore<S>>>,
     alloc: Global,
     pool: &mut Vec<Box<dyn Branch + Send>>,
     printed: &mut String,
@@ -291,11 +291,11 @@ fn finish<S: RowLog + Drop, W: Write>(
 ) -> Result<S, (PlayFault, Option<S>)>
     requires sound { IsSound stage }
     requires willing { AreWilling (map standing pool.old.items) }
-    ensures truth { Trusts (keeping S.stands S.is_true S.is_due) (store_of stage) (λ store. store)
+    ensures truth { Trusts S.keeping (store_of stage) (λ store. store)
         result }
     ensures closes { (basis : Basis) (now : AStage) →
-        IsStage (keeping S.stands S.is_true S.is_due) basis stage now →
-        ClosesOn (keeping S.stands S.is_true S.is_due) (closing_of basis now)
+        IsStage S.keeping basis stage now →
+        ClosesOn S.keeping (closing_of basis now)
         (W.contents output.old) (W.contents output.new) result }
 {
     printed.clear();

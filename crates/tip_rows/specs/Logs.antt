@@ -109,24 +109,37 @@ is_refused_raise (Ok x) = false
 is_refused_raise (Err raise_fault.Refused) = true
 is_refused_raise (Err raise_fault.EpochEnd) = false
 
+-- WHAT A STORE SHOWS of the rows that it keeps
+pub record Keeping (S : Type 0) : Type 1 where
+  -- it shows this log, as long as it may be relied on. One that can't be asked any more shows every log, and refuses each call
+  pub stands : S → Log → Type 0
+  -- what a stop at this moment may leave
+  pub may_leave : S → Log → Type 0
+  -- what it shows may be relied on: so it is as long as its medium is faithful
+  pub is_true : S → Type 0
+  -- how many calls it refused; after the greatest value comes 0
+  pub faults : S → ℕ
+  -- the next change of a realm will be refused
+  pub is_due : S → List ℕ → Bool
+
 -- at Ok the store stands for the changed log, and else for the log as it was
-abbrev pub Stands : {S T E : Type 0} → (S → Log → Type 0) → (Log → Log) → S → S → Result T E → Type 0
-Stands stands change old new result = (log : Log) → stands old log → MatchResult result (λ _. stands new (change log)) (λ _. stands new log)
+abbrev pub Stands : {S T E : Type 0} → Keeping S → (Log → Log) → S → S → Result T E → Type 0
+Stands kept change old new result = (log : Log) → kept.stands old log → MatchResult result (λ _. kept.stands new (change log)) (λ _. kept.stands new log)
 
 -- a store stands for one log, and a stop leaves that log and nothing else
-pub record IsSettled {S : Type 0} (stands may_leave : S → Log → Type 0) (store : S) : Type 0 where
+pub record IsSettled {S : Type 0} (kept : Keeping S) (store : S) : Type 0 where
   pub log : Log
-  pub shown : stands store log
-  pub one : (other : Log) → stands store other → other ≡ log
-  pub left : (other : Log) → may_leave store other ↔ (other ≡ log)
+  pub shown : kept.stands store log
+  pub one : (other : Log) → kept.stands store other → other ≡ log
+  pub left : (other : Log) → kept.may_leave store other ↔ (other ≡ log)
 
 -- a stop after the call leaves what a stop before it could leave, or the changed log
-abbrev pub LeavesOne : {S : Type 0} → (S → Log → Type 0) → (S → Type 0) → (S → Log → Type 0) → (Log → Log) → S → S → Type 0
-LeavesOne stands is_true may_leave change old new = (log : Log) → stands old log → is_true new → (left : Log) → may_leave new left → may_leave old left ⊎ (left ≡ change log)
+abbrev pub LeavesOne : {S : Type 0} → Keeping S → (Log → Log) → S → S → Type 0
+LeavesOne kept change old new = (log : Log) → kept.stands old log → kept.is_true new → (left : Log) → kept.may_leave new left → kept.may_leave old left ⊎ (left ≡ change log)
 
 -- a stop after a call that changes nothing leaves what a stop before it could leave
-abbrev pub LeavesSame : {S : Type 0} → (S → Log → Type 0) → (S → Type 0) → (S → Log → Type 0) → S → S → Type 0
-LeavesSame stands is_true may_leave old new = (log : Log) → stands old log → is_true new → (left : Log) → may_leave new left → may_leave old left
+abbrev pub LeavesSame : {S : Type 0} → Keeping S → S → S → Type 0
+LeavesSame kept old new = (log : Log) → kept.stands old log → kept.is_true new → (left : Log) → kept.may_leave new left → kept.may_leave old left
 
 -- a refusal that was due is spent by the realm's next change
 abbrev pub IsSpent : (List ℕ → Bool) → (List ℕ → Bool) → List ℕ → Type 0

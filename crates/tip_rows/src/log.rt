@@ -1,6 +1,6 @@
 //! What keeps rows: a finite map from realm and key to rows, and from realm to epoch.
 ghost use Rattle.std.specs.Prelude.{◌≡◌, ◌≢◌, ◌↔◌, ℕ, List, Bool, IsTrue, IfOk, OnOk, IsErrOf, IsErr, is_err};
-ghost use Rattle.tip_rows.specs.Logs.{Log, with_row, without_row, with_known, with_all_raised, with_raised, IsAtEnd, IsSpoiled, IsPart, AreNames, HasBadName, counted, is_refused_load, is_refused_raise, Stands, LeavesOne, LeavesSame, IsSettled, IsSpent};
+ghost use Rattle.tip_rows.specs.Logs.{Keeping, Log, with_row, without_row, with_known, with_all_raised, with_raised, IsAtEnd, IsSpoiled, IsPart, AreNames, HasBadName, counted, is_refused_load, is_refused_raise, Stands, LeavesOne, LeavesSame, IsSettled, IsSpent};
 
 use crate::key::Key;
 use crate::medium::Medium;
@@ -51,114 +51,110 @@ pub trait RowLog {
     /// What it keeps its rows in.
     ghost medium: { Self → Self.Medium };
 
-    /// It shows this log, as long as `is_true`. One that can't be asked any more shows every log, and refuses each call.
-    ghost stands: { Self → Log → Type 0 };
-
-    /// How many calls it refused; after the greatest value comes 0.
-    ghost faults: { Self → ℕ };
-
-    /// What it shows may be relied on. It is so as long as its medium is faithful, by `true_while_faithful`.
-    ghost is_true: { Self → Type 0 };
-
-    /// What a stop at this moment may leave.
-    ghost may_leave: { Self → Log → Type 0 };
-
-    /// That the next change of a realm will be refused.
-    ghost is_due: { Self → List ℕ → Bool };
+    /// What it shows of the rows that it keeps.
+    ghost keeping: { Keeping Self };
 
     /// Makes a realm known, with epoch 0 where it was not.
     fn know(&mut self, realm: &Realm) -> Result<(), Refused>
-        ensures stands { Stands stands (with_known realm.now) self.old self.new result }
-        ensures counts { faults self.new ≡ counted (is_err result) (faults self.old) }
-        ensures truth { is_true self.new → is_true self.old }
-        ensures stop { LeavesOne stands is_true may_leave (with_known realm.now) self.old self.new }
-        ensures settled { is_true self.new → OnOk result (IsSettled stands may_leave self.new) }
-        ensures due { (log : Log) → stands self.old log → (r : List ℕ) →
-            is_due self.new r ≡ is_due self.old r };
+        ensures stands { Stands keeping (with_known realm.now) self.old self.new result }
+        ensures counts { keeping.faults self.new
+            ≡ counted (is_err result) (keeping.faults self.old) }
+        ensures truth { keeping.is_true self.new → keeping.is_true self.old }
+        ensures stop { LeavesOne keeping (with_known realm.now) self.old self.new }
+        ensures settled { keeping.is_true self.new → OnOk result (IsSettled keeping self.new) }
+        ensures due { (log : Log) → keeping.stands self.old log → (r : List ℕ) →
+            keeping.is_due self.new r ≡ keeping.is_due self.old r };
 
     /// Raises the epoch of every known realm by one, in one change.
     fn raise_epochs(&mut self) -> Result<(), RaiseFault>
-        ensures stands { Stands stands with_all_raised self.old self.new result }
-        ensures end { (log : Log) → stands self.old log → is_true self.new →
+        ensures stands { Stands keeping with_all_raised self.old self.new result }
+        ensures end { (log : Log) → keeping.stands self.old log → keeping.is_true self.new →
             result ≡ Err RaiseFault.EpochEnd → (realm : List ℕ) × IsAtEnd log realm }
-        ensures no_end { (log : Log) → stands self.old log → is_true self.new →
+        ensures no_end { (log : Log) → keeping.stands self.old log → keeping.is_true self.new →
             OnOk result ((realm : List ℕ) → ¬ IsAtEnd log realm) }
-        ensures counts { faults self.new ≡ counted (is_refused_raise result) (faults self.old) }
-        ensures truth { is_true self.new → is_true self.old }
-        ensures stop { LeavesOne stands is_true may_leave with_all_raised self.old self.new }
-        ensures settled { is_true self.new → OnOk result (IsSettled stands may_leave self.new) }
-        ensures due { (r : List ℕ) → is_due self.new r ≡ is_due self.old r };
+        ensures counts { keeping.faults self.new
+            ≡ counted (is_refused_raise result) (keeping.faults self.old) }
+        ensures truth { keeping.is_true self.new → keeping.is_true self.old }
+        ensures stop { LeavesOne keeping with_all_raised self.old self.new }
+        ensures settled { keeping.is_true self.new → OnOk result (IsSettled keeping self.new) }
+        ensures due { (r : List ℕ) → keeping.is_due self.new r ≡ keeping.is_due self.old r };
 
     /// Raises the epoch of one realm by one; nothing changes where it is not known.
     fn raise_epoch(&mut self, realm: &Realm) -> Result<(), RaiseFault>
-        ensures stands { Stands stands (with_raised realm.now) self.old self.new result }
-        ensures end { (log : Log) → stands self.old log → is_true self.new →
+        ensures stands { Stands keeping (with_raised realm.now) self.old self.new result }
+        ensures end { (log : Log) → keeping.stands self.old log → keeping.is_true self.new →
             result ≡ Err RaiseFault.EpochEnd → IsAtEnd log realm.now }
-        ensures no_end { (log : Log) → stands self.old log → is_true self.new →
+        ensures no_end { (log : Log) → keeping.stands self.old log → keeping.is_true self.new →
             OnOk result (¬ IsAtEnd log realm.now) }
-        ensures counts { faults self.new ≡ counted (is_refused_raise result) (faults self.old) }
-        ensures truth { is_true self.new → is_true self.old }
-        ensures stop { LeavesOne stands is_true may_leave (with_raised realm.now) self.old
+        ensures counts { keeping.faults self.new
+            ≡ counted (is_refused_raise result) (keeping.faults self.old) }
+        ensures truth { keeping.is_true self.new → keeping.is_true self.old }
+        ensures stop { LeavesOne keeping (with_raised realm.now) self.old
             self.new }
-        ensures settled { is_true self.new → OnOk result (IsSettled stands may_leave self.new) }
-        ensures due { IsTrue (is_due self.old realm.now) → result ≡ Err RaiseFault.Refused }
-        ensures spent { IsSpent (is_due self.old) (is_due self.new) realm.now };
+        ensures settled { keeping.is_true self.new → OnOk result (IsSettled keeping self.new) }
+        ensures due { IsTrue (keeping.is_due self.old realm.now) → result ≡ Err RaiseFault.Refused }
+        ensures spent { IsSpent (keeping.is_due self.old) (keeping.is_due self.new) realm.now };
 
     /// Adds or replaces a row.
     fn put(&mut self, realm: &Realm, key: Key, row: &Row) -> Result<(), Refused>
-        ensures stands { Stands stands (with_row realm.now key row.now) self.old self.new result }
-        ensures counts { faults self.new ≡ counted (is_err result) (faults self.old) }
-        ensures truth { is_true self.new → is_true self.old }
-        ensures stop { LeavesOne stands is_true may_leave (with_row realm.now key row.now) self.old
+        ensures stands { Stands keeping (with_row realm.now key row.now) self.old self.new result }
+        ensures counts { keeping.faults self.new
+            ≡ counted (is_err result) (keeping.faults self.old) }
+        ensures truth { keeping.is_true self.new → keeping.is_true self.old }
+        ensures stop { LeavesOne keeping (with_row realm.now key row.now) self.old
             self.new }
-        ensures settled { is_true self.new → OnOk result (IsSettled stands may_leave self.new) }
-        ensures due { IsTrue (is_due self.old realm.now) → IsErr result }
-        ensures spent { IsSpent (is_due self.old) (is_due self.new) realm.now };
+        ensures settled { keeping.is_true self.new → OnOk result (IsSettled keeping self.new) }
+        ensures due { IsTrue (keeping.is_due self.old realm.now) → IsErr result }
+        ensures spent { IsSpent (keeping.is_due self.old) (keeping.is_due self.new) realm.now };
 
     /// Removes a row, if it is there.
     fn remove(&mut self, realm: &Realm, key: Key) -> Result<(), Refused>
-        ensures stands { Stands stands (without_row realm.now key) self.old self.new result }
-        ensures counts { faults self.new ≡ counted (is_err result) (faults self.old) }
-        ensures truth { is_true self.new → is_true self.old }
-        ensures stop { LeavesOne stands is_true may_leave (without_row realm.now key) self.old
+        ensures stands { Stands keeping (without_row realm.now key) self.old self.new result }
+        ensures counts { keeping.faults self.new
+            ≡ counted (is_err result) (keeping.faults self.old) }
+        ensures truth { keeping.is_true self.new → keeping.is_true self.old }
+        ensures stop { LeavesOne keeping (without_row realm.now key) self.old
             self.new }
-        ensures settled { is_true self.new → OnOk result (IsSettled stands may_leave self.new) }
-        ensures due { IsTrue (is_due self.old realm.now) → IsErr result }
-        ensures spent { IsSpent (is_due self.old) (is_due self.new) realm.now };
+        ensures settled { keeping.is_true self.new → OnOk result (IsSettled keeping self.new) }
+        ensures due { IsTrue (keeping.is_due self.old realm.now) → IsErr result }
+        ensures spent { IsSpent (keeping.is_due self.old) (keeping.is_due self.new) realm.now };
 
     /// The epoch and the rows of a realm.
     fn load(&mut self, realm: &Realm) -> Result<Loaded, LoadFault>
-        ensures part { (log : Log) → stands self.old log → is_true self.new →
+        ensures part { (log : Log) → keeping.stands self.old log → keeping.is_true self.new →
             IfOk result (λ loaded. IsPart log realm.now loaded.epoch loaded.rows.items) }
-        ensures bad_row { (log : Log) → stands self.old log → is_true self.new →
+        ensures bad_row { (log : Log) → keeping.stands self.old log → keeping.is_true self.new →
             result ≡ Err LoadFault.BadRow → IsSpoiled log realm.now }
-        ensures stands { (log : Log) → stands self.old log → stands self.new log }
-        ensures counts { faults self.new ≡ counted (is_refused_load result) (faults self.old) }
-        ensures truth { is_true self.new → is_true self.old }
-        ensures stop { LeavesSame stands is_true may_leave self.old self.new }
-        ensures settled { is_true self.new → OnOk result (IsSettled stands may_leave self.new) }
-        ensures due { (r : List ℕ) → is_due self.new r ≡ is_due self.old r };
+        ensures stands { (log : Log) → keeping.stands self.old log → keeping.stands self.new log }
+        ensures counts { keeping.faults self.new
+            ≡ counted (is_refused_load result) (keeping.faults self.old) }
+        ensures truth { keeping.is_true self.new → keeping.is_true self.old }
+        ensures stop { LeavesSame keeping self.old self.new }
+        ensures settled { keeping.is_true self.new → OnOk result (IsSettled keeping self.new) }
+        ensures due { (r : List ℕ) → keeping.is_due self.new r ≡ keeping.is_due self.old r };
 
     /// The names of the known realms, rising.
     fn realms(&mut self) -> Result<Vec<Realm>, LoadFault>
-        ensures names { (log : Log) → stands self.old log → is_true self.new →
+        ensures names { (log : Log) → keeping.stands self.old log → keeping.is_true self.new →
             IfOk result (λ names. AreNames log names.items) }
-        ensures bad_row { (log : Log) → stands self.old log → is_true self.new →
+        ensures bad_row { (log : Log) → keeping.stands self.old log → keeping.is_true self.new →
             result ≡ Err LoadFault.BadRow → HasBadName log }
-        ensures stands { (log : Log) → stands self.old log → stands self.new log }
-        ensures counts { faults self.new ≡ counted (is_refused_load result) (faults self.old) }
-        ensures truth { is_true self.new → is_true self.old }
-        ensures stop { LeavesSame stands is_true may_leave self.old self.new }
-        ensures settled { is_true self.new → OnOk result (IsSettled stands may_leave self.new) }
-        ensures due { (r : List ℕ) → is_due self.new r ≡ is_due self.old r };
+        ensures stands { (log : Log) → keeping.stands self.old log → keeping.stands self.new log }
+        ensures counts { keeping.faults self.new
+            ≡ counted (is_refused_load result) (keeping.faults self.old) }
+        ensures truth { keeping.is_true self.new → keeping.is_true self.old }
+        ensures stop { LeavesSame keeping self.old self.new }
+        ensures settled { keeping.is_true self.new → OnOk result (IsSettled keeping self.new) }
+        ensures due { (r : List ℕ) → keeping.is_due self.new r ≡ keeping.is_due self.old r };
 
     /// How many calls it refused.
     fn faults(&self) -> u64
-        ensures { result ≡ faults self.now };
+        ensures { result ≡ keeping.faults self.now };
 
     ghost true_while_faithful: { (log : Self) → Self.Medium.is_faithful (medium log) →
-        is_true log };
+        keeping.is_true log };
 
     /// A stop leaves something.
-    ghost leaves_some: { (log : Self) → is_true log → ∥ ((left : Log) × may_leave log left) ∥₁ };
+    ghost leaves_some: { (log : Self) → keeping.is_true log →
+        ∥ ((left : Log) × keeping.may_leave log left) ∥₁ };
 }

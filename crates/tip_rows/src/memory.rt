@@ -159,15 +159,13 @@ impl<A: Allocator + Copy> RowLog for MemRows<A> {
 
     ghost medium = { λ _. record {} };
 
-    ghost stands = { λ s log. log_of s ≡ log };
-
-    ghost faults = { λ s. s.faults };
-
-    ghost is_true = { λ _. Unit {0} };
-
-    ghost may_leave = { λ s log. log_of s ≡ log };
-
-    ghost is_due = { is_due_in };
+    ghost keeping = { record {
+      stands = λ s log. log_of s ≡ log;
+      may_leave = λ s log. log_of s ≡ log;
+      is_true = λ _. Unit {0};
+      faults = λ s. s.faults;
+      is_due = is_due_in;
+    } };
 
     fn know(&mut self, realm: &Realm) -> Result<(), Refused> {
         match know_in(&mut self.known, realm) {

@@ -20,7 +20,7 @@ use Rattle.tip_run.specs.declared.shown.Shown.{Shown}
 
 -- what the realm at a place lets go
 abbrev pub leaves : {S : Type 0} → Running S → ℕ → List Output
-leaves running place = flat_map drops_of (of running.out place) ++ drops_in (realm running.host.core place)
+leaves running place = flat_map drops_of (of running.out place) ++ drops_in (realm running.stored.core place)
 
 -- the realms before this one have shown what they let go, and no other has shown a thing
 pub record HaveLeft (all : ℕ → List Output) (here : ℕ) (shown : List Shown) : Type 0 where
@@ -69,10 +69,10 @@ none_of None none = refl
 none_of (Some state) none = absurd (none-some state.head (sym none))
 
 -- what a realm that is there lets go: the parties that are out, and then those that are here
-pub left_there : {S : Type 0} (running : Running S) (heads : List Head) (place : ℕ) (one : Shown) (out left : List PartyNotes) → slice_get heads place ≡ option_map (λ (state : State). state.head) (realm running.host.core place) → place < length heads → outputs_of one ≡ flat_map drops_of left → out ≡ of running.out place →
-    ((state : State) → realm running.host.core place ≡ Some state → flat_map drops_of left ≡ flat_map drops_of out ++ drops_here state) → outputs_of one ≡ leaves running place
-left_there running heads place one out left same less shows are is = by (realm running.host.core place) refl where
-  by : (found : Option State) → realm running.host.core place ≡ found → outputs_of one ≡ leaves running place
+pub left_there : {S : Type 0} (running : Running S) (heads : List Head) (place : ℕ) (one : Shown) (out left : List PartyNotes) → slice_get heads place ≡ option_map (λ (state : State). state.head) (realm running.stored.core place) → place < length heads → outputs_of one ≡ flat_map drops_of left → out ≡ of running.out place →
+    ((state : State) → realm running.stored.core place ≡ Some state → flat_map drops_of left ≡ flat_map drops_of out ++ drops_here state) → outputs_of one ≡ leaves running place
+left_there running heads place one out left same less shows are is = by (realm running.stored.core place) refl where
+  by : (found : Option State) → realm running.stored.core place ≡ found → outputs_of one ≡ leaves running place
   by None none = absurd (within heads place less (same ∙ ap (option_map (λ (state : State). state.head)) none))
   by (Some state) there =
       shows ∙ is state there
@@ -80,10 +80,10 @@ left_there running heads place one out left same less shows are is = by (realm r
       ∙ ap (λ f. flat_map drops_of (of running.out place) ++ drops_in f) (sym there)
 
 -- all have shown what they let go, where only realms that are there have parties that are out
-pub all_left : {S : Type 0} (running : Running S) (heads : List Head) (here place : ℕ) (shown : List Shown) → AreOfRealms running → HaveLeft (leaves running) here shown → length heads ≤ here → slice_get heads place ≡ option_map (λ (state : State). state.head) (realm running.host.core place) → shown_at place shown ≡ leaves running place
+pub all_left : {S : Type 0} (running : Running S) (heads : List Head) (here place : ℕ) (shown : List Shown) → AreOfRealms running → HaveLeft (leaves running) here shown → length heads ≤ here → slice_get heads place ≡ option_map (λ (state : State). state.head) (realm running.stored.core place) → shown_at place shown ≡ leaves running place
 all_left running heads here place shown are have all same = elim (cases_lt place here) [
   | inl less ↦ have.done place less
   | inr from ↦
-      let none = none_of (realm running.host.core place) (sym same ∙ beyond heads place (omega (arith, all, from))) in
+      let none = none_of (realm running.stored.core place) (sym same ∙ beyond heads place (omega (arith, all, from))) in
       have.rest place from ∙ sym (ap (λ f. flat_map drops_of (of running.out place) ++ drops_in f) none ∙ append-nil (flat_map drops_of (of running.out place)) ∙ ap (flat_map drops_of) (are place none))
 ]

@@ -1,4 +1,4 @@
--- An event has come to a host at work.
+-- An event has come to a stored core at work.
 use Rattle.std.proofs.Common.{◌≡◌, ◌≢◌, ◌∷◌, ◌∙◌, ℕ, Bool, true, List, [], Option, Some, None, inl, inr, ap, refl, subst, sym}
 use Rattle.std.specs.Prelude.{is_some, Result, Ok, Err, IfOk, IfSome}
 use Rattle.std.specs.List.{flat_map}
@@ -8,8 +8,8 @@ use Rattle.std.proofs.lemmas.Option.{none-some}
 use Rattle.tip_branch.specs.Notes.{PartyNotes}
 use Rattle.tip_calls.specs.Calls.{Around, Came}
 use Rattle.tip_core.specs.Hosted.{Hosted, Steps, realm}
-use Rattle.tip_host.specs.Errands.{was_done}
-use Rattle.tip_host.specs.Keeping.{Keeps}
+use Rattle.tip_stored.specs.Errands.{was_done}
+use Rattle.tip_stored.specs.Keeping.{Keeps}
 use Rattle.tip_machine.specs.Honest.{brings_no_party}
 use Rattle.tip_machine.specs.Moves.{picked}
 use Rattle.tip_machine.specs.Outputs.{drops_of}
@@ -19,7 +19,7 @@ use Rattle.tip_machine.specs.Steps.{nowhere}
 use Rattle.tip_machine.specs.Types.{Answer, Event}
 use Rattle.tip_machine.specs.declared.event.Event.TheVariants as event
 use Rattle.tip_machine.specs.declared.event.Outcome.{Outcome}
-use Rattle.tip_rows.specs.Logs.{Log}
+use Rattle.tip_rows.specs.Logs.{Keeping, Log}
 use Rattle.tip_table.specs.Kept.{Kept, of}
 use Rattle.tip_run.proofs.Leaving.{spent_shown}
 use Rattle.tip_run.specs.Runs.{AreOfRealms, Comes, Goes, Happens, Loses, Running}
@@ -52,10 +52,10 @@ none_goes : (old new : Hosted) (place : ℕ) (event : Event) (outcome : Outcome)
 none_goes old new place event outcome answer steps none = ap (λ (a : Answer). a.work) (steps.absent (nowhere_before old new place event outcome answer steps place none)).0 ∙ nobody event
 
 -- so the parties that are out stay those of realms that are there
-pub still_of_realms : {S : Type 0} (old : Running S) (new : Hosted) (out : Kept PartyNotes) (place : ℕ) (event : Event) (outcome : Outcome) (answer : Answer) (party : PartyNotes) → AreOfRealms old → Steps old.host.core new place event outcome answer → answer.work ≡ Some party → ((other : ℕ) → other ≢ place → of out other ≡ of old.out other) → (other : ℕ) → realm new other ≡ None → of out other ≡ []
+pub still_of_realms : {S : Type 0} (old : Running S) (new : Hosted) (out : Kept PartyNotes) (place : ℕ) (event : Event) (outcome : Outcome) (answer : Answer) (party : PartyNotes) → AreOfRealms old → Steps old.stored.core new place event outcome answer → answer.work ≡ Some party → ((other : ℕ) → other ≢ place → of out other ≡ of old.out other) → (other : ℕ) → realm new other ≡ None → of out other ≡ []
 still_of_realms old new out place event outcome answer party are steps goes others other none = elim (cases_eq other place) [
-  | inl same ↦ absurd (none-some party (sym (none_goes old.host.core new place event outcome answer steps (subst (λ (p : ℕ). realm new p ≡ None) same none)) ∙ goes))
-  | inr differ ↦ others other differ ∙ are other (nowhere_before old.host.core new place event outcome answer steps other none)
+  | inl same ↦ absurd (none-some party (sym (none_goes old.stored.core new place event outcome answer steps (subst (λ (p : ℕ). realm new p ≡ None) same none)) ∙ goes))
+  | inr differ ↦ others other differ ∙ are other (nowhere_before old.stored.core new place event outcome answer steps other none)
 ]
 
 -- what holds of each result that is given holds of this one
@@ -63,14 +63,14 @@ pub on_ok : {T F : Type 0} (P Q : T → Type 0) (result : Result T F) → ((x : 
 on_ok P Q (Ok x) then is = then x is
 on_ok P Q (Err fault) then is = is
 
--- As one call of a host
+-- As one call of a stored core
 
-module _ {S : Type 0} (stands may_leave : S → Log → Type 0) (is_true : S → Type 0) (faults : S → ℕ) (is_due : S → List ℕ → Bool) where
-  abbrev came_of : (old new : Around S) (place : ℕ) (event : Event) (one : Shown) → Happens stands may_leave is_true faults is_due old new place event one → Came
+module _ {S : Type 0} (kept : Keeping S) where
+  abbrev came_of : (old new : Around S) (place : ℕ) (event : Event) (one : Shown) → Happens kept old new place event one → Came
   came_of old new place event one is = record { place = place; event = event; change = is.change; outcome = is.outcome; answer = is.answer }
 
   -- an event that brings nobody
-  pub came_alone : (old new : Around S) (place : ℕ) (event : Event) (one : Shown) → brings_no_party event ≡ true → Happens stands may_leave is_true faults is_due old new place event one → Comes stands may_leave is_true faults is_due old new place event one
+  pub came_alone : (old new : Around S) (place : ℕ) (event : Event) (one : Shown) → brings_no_party event ≡ true → Happens kept old new place event one → Comes kept old new place event one
   came_alone old new place event one none is = record {
     came = came_of old new place event one is;
     is = record {
@@ -92,8 +92,8 @@ module _ {S : Type 0} (stands may_leave : S → Log → Type 0) (is_true : S →
   }
 
   -- the oldest party comes back
-  pub came_back : (old between new : Around S) (place : ℕ) (party : PartyNotes) (back : Back) (one : Shown) → between.core ≡ old.core → between.store ≡ old.store → old.out place ≡ party ∷ between.out place → ((other : ℕ) → other ≢ place → between.out other ≡ old.out other) → was_done party.errand back ≡ true → can_answer party.errand back party.members ≡ true → Happens stands may_leave is_true faults is_due between new place (event_of party back) one → Goes stands may_leave is_true faults is_due old new place (old.out place) (Some one)
-  came_back old between new place party back one core store out others done can is = subst (λ out. Goes stands may_leave is_true faults is_due old new place out (Some one)) (sym out) (
+  pub came_back : (old between new : Around S) (place : ℕ) (party : PartyNotes) (back : Back) (one : Shown) → between.core ≡ old.core → between.store ≡ old.store → old.out place ≡ party ∷ between.out place → ((other : ℕ) → other ≢ place → between.out other ≡ old.out other) → was_done party.errand back ≡ true → can_answer party.errand back party.members ≡ true → Happens kept between new place (event_of party back) one → Goes kept old new place (old.out place) (Some one)
+  came_back old between new place party back one core store out others done can is = subst (λ out. Goes kept old new place out (Some one)) (sym out) (
     back,
     done,
     record {
@@ -102,7 +102,7 @@ module _ {S : Type 0} (stands may_leave : S → Log → Type 0) (is_true : S →
         steps = subst (λ c. Steps c new.core place (event_of party back) is.outcome is.answer) core is.steps;
         wanted = λ state there. is.wanted state (ap (λ c. realm c place) core ∙ there);
         fits = is.fits;
-        keeps = λ state there. subst (λ s. Keeps stands may_leave is_true faults is_due state.head.name is.change is.outcome s new.store) store (is.keeps state (ap (λ c. realm c place) core ∙ there));
+        keeps = λ state there. subst (λ s. Keeps kept state.head.name is.change is.outcome s new.store) store (is.keeps state (ap (λ c. realm c place) core ∙ there));
         absent = λ none. is.absent (ap (λ c. realm c place) core ∙ none) ∙ store;
         names = is.names;
         left = between.out place;

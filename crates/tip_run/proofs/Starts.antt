@@ -9,15 +9,15 @@ use Rattle.tip_calls.proofs.Given.{given_all}
 use Rattle.tip_calls.specs.Calls.{Around, drops_in}
 use Rattle.tip_calls.specs.Giving.{AreEachGiven, AreGiven}
 use Rattle.tip_core.specs.Hosted.{HaveNames, realm}
-use Rattle.tip_host.specs.Loading.{Goes, Loads, Never, Stays, spec_of}
-use Rattle.tip_host.specs.Recovering.{Recovering, adopted_each, all_adopted, are_for_each, recovered}
-use Rattle.tip_host.specs.Renewing.{IsRenewed}
-use Rattle.tip_host.specs.declared.realm_spec.RealmSpec.{RealmSpec}
+use Rattle.tip_stored.specs.Loading.{Goes, Loads, Never, Stays, spec_of}
+use Rattle.tip_stored.specs.Recovering.{Recovering, adopted_each, all_adopted, are_for_each, recovered}
+use Rattle.tip_stored.specs.Renewing.{IsRenewed}
+use Rattle.tip_stored.specs.declared.realm_spec.RealmSpec.{RealmSpec}
 use Rattle.tip_machine.specs.Moves.{drops_here}
 use Rattle.tip_machine.specs.Outputs.{drops_of}
 use Rattle.tip_machine.specs.States.{State}
 use Rattle.tip_recovery.specs.Adopting.{Recovery, Unfinished, adopted_all, are_adopted, are_for, are_for_all, waits, with_boxes}
-use Rattle.tip_rows.specs.Logs.{Log, with_raised}
+use Rattle.tip_rows.specs.Logs.{Keeping, Log, with_raised}
 use Rattle.tip_rows.specs.Rows.{branches_of}
 use Rattle.tip_run.specs.Runs.{Renews, Restarts}
 use Rattle.tip_run.specs.Showing.{outputs_of, shown_at}
@@ -83,16 +83,16 @@ none_waits (lots ∷ boxes) (recovery ∷ realms) fits =
 
 -- One realm, while the others run
 
-module _ {S : Type 0} (stands may_leave : S → Log → Type 0) (is_true : S → Type 0) (faults : S → ℕ) (is_due : S → List ℕ → Bool) where
-  pub reads : (old mid : S) (refused : Bool) (log : Log) → Goes stands may_leave is_true faults is_due refused Stays Never old mid → stands old log → stands mid log
-  reads old mid refused log goes stood = let way = goes.rows log stood in subst (stands mid) way.1 way.2
+module _ {S : Type 0} (kept : Keeping S) where
+  pub reads : (old mid : S) (refused : Bool) (log : Log) → Goes kept refused Stays Never old mid → kept.stands old log → kept.stands mid log
+  reads old mid refused log goes stood = let way = goes.rows log stood in subst (kept.stands mid) way.1 way.2
 
-  pub has_renewed : (old new : Around S) (mid : S) (refused : Bool) (place : ℕ) (boxes : List (List Badge)) (read : List Unfinished) (recovery : Recovery) (one : Shown) → realm old.core place ≢ None → Goes stands may_leave is_true faults is_due refused Stays Never old.store mid → are_for_all boxes read ≡ true → recovery.rows ≡ adopted_all boxes read →
-      ((state : State) (log : Log) → realm old.core place ≡ Some state → stands mid log → stands new.store (with_raised state.head.name log)) →
-      ((state : State) → realm old.core place ≡ Some state → is_true new.store → is_true mid) →
-      ((state : State) → realm old.core place ≡ Some state → IsRenewed stands is_true recovery state mid new.store (realm new.core place)) →
+  pub has_renewed : (old new : Around S) (mid : S) (refused : Bool) (place : ℕ) (boxes : List (List Badge)) (read : List Unfinished) (recovery : Recovery) (one : Shown) → realm old.core place ≢ None → Goes kept refused Stays Never old.store mid → are_for_all boxes read ≡ true → recovery.rows ≡ adopted_all boxes read →
+      ((state : State) (log : Log) → realm old.core place ≡ Some state → kept.stands mid log → kept.stands new.store (with_raised state.head.name log)) →
+      ((state : State) → realm old.core place ≡ Some state → kept.is_true new.store → kept.is_true mid) →
+      ((state : State) → realm old.core place ≡ Some state → IsRenewed kept recovery state mid new.store (realm new.core place)) →
       ((other : ℕ) → other ≢ place → realm new.core other ≡ realm old.core other) → HaveNames new.core → ((other : ℕ) → new.out other ≡ old.out other) → one.realm ≡ place →
-      ((state : State) → realm old.core place ≡ Some state → outputs_of one ≡ drops_here state) → Renews stands is_true old new place boxes one
+      ((state : State) → realm old.core place ≡ Some state → outputs_of one ≡ drops_here state) → Renews kept old new place boxes one
   has_renewed old new mid refused place boxes read recovery one some goes fits adopted rows truth renewed others names out realm_is shows =
       let there = is_there (realm old.core place) some in
       let again = renewed there.0 there.1 in
@@ -126,9 +126,9 @@ module _ {S : Type 0} (stands may_leave : S → Log → Type 0) (is_true : S →
   -- All realms
 
   pub has_restarted : (old new : Around S) (specs : List RealmSpec) (loaded after : Recovering S) (boxes : List (List (List Badge))) (shown : List Shown) → ((place : ℕ) → slice_get specs place ≡ option_map (λ (state : State). spec_of state.head) (realm old.core place)) →
-      Loads stands may_leave is_true faults is_due specs old.store (Ok loaded) → are_for_each boxes loaded.realms ≡ true → after ≡ record loaded { realms = adopted_each boxes loaded.realms } → all_adopted after.realms ≡ true → new.store ≡ after.store →
+      Loads kept specs old.store (Ok loaded) → are_for_each boxes loaded.realms ≡ true → after ≡ record loaded { realms = adopted_each boxes loaded.realms } → all_adopted after.realms ≡ true → new.store ≡ after.store →
       ((place : ℕ) → realm new.core place ≡ recovered (slice_get after.realms place) (realm after.core place)) → HaveNames new.core → ((place : ℕ) → new.out place ≡ []) →
-      ((place : ℕ) → shown_at place shown ≡ flat_map drops_of (old.out place) ++ drops_in (realm old.core place)) → Restarts stands may_leave is_true faults is_due old new boxes shown
+      ((place : ℕ) → shown_at place shown ≡ flat_map drops_of (old.out place) ++ drops_in (realm old.core place)) → Restarts kept old new boxes shown
   has_restarted old new specs loaded after boxes shown declared loads fits adopted all store begun names out shows = record {
     is = record {
       specs = specs;

@@ -4,13 +4,13 @@ ghost use Rattle.std.specs.Prelude.{◌≡◌};
 use crate::shown::Shown;
 use std::alloc::AllocError;
 use thiserror::Error;
-use tip_host::{HostFault, LoadFault, RenewFault};
+use tip_stored::{LoadFault, RenewFault, StepFault};
 
 /// Why a move was not made.
 #[derive(Clone, Copy, Debug, PartialEq, Eq, Error)]
 pub enum RunFault {
     #[error("{0}")]
-    Step(HostFault),
+    Step(StepFault),
     #[error("{0}")]
     Load(LoadFault),
     #[error("{0}")]
@@ -25,7 +25,7 @@ pub enum RunFault {
     Memory,
 }
 
-/// A run that has halted. Its host is gone, and so are the moves that were left; the rows stay in the store.
+/// A run that has halted. Its stored core is gone, and so are the moves that were left; the rows stay in the store.
 #[derive(Drop)]
 pub struct Halt {
     /// What was shown by the moves before.

@@ -1,4 +1,4 @@
-//! A host that is run by a list of moves: each realm makes an honest run of its own machine, and agreement holds of it.
+//! A stored core that is run by a list of moves: each realm makes an honest run of its own machine, and agreement holds of it.
 #![tactic(auto)]
 
 mod copies;

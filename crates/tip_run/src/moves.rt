@@ -1,9 +1,9 @@
-//! What a host is moved by.
+//! What a stored core is moved by.
 
 use tip_branch::HeldPrepared;
 use tip_machine::Event;
 
-/// One move of a host. A realm is named by its place in the order of declaration.
+/// One move of a stored core. A realm is named by its place in the order of declaration.
 #[derive(Drop)]
 pub enum Move<E = Event, B = HeldPrepared> {
     /// An event of a realm. One that brings a party back is refused: parties come back by `Go` alone.

@@ -1,4 +1,4 @@
-//! Realms of a host at work that start again.
+//! Realms of a stored core at work that start again.
 ghost use Rattle.std.specs.Prelude.{◌≡◌, ◌++◌, ℕ, IfErr, IfOk, OnOk, Some, false, map};
 ghost use Rattle.std.specs.List.{flat_map};
 ghost use Rattle.tip_branch.specs.Always.{Always};
@@ -29,18 +29,19 @@ impl<S: RowLog + Drop> Running<S> {
         boxes: Vec<Vec<HeldPrepared>>,
     ) -> Result<(Running<S>, Vec<Shown>), RunFault>
         requires { Always }
-        ensures restarts { IfOk result (λ again. Restarts S.stands S.may_leave S.is_true S.faults
-            S.is_due (around self) (around again.0) (map (λ lots. lots.items) boxes.items)
+        ensures restarts { IfOk result
+            (λ again. Restarts S.keeping (around self) (around again.0)
+            (map (λ lots. lots.items) boxes.items)
             again.1.items) }
-        ensures why { IfErr result (IsWhyNotRestarted S.stands S.may_leave S.is_true S.faults
-            S.is_due (around self) (map (λ lots. lots.items) boxes.items)) }
-        ensures runs { IfOk result (λ again. again.0.host.is_stopped ≡ false) }
+        ensures why { IfErr result
+            (IsWhyNotRestarted S.keeping (around self) (map (λ lots. lots.items) boxes.items)) }
+        ensures runs { IfOk result (λ again. again.0.stored.is_stopped ≡ false) }
     {
         let shown = self.all_leave(alloc)?;
-        let Running { host, out } = self;
+        let Running { stored, out } = self;
         drop(out);
-        let specs = host.declarations(alloc)?;
-        let mut recovering = match host.restart(alloc, specs) {
+        let specs = stored.declarations(alloc)?;
+        let mut recovering = match stored.restart(alloc, specs) {
             Ok(recovering) => recovering,
             Err((fault, _)) => return Err(RunFault::Load(fault)),
         };
@@ -48,7 +49,7 @@ impl<S: RowLog + Drop> Running<S> {
             return Err(RunFault::Boxes);
         }
         match recovering.begin() {
-            Ok(host) => Ok((Running::new(alloc, host), shown)),
+            Ok(stored) => Ok((Running::new(alloc, stored), shown)),
             Err(_) => Err(RunFault::Boxes),
         }
     }
@@ -61,22 +62,22 @@ impl<S: RowLog + Drop> Running<S> {
         boxes: Vec<HeldPrepared>,
     ) -> Result<Shown, RunFault>
         requires { Always }
-        ensures renews { IfOk result (λ shown. Renews S.stands S.is_true (around self.old)
+        ensures renews { IfOk result (λ shown. Renews S.keeping (around self.old)
             (around self.new) realm boxes.items shown) }
-        ensures why { IfErr result (IsWhyNotRenewed S.stands S.is_true self.old.host.is_stopped
+        ensures why { IfErr result (IsWhyNotRenewed S.keeping self.old.stored.is_stopped
             (around self.old) realm boxes.items) }
-        ensures stopped { self.new.host.is_stopped ≡ self.old.host.is_stopped }
+        ensures stopped { self.new.stored.is_stopped ≡ self.old.stored.is_stopped }
     {
         let mut left = Vec::new(alloc);
-        note_here(alloc, &self.host.core, realm, &mut left)?;
-        let mut recovery = match self.host.doubts(alloc, realm) {
+        note_here(alloc, &self.stored.core, realm, &mut left)?;
+        let mut recovery = match self.stored.doubts(alloc, realm) {
             Ok(recovery) => recovery,
             Err(fault) => return Err(RunFault::Renew(fault)),
         };
         if !recovery.adopt_all(boxes) {
             return Err(RunFault::Boxes);
         }
-        if let Err((fault, _)) = self.host.renew(alloc, realm, recovery) {
+        if let Err((fault, _)) = self.stored.renew(alloc, realm, recovery) {
             return Err(RunFault::Renew(fault));
         }
         Ok(Shown::leaving(alloc, realm, left))
@@ -85,13 +86,13 @@ impl<S: RowLog + Drop> Running<S> {
     /// What each realm shows as the process ends: its parties are let go, first those that are out.
     fn all_leave(&self, alloc: Global) -> Result<Vec<Shown>, AllocError>
         ensures { (place : ℕ) → IfOk result (λ shown. shown_at place shown.items ≡ flat_map drops_of
-            (of self.now.out place) ++ drops_in (realm_at self.now.host.core place)) }
+            (of self.now.out place) ++ drops_in (realm_at self.now.stored.core place)) }
     {
         let mut shown = Vec::new(alloc);
-        for realm in 0..self.host.core.heads().len() {
+        for realm in 0..self.stored.core.heads().len() {
             let mut left = Vec::new(alloc);
             self.note_out(alloc, realm, &mut left)?;
-            note_here(alloc, &self.host.core, realm, &mut left)?;
+            note_here(alloc, &self.stored.core, realm, &mut left)?;
             shown.push(Shown::leaving(alloc, realm, left))?;
         }
         Ok(shown)

@@ -1,4 +1,4 @@
-//! A host is run by a list of moves.
+//! A stored core is run by a list of moves.
 ghost use Rattle.std.specs.Prelude.{◌≡◌, ◌++◌, List, IfErr, IfOk, OnErr, true};
 ghost use Rattle.std.specs.Option.{option_to_list};
 ghost use Rattle.tip_branch.specs.Always.{Always};
@@ -14,16 +14,16 @@ use std::alloc::{AllocError, Global};
 use tip_rows::RowLog;
 
 impl<S: RowLog + Drop> Running<S> {
-    /// ISOLATION AND AGREEMENT of a host that is run: all moves are made, in order. However the moves of all realms are interleaved,
-    /// what each realm shows is what an honest run of its own machine shows, its state and its stored rows are where that run leads,
-    /// and none of its transactions is half committed. At the first move that can't be made the run halts and says why, and the same
-    /// holds of the moves before it.
+    /// ISOLATION AND AGREEMENT of a stored core that is run: all moves are made, in order. However the moves of all realms are
+    /// interleaved, what each realm shows is what an honest run of its own machine shows, its state and its stored rows are where
+    /// that run leads, and none of its transactions is half committed. At the first move that can't be made the run halts and says
+    /// why, and the same holds of the moves before it.
     pub fn run(self, alloc: Global, moves: Vec<Move>) -> Result<(Running<S>, Vec<Shown>), Halt>
         requires { Always }
-        ensures ran { IfOk result (λ ran. HasRun S.stands S.may_leave S.is_true S.faults S.is_due
+        ensures ran { IfOk result (λ ran. HasRun S.keeping
             (around self) moves.items ran.1.items (around ran.0)) }
-        ensures halted { IfErr result (HasHalted S.stands S.may_leave S.is_true S.faults S.is_due
-            self.host.is_stopped (around self) moves.items) }
+        ensures halted { IfErr result (HasHalted S.keeping
+            self.stored.is_stopped (around self) moves.items) }
     {
         let mut running = self;
         let mut shown = Vec::new(alloc);
@@ -47,13 +47,13 @@ impl<S: RowLog + Drop> Running<S> {
         requires { Always }
         ensures made { IfOk result (λ after. (more : List Shown)
             × (shown.new.items ≡ shown.old.items ++ more)
-            × IsMade S.stands S.may_leave S.is_true S.faults S.is_due (around self) next more
+            × IsMade S.keeping (around self) next more
             (around after)) }
         ensures same { OnErr result (shown.new.items ≡ shown.old.items) }
-        ensures why { IfErr result (IsWhyNotMade S.stands S.may_leave S.is_true S.faults S.is_due
-            self.host.is_stopped (around self) next) }
+        ensures why { IfErr result (IsWhyNotMade S.keeping
+            self.stored.is_stopped (around self) next) }
         ensures stopped { IfOk result
-            (λ after. after.host.is_stopped ≡ true → self.host.is_stopped ≡ true) }
+            (λ after. after.stored.is_stopped ≡ true → self.stored.is_stopped ≡ true) }
     {
         let (after, mut more) = self.made(alloc, next)?;
         shown.append(&mut more)?;
@@ -63,12 +63,12 @@ impl<S: RowLog + Drop> Running<S> {
     /// One move, and what it shows.
     fn made(mut self, alloc: Global, next: Move) -> Result<(Running<S>, Vec<Shown>), RunFault>
         requires { Always }
-        ensures made { IfOk result (λ after. IsMade S.stands S.may_leave S.is_true S.faults S.is_due
+        ensures made { IfOk result (λ after. IsMade S.keeping
             (around self) next after.1.items (around after.0)) }
-        ensures why { IfErr result (IsWhyNotMade S.stands S.may_leave S.is_true S.faults S.is_due
-            self.host.is_stopped (around self) next) }
+        ensures why { IfErr result (IsWhyNotMade S.keeping
+            self.stored.is_stopped (around self) next) }
         ensures stopped { IfOk result
-            (λ after. after.0.host.is_stopped ≡ true → self.host.is_stopped ≡ true) }
+            (λ after. after.0.stored.is_stopped ≡ true → self.stored.is_stopped ≡ true) }
     {
         let shown = match next {
             Move::Step { realm, event } => Some(self.step(alloc, realm, event)?),

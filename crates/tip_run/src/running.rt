@@ -1,4 +1,4 @@
-//! A host at work, by a caller that brings parties back as their errands leave them.
+//! A stored core at work, by a caller that brings parties back as their errands leave them.
 ghost use Rattle.std.specs.Prelude.{◌≡◌, ◌≢◌, ◌++◌, ℕ, [], ◌∷◌, true, IfErr, IfOk, IfSome, IfNone, OnOk, map};
 ghost use Rattle.tip_branch.specs.Always.{Always};
 ghost use Rattle.tip_machine.specs.Honest.{brings_no_party};
@@ -13,16 +13,16 @@ use std::alloc::Global;
 use std::marker::Model;
 use tip_branch::HeldParty;
 use tip_core::Core;
-use tip_host::{Host, are_untold, done};
 use tip_machine::Event;
 use tip_rows::RowLog;
+use tip_stored::{StoredCore, are_untold, done};
 use tip_table::{Table, Test};
 
-/// A host, and the parties of its realms that are out. Its events come, its errands are done, and its realms start again by what it
-/// is shown to do alone.
+/// A stored core, and the parties of its realms that are out. Its events come, its errands are done, and its realms start again by
+/// what it is shown to do alone.
 #[derive(Drop)]
 pub struct Running<S> {
-    pub(crate) host: Host<S, Core>,
+    pub(crate) stored: StoredCore<S, Core>,
     /// By realm, the oldest first.
     pub(crate) out: Table<HeldParty>,
 }
@@ -32,9 +32,9 @@ impl<S> Model for Running<S> {
 
     ghost Value = { Running S };
 
-    ghost view = { λ r. record { host = r.host; out = r.out } };
+    ghost view = { λ r. record { stored = r.stored; out = r.out } };
 
-    ghost invariant = { λ r. AreOfRealms (record { host = r.host; out = r.out }) };
+    ghost invariant = { λ r. AreOfRealms (record { stored = r.stored; out = r.out }) };
 }
 
 /// Any party.
@@ -51,14 +51,14 @@ impl Test<HeldParty> for Any {
 }
 
 impl<S: RowLog + Drop> Running<S> {
-    /// This host, with no party out.
-    pub fn new(alloc: Global, host: Host<S, Core>) -> Running<S>
+    /// This stored core, with no party out.
+    pub fn new(alloc: Global, stored: StoredCore<S, Core>) -> Running<S>
         requires { Always }
-        ensures host { result.host ≡ host }
+        ensures stored { result.stored ≡ stored }
         ensures out { (place : ℕ) → of result.out place ≡ [] }
     {
         Running {
-            host,
+            stored,
             out: Table::new(alloc),
         }
     }
@@ -72,10 +72,10 @@ impl<S: RowLog + Drop> Running<S> {
     ) -> Result<Shown, RunFault>
         requires { Always }
         ensures nobody { OnOk result (brings_no_party event ≡ true) }
-        ensures comes { IfOk result (λ shown. Comes S.stands S.may_leave S.is_true S.faults S.is_due
+        ensures comes { IfOk result (λ shown. Comes S.keeping
             (around self.old) (around self.new) realm event shown) }
-        ensures why { IfErr result (IsWhyNotStepped self.old.host.is_stopped event) }
-        ensures stopped { self.new.host.is_stopped ≡ self.old.host.is_stopped }
+        ensures why { IfErr result (IsWhyNotStepped self.old.stored.is_stopped event) }
+        ensures stopped { self.new.stored.is_stopped ≡ self.old.stored.is_stopped }
     {
         if !brings_no_party(&event) {
             return Err(RunFault::Party);
@@ -86,10 +86,11 @@ impl<S: RowLog + Drop> Running<S> {
     /// The oldest party that is out of a realm does its errand and comes back. Where none is out, nothing happens.
     pub(crate) fn go(&mut self, alloc: Global, realm: usize) -> Result<Option<Shown>, RunFault>
         requires { Always }
-        ensures goes { IfOk result (λ shown. Goes S.stands S.may_leave S.is_true S.faults S.is_due
+        ensures goes { IfOk result (λ shown. Goes S.keeping
             (around self.old) (around self.new) realm (of self.old.out realm) shown) }
-        ensures why { IfErr result (IsWhyNotBack self.old.host.is_stopped (of self.old.out realm)) }
-        ensures stopped { self.new.host.is_stopped ≡ self.old.host.is_stopped }
+        ensures why { IfErr result
+            (IsWhyNotBack self.old.stored.is_stopped (of self.old.out realm)) }
+        ensures stopped { self.new.stored.is_stopped ≡ self.old.stored.is_stopped }
     {
         let Some(party) = self.take_oldest(realm) else {
             return Ok(None);
@@ -106,7 +107,7 @@ impl<S: RowLog + Drop> Running<S> {
         ensures loses { IfOk result (λ shown. Loses (around self.old) (around self.new) realm
             (of self.old.out realm) shown) }
         ensures why { IfErr result IsWhyNotLost }
-        ensures stopped { self.new.host.is_stopped ≡ self.old.host.is_stopped }
+        ensures stopped { self.new.stored.is_stopped ≡ self.old.stored.is_stopped }
     {
         let party = self.take_oldest(realm);
         if party.is_none() {
@@ -118,14 +119,14 @@ impl<S: RowLog + Drop> Running<S> {
 
     /// An event of a realm; the party that it sends out is out.
     fn happen(&mut self, alloc: Global, realm: usize, event: Event) -> Result<Shown, RunFault>
-        ensures happens { IfOk result (λ shown. Happens S.stands S.may_leave S.is_true S.faults
-            S.is_due (around self.old) (around self.new) realm event shown) }
-        ensures why { IfErr result (IsWhyNotHappened self.old.host.is_stopped) }
-        ensures stopped { self.new.host.is_stopped ≡ self.old.host.is_stopped }
+        ensures happens { IfOk result
+            (λ shown. Happens S.keeping (around self.old) (around self.new) realm event shown) }
+        ensures why { IfErr result (IsWhyNotHappened self.old.stored.is_stopped) }
+        ensures stopped { self.new.stored.is_stopped ≡ self.old.stored.is_stopped }
     {
         let back = brought(alloc, &event)?;
         self.out.reserve()?;
-        let happened = match self.host.step(alloc, realm, event) {
+        let happened = match self.stored.step(alloc, realm, event) {
             Ok(happened) => happened,
             Err((fault, _)) => return Err(RunFault::Step(fault)),
         };
@@ -138,7 +139,7 @@ impl<S: RowLog + Drop> Running<S> {
 
     /// The oldest party that is out of a realm is out no more.
     fn take_oldest(&mut self, realm: usize) -> Option<HeldParty>
-        ensures host { self.new.host ≡ self.old.host }
+        ensures stored { self.new.stored ≡ self.old.stored }
         ensures none { IfNone result ((of self.old.out realm ≡ []) × (self.new ≡ self.old)) }
         ensures some { IfSome result
             (λ party. of self.old.out realm ≡ party ∷ of self.new.out realm) }

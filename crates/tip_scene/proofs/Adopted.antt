@@ -3,7 +3,7 @@ use Rattle.std.proofs.Common.{◌≡◌, ◌∷◌, [], List, Bool, true, false,
 use Rattle.std.specs.Prelude.{◌&&◌, ◌==◌, length, not}
 use Rattle.std.proofs.lemmas.Bool.Decides.{nat_tests}
 use Rattle.tip_branch.specs.declared.branch.Badge.{Badge}
-use Rattle.tip_host.specs.Recovering.{adopted_each, all_adopted, are_for_each}
+use Rattle.tip_stored.specs.Recovering.{adopted_each, all_adopted, are_for_each}
 use Rattle.tip_recovery.specs.Adopting.{Recovery, Unfinished, adopted_all, are_adopted, are_for, are_for_all, waits, with_boxes}
 use Rattle.tip_rows.specs.Rows.{branches_of}
 

@@ -6,10 +6,10 @@ use Rattle.std.specs.Option.{option_map_or}
 use Rattle.std.proofs.lemmas.Option.{none-some, same_Some}
 use Rattle.tip_branch.specs.declared.branch.Badge.{Badge}
 use Rattle.tip_core.specs.Hosted.{realm}
-use Rattle.tip_host.specs.Loading as Host
-use Rattle.tip_host.specs.Loading.{Loads}
-use Rattle.tip_host.specs.Recovering.{Recovering, adopted_each}
-use Rattle.tip_host.specs.declared.realm_spec.RealmSpec.{RealmSpec}
+use Rattle.tip_stored.specs.Loading as Loading
+use Rattle.tip_stored.specs.Loading.{Loads}
+use Rattle.tip_stored.specs.Recovering.{Recovering, adopted_each}
+use Rattle.tip_stored.specs.declared.realm_spec.RealmSpec.{RealmSpec}
 use Rattle.tip_machine.proofs.Storing.{each_found}
 use Rattle.tip_machine.specs.Moves as Moves
 use Rattle.tip_machine.specs.Recovery.{Loaded, restarted}
@@ -17,11 +17,11 @@ use Rattle.tip_machine.specs.States.{State}
 use Rattle.tip_machine.specs.declared.head.Head.{Head}
 use Rattle.tip_recovery.specs.Adopting.{Recovery, Unfinished, adopted_all, given, loaded, unadopted, with_boxes}
 use Rattle.tip_rows.specs.Keys.{Key}
-use Rattle.tip_rows.specs.Logs.{Log, is_rising, last_epoch}
+use Rattle.tip_rows.specs.Logs.{Keeping, Log, is_rising, last_epoch}
 use Rattle.tip_rows.specs.declared.row.Row.{Row}
 use Rattle.tip_actor.proofs.Lists.{partner}
 use Rattle.tip_actor.specs.Acting.{Acting, boxes_in, is_at_end, restarts, willing_boxes}
-use Rattle.tip_actor.specs.Standing.{Actor, Host as AHost, Keeping, keeping}
+use Rattle.tip_actor.specs.Standing.{Actor, StoredCore as AStoredCore}
 use Rattle.tip_scene.proofs.Loaded.{beyond, loaded_at, waits}
 use Rattle.tip_scene.specs.Rising.{AreAgain, AreAnew, AreNew, AreRising, AreWaiting, IsAnew, IsNew, IsRising, IsWaiting}
 use Rattle.tip_scene.specs.Scenes as Scenes
@@ -111,21 +111,21 @@ all_adopt kept recovering scene are = record { each = λ place acting here. adop
 -- All realms
 
 -- each realm was loaded again
-pub wait_again : {S : Type 0} (stands may_leave : S → Log → Type 0) (is_true : S → Type 0) (faults : S → ℕ) (is_due : S → List ℕ → Bool) (host : AHost S) (actors : List Actor) (scene : Scene) (specs : List RealmSpec) (recovering : Recovering S) → IsScene (keeping stands is_true is_due) host actors scene →
-    ((place : ℕ) → slice_get specs place ≡ option_map (λ (state : State). Host.spec_of state.head) (realm host.core place)) → Loads stands may_leave is_true faults is_due specs host.store (Ok recovering) → is_true recovering.store → AreWaiting (keeping stands is_true is_due) recovering (map after scene)
-wait_again stands may_leave is_true faults is_due host actors scene specs recovering is specs_are loads truth = record {
+pub wait_again : {S : Type 0} (kept : Keeping S) (stored_core : AStoredCore S) (actors : List Actor) (scene : Scene) (specs : List RealmSpec) (recovering : Recovering S) → IsScene kept stored_core actors scene →
+    ((place : ℕ) → slice_get specs place ≡ option_map (λ (state : State). Loading.spec_of state.head) (realm stored_core.core place)) → Loads kept specs stored_core.store (Ok recovering) → kept.is_true recovering.store → AreWaiting kept recovering (map after scene)
+wait_again kept stored_core actors scene specs recovering is specs_are loads truth = record {
   each = λ place again here.
       let was = unmapped_at after scene place again here in
       let mate = partner scene actors place was.0 (sym is.count) was.1 in
       let acts = is.each place mate.0 was.0 mate.1 was.1 in
       let head = was.0.world.state.head in
-      let spec = specs_are place ∙ ap (option_map (λ (state : State). Host.spec_of state.head)) acts.served.state_is in
-      let loaded_ = loaded_at stands may_leave is_true faults is_due specs host.store recovering loads truth place (Host.spec_of head) acts.stored.log head.epoch was.0.world.rows spec acts.stored.stood acts.stored.part in
-      subst (IsWaiting (keeping stands is_true is_due) recovering place) (sym was.2)
-      (waits (keeping stands is_true is_due) host.store recovering place (Host.spec_of head) head.epoch was.0.world.rows was.0.name was.0.due [] loaded_ acts.named acts.served.due_is);
+      let spec = specs_are place ∙ ap (option_map (λ (state : State). Loading.spec_of state.head)) acts.served.state_is in
+      let loaded_ = loaded_at kept specs stored_core.store recovering loads truth place (Loading.spec_of head) acts.stored.log head.epoch was.0.world.rows spec acts.stored.stood acts.stored.part in
+      subst (IsWaiting kept recovering place) (sym was.2)
+      (waits kept stored_core.store recovering place (Loading.spec_of head) head.epoch was.0.world.rows was.0.name was.0.due [] loaded_ acts.named acts.served.due_is);
   beyond = λ place none.
       let nobody = is.beyond place (none_mapped after scene place none) in
-      beyond stands may_leave is_true faults is_due specs host.store recovering loads place (specs_are place ∙ ap (option_map (λ (state : State). Host.spec_of state.head)) nobody);
+      beyond kept specs stored_core.store recovering loads place (specs_are place ∙ ap (option_map (λ (state : State). Loading.spec_of state.head)) nobody);
 }
 
 -- nothing has come to any realm
@@ -147,8 +147,8 @@ all_anew (n ∷ news) [] scene are count same = absurd are
 all_anew (n ∷ news) (o ∷ olds) [] are count same = absurd (omega (arith, count))
 all_anew (n ∷ news) (o ∷ olds) (y ∷ scene) are count same = let own = same 0 o y refl refl in (anew_are_new n o y are.0 own.0 own.1, all_anew news olds scene are.1 (omega (arith, count)) (λ place. same (suc place)))
 
-pub new_again : {S : Type 0} (kept : Keeping S) (host : AHost S) (olds : List Actor) (scene : Scene) → IsScene kept host olds scene → AreAgain olds (map after scene)
-new_again kept host olds scene is = λ news are. all_anew news olds scene are is.count (λ place old acting o s. let acts = is.each place old acting o s in (acts.own.name, acts.own.due))
+pub new_again : {S : Type 0} (kept : Keeping S) (stored_core : AStoredCore S) (olds : List Actor) (scene : Scene) → IsScene kept stored_core olds scene → AreAgain olds (map after scene)
+new_again kept stored_core olds scene is = λ news are. all_anew news olds scene are is.count (λ place old acting o s. let acts = is.each place old acting o s in (acts.own.name, acts.own.due))
 
 -- The last epoch
 
@@ -158,13 +158,13 @@ same_lists [] (y ∷ ys) same = absurd (none-some y (same 0))
 same_lists (x ∷ xs) [] same = absurd (none-some x (sym (same 0)))
 same_lists (x ∷ xs) (y ∷ ys) same = ap (λ z. z ∷ xs) (same_Some x y (same 0)) ∙ ap (λ l. y ∷ l) (same_lists xs ys (λ place. same (suc place)))
 
-heads_at : {S : Type 0} (kept : Keeping S) (host : AHost S) (actors : List Actor) (scene : Scene) → IsScene kept host actors scene → (place : ℕ) (found : Option Acting) → slice_get scene place ≡ found → option_map (λ (state : State). state.head) (realm host.core place) ≡ slice_get (map (λ (a : Acting). a.world.state.head) scene) place
-heads_at kept host actors scene is place None none = ap (option_map (λ (state : State). state.head)) (is.beyond place none) ∙ sym (none_of scene place none) where
+heads_at : {S : Type 0} (kept : Keeping S) (stored_core : AStoredCore S) (actors : List Actor) (scene : Scene) → IsScene kept stored_core actors scene → (place : ℕ) (found : Option Acting) → slice_get scene place ≡ found → option_map (λ (state : State). state.head) (realm stored_core.core place) ≡ slice_get (map (λ (a : Acting). a.world.state.head) scene) place
+heads_at kept stored_core actors scene is place None none = ap (option_map (λ (state : State). state.head)) (is.beyond place none) ∙ sym (none_of scene place none) where
   none_of : (scene : Scene) (place : ℕ) → slice_get scene place ≡ None → slice_get (map (λ (a : Acting). a.world.state.head) scene) place ≡ None
   none_of [] place none = refl
   none_of (y ∷ scene) zero none = absurd (none-some y (sym none))
   none_of (y ∷ scene) (suc place) none = none_of scene place none
-heads_at kept host actors scene is place (Some acting) here =
+heads_at kept stored_core actors scene is place (Some acting) here =
     let mate = partner scene actors place acting (sym is.count) here in
     ap (option_map (λ (state : State). state.head)) (is.each place mate.0 acting mate.1 here).served.state_is ∙ sym (mapped_at (λ (a : Acting). a.world.state.head) scene place acting here)
 
@@ -173,17 +173,17 @@ any_mapped [] = refl
 any_mapped (y ∷ scene) = ap (λ b. is_at_end y || b) (any_mapped scene)
 
 -- the heads tell whether a realm is in its last epoch
-pub any_at_end : {S : Type 0} (kept : Keeping S) (host : AHost S) (actors : List Actor) (scene : Scene) (heads : List Head) → IsScene kept host actors scene → ((place : ℕ) → slice_get heads place ≡ option_map (λ (state : State). state.head) (realm host.core place)) → list_any (λ (head : Head). head.epoch == last_epoch) heads ≡ list_any is_at_end scene
-any_at_end kept host actors scene heads is heads_are =
-    ap (list_any (λ (head : Head). head.epoch == last_epoch)) (same_lists heads (map (λ (a : Acting). a.world.state.head) scene) (λ place. heads_are place ∙ heads_at kept host actors scene is place (slice_get scene place) refl)) ∙ any_mapped scene
+pub any_at_end : {S : Type 0} (kept : Keeping S) (stored_core : AStoredCore S) (actors : List Actor) (scene : Scene) (heads : List Head) → IsScene kept stored_core actors scene → ((place : ℕ) → slice_get heads place ≡ option_map (λ (state : State). state.head) (realm stored_core.core place)) → list_any (λ (head : Head). head.epoch == last_epoch) heads ≡ list_any is_at_end scene
+any_at_end kept stored_core actors scene heads is heads_are =
+    ap (list_any (λ (head : Head). head.epoch == last_epoch)) (same_lists heads (map (λ (a : Acting). a.world.state.head) scene) (λ place. heads_are place ∙ heads_at kept stored_core actors scene is place (slice_get scene place) refl)) ∙ any_mapped scene
 
 -- where one is, nothing is done
 pub stays_put : (scene : Scene) (printed : List ℕ) → list_any is_at_end scene ≡ true → ((Scenes.restarted scene).scene ≡ None) × (printed ≡ printed ++ (Scenes.restarted scene).printed)
 stays_put scene printed last = rw last (refl, sym (append-nil printed))
 
 -- else all start again, and are at work
-pub starts_again : {S : Type 0} (kept : Keeping S) (host : AHost S) (actors : List Actor) (scene : Scene) (printed between printed' : List ℕ) → list_any is_at_end scene ≡ false → between ≡ printed ++ flat_map (λ (acting : Acting). (restarts acting).printed) scene → printed' ≡ between ++ Scenes.openings_text (map after scene) → IsScene kept host actors (map after scene) → IsMoved kept host actors printed printed' (Scenes.restarted scene)
-starts_again kept host actors scene printed between printed' none first second stands = rw none (record {
+pub starts_again : {S : Type 0} (kept : Keeping S) (stored_core : AStoredCore S) (actors : List Actor) (scene : Scene) (printed between printed' : List ℕ) → list_any is_at_end scene ≡ false → between ≡ printed ++ flat_map (λ (acting : Acting). (restarts acting).printed) scene → printed' ≡ between ++ Scenes.openings_text (map after scene) → IsScene kept stored_core actors (map after scene) → IsMoved kept stored_core actors printed printed' (Scenes.restarted scene)
+starts_again kept stored_core actors scene printed between printed' none first second stands = rw none (record {
   text = second ∙ ap (λ t. t ++ Scenes.openings_text (map after scene)) first ∙ append_assoc printed (flat_map (λ (acting : Acting). (restarts acting).printed) scene) (Scenes.openings_text (map after scene));
   scene = map after scene;
   is = refl;

@@ -1,4 +1,5 @@
 -- Realms that have started are at work.
+use Rattle.tip_rows.specs.Logs.{Keeping}
 use Rattle.std.proofs.Common.{◌≡◌, ◌+◌, ◌≤◌, ◌++◌, ℕ, zero, suc, List, [], ◌∷◌, Option, Some, None, append-nil, append_assoc, arith, drop, length, map, refl, sym, ap, subst, ◌∙◌}
 use Rattle.std.specs.Prelude.{option_map, slice_get}
 use Rattle.std.specs.List.{flat_map}
@@ -8,7 +9,7 @@ use Rattle.std.proofs.lemmas.List.Concat.{flat_map-cons}
 use Rattle.std.proofs.lemmas.Option.{none-some, same_Some}
 use Rattle.tip_branch.specs.declared.branch.Badge.{Badge}
 use Rattle.tip_core.specs.Hosted.{HaveNames, realm}
-use Rattle.tip_host.specs.Recovering.{Recovering, recovered}
+use Rattle.tip_stored.specs.Recovering.{Recovering, recovered}
 use Rattle.tip_machine.specs.Answers.{identifier}
 use Rattle.tip_recovery.specs.Adopting.{Recovery, Unfinished, given, unadopted, with_boxes}
 use Rattle.tip_rows.specs.Keys.{Key}
@@ -16,7 +17,7 @@ use Rattle.tip_rows.specs.Rows.{branches_of}
 use Rattle.tip_rows.specs.declared.row.Row.{Row}
 use Rattle.tip_transcript.specs.Printing.{adopted_text, start_text}
 use Rattle.tip_actor.specs.Acting.{Acting, adoption_text, opening_text}
-use Rattle.tip_actor.specs.Standing.{Actor, AreReadings, Host, IsActing, IsStored, Keeping}
+use Rattle.tip_actor.specs.Standing.{Actor, AreReadings, StoredCore, IsActing, IsStored}
 use Rattle.tip_actor.specs.declared.reader.Reader.{Reader}
 use Rattle.tip_scene.specs.Rising.{AreAnew, AreNew, AreRising, IsAnew, IsNew, IsRising}
 use Rattle.tip_scene.specs.Scenes.{Scene}
@@ -109,17 +110,17 @@ no_readings : (readers : List Reader) (acting : Acting) → readers ≡ [] → a
 no_readings readers acting none nothing = rw (none, nothing) tt
 
 -- what begins: the store is as it was, and each realm is as recovery makes it
-pub record HasBegun {S : Type 0} (recovering : Recovering S) (host : Host S) : Type 0 where
-  pub store : host.store ≡ recovering.store
-  pub realms : (place : ℕ) → realm host.core place ≡ recovered (slice_get recovering.realms place) (realm recovering.core place)
-  pub names : HaveNames host.core
+pub record HasBegun {S : Type 0} (recovering : Recovering S) (stored_core : StoredCore S) : Type 0 where
+  pub store : stored_core.store ≡ recovering.store
+  pub realms : (place : ℕ) → realm stored_core.core place ≡ recovered (slice_get recovering.realms place) (realm recovering.core place)
+  pub names : HaveNames stored_core.core
 
 recovered_none : (found : Option Recovery) → recovered found None ≡ None
 recovered_none None = refl
 recovered_none (Some recovery) = refl
 
-module _ {S : Type 0} (kept : Keeping S) (recovering : Recovering S) (host : Host S) (begun : HasBegun recovering host) where
-  acts_at : (place : ℕ) (actor : Actor) (acting : Acting) → IsNew actor acting → IsRising kept recovering place acting → IsActing kept host place actor acting
+module _ {S : Type 0} (kept : Keeping S) (recovering : Recovering S) (stored_core : StoredCore S) (begun : HasBegun recovering stored_core) where
+  acts_at : (place : ℕ) (actor : Actor) (acting : Acting) → IsNew actor acting → IsRising kept recovering place acting → IsActing kept stored_core place actor acting
   acts_at place actor acting new rising = record {
     served = record {
       state_is = begun.realms place ∙ ap (λ found. recovered found (realm recovering.core place)) rising.there ∙ ap (recovered (Some rising.recovery)) rising.core ∙ ap Some (sym rising.state);
@@ -136,7 +137,7 @@ module _ {S : Type 0} (kept : Keeping S) (recovering : Recovering S) (host : Hos
     };
   }
 
-  pub begins : (actors : List Actor) (scene : Scene) → AreNew actors scene → AreRising kept recovering scene → IsScene kept host actors scene
+  pub begins : (actors : List Actor) (scene : Scene) → AreNew actors scene → AreRising kept recovering scene → IsScene kept stored_core actors scene
   begins actors scene are rising = record {
     count = new_count actors scene are;
     each = λ place actor acting a s. acts_at place actor acting (new_at actors scene place actor acting are a s) (rising.each place acting s);

@@ -6,7 +6,7 @@ use Rattle.std.specs.Cmp.{unsigned_Decides}
 use Rattle.std.proofs.lemmas.Bool.{and_from}
 use Rattle.std.proofs.lemmas.List.Folds.{list_all-append}
 use Rattle.std.proofs.lemmas.Option.{none-some, same_Some}
-use Rattle.tip_host.specs.Loading.{are_declared}
+use Rattle.tip_stored.specs.Loading.{are_declared}
 use Rattle.tip_machine.specs.Heads.{are_allowed, is_within}
 use Rattle.tip_machine.specs.Starting.{are_counted_from}
 use Rattle.tip_machine.specs.declared.head.Limits.{Limits}

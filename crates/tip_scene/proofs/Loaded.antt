@@ -3,20 +3,20 @@ use Rattle.std.proofs.Common.{◌≡◌, ◌+◌, ◌<◌, ℕ, Bool, true, List
 use Rattle.std.specs.Prelude.{Ok, is_some, slice_get}
 use Rattle.std.proofs.lemmas.Bool.Decides.{nat_tests}
 use Rattle.tip_core.specs.Hosted.{realm}
-use Rattle.tip_host.proofs.Opening.{named_at, no_start, read_at, start_at}
-use Rattle.tip_host.proofs.Parts.{can_open, number_of, opened_known, opened_part}
-use Rattle.tip_host.specs.Loading.{Loads, names_of, opened, start_of}
-use Rattle.tip_host.specs.Recovering.{Recovering}
-use Rattle.tip_host.specs.declared.realm_spec.RealmSpec.{RealmSpec}
+use Rattle.tip_stored.proofs.Opening.{named_at, no_start, read_at, start_at}
+use Rattle.tip_stored.proofs.Parts.{can_open, number_of, opened_known, opened_part}
+use Rattle.tip_stored.specs.Loading.{Loads, names_of, opened, start_of}
+use Rattle.tip_stored.specs.Recovering.{Recovering}
+use Rattle.tip_stored.specs.declared.realm_spec.RealmSpec.{RealmSpec}
 use Rattle.tip_machine.proofs.Storing.{same_rows}
 use Rattle.tip_machine.specs.Heads.{starting}
 use Rattle.tip_machine.specs.States.{started}
 use Rattle.tip_recovery.specs.Adopting.{Recovery, unadopted}
 use Rattle.tip_rows.specs.Keys.{Key}
-use Rattle.tip_rows.specs.Logs.{IsPart, Log, last_epoch, raised_number}
+use Rattle.tip_rows.specs.Logs.{Keeping, IsPart, Log, last_epoch, raised_number}
 use Rattle.tip_rows.specs.declared.row.Row.{Row}
 use Rattle.tip_actor.specs.Acting.{Reading}
-use Rattle.tip_actor.specs.Standing.{IsStored, Keeping, keeping}
+use Rattle.tip_actor.specs.Standing.{IsStored}
 use Rattle.tip_scene.specs.Acts.{world_of}
 use Rattle.tip_scene.specs.Rising.{IsWaiting}
 
@@ -30,13 +30,13 @@ pub record IsLoaded {S : Type 0} (kept : Keeping S) (store : S) (recovering : Re
   pub due : kept.is_due recovering.store spec.name ≡ kept.is_due store spec.name
   pub core : realm recovering.core place ≡ Some (started (starting (start_of spec recovery.epoch)))
 
-module _ {S : Type 0} (stands may_leave : S → Log → Type 0) (is_true : S → Type 0) (faults : S → ℕ) (is_due : S → List ℕ → Bool)
-    (specs : List RealmSpec) (store : S) (recovering : Recovering S) (loads : Loads stands may_leave is_true faults is_due specs store (Ok recovering)) where
+module _ {S : Type 0} (kept : Keeping S)
+    (specs : List RealmSpec) (store : S) (recovering : Recovering S) (loads : Loads kept specs store (Ok recovering)) where
   -- no other realm has started
   pub beyond : (place : ℕ) → slice_get specs place ≡ None → realm recovering.core place ≡ None
   beyond place none = loads.realms place ∙ ap (option_map (λ start. started (starting start))) (no_start specs recovering.realms place none)
 
-  pub loaded_at : is_true recovering.store → (place : ℕ) (spec : RealmSpec) (log : Log) (epoch : ℕ) (rows : List (Key × Row)) → slice_get specs place ≡ Some spec → stands store log → IsPart log spec.name epoch rows → IsLoaded (keeping stands is_true is_due) store recovering place spec epoch rows
+  pub loaded_at : kept.is_true recovering.store → (place : ℕ) (spec : RealmSpec) (log : Log) (epoch : ℕ) (rows : List (Key × Row)) → slice_get specs place ≡ Some spec → kept.stands store log → IsPart log spec.name epoch rows → IsLoaded kept store recovering place spec epoch rows
   loaded_at truth place spec log epoch rows here stood part =
       let names = names_of specs in
       let named = named_at specs place spec here in

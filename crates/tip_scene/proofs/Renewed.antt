@@ -7,9 +7,9 @@ use Rattle.std.specs.Str.{bytes_eq}
 use Rattle.std.proofs.lemmas.Option.{none-some, same_Some}
 use Rattle.tip_branch.specs.declared.branch.Badge.{Badge}
 use Rattle.tip_core.specs.Hosted.{HaveNames, realm}
-use Rattle.tip_host.proofs.Parts.{renewed_known, renewed_others, renewed_part, rises}
-use Rattle.tip_host.specs.Loading.{IsRead}
-use Rattle.tip_host.specs.Renewing.{IsRenewed}
+use Rattle.tip_stored.proofs.Parts.{renewed_known, renewed_others, renewed_part, rises}
+use Rattle.tip_stored.specs.Loading.{IsRead}
+use Rattle.tip_stored.specs.Renewing.{IsRenewed}
 use Rattle.tip_machine.proofs.Storing.{same_rows}
 use Rattle.tip_machine.specs.Moves as Moves
 use Rattle.tip_machine.specs.Recovery.{restarted}
@@ -17,7 +17,7 @@ use Rattle.tip_machine.specs.Types.{Transaction}
 use Rattle.tip_machine.specs.declared.head.Head.{Head}
 use Rattle.tip_recovery.specs.Adopting.{Recovery, Unfinished, adopted_all, loaded, unadopted}
 use Rattle.tip_rows.specs.Keys.{Key}
-use Rattle.tip_rows.specs.Logs.{IsPart, IsSpent, Log, last_epoch, with_raised}
+use Rattle.tip_rows.specs.Logs.{Keeping, IsPart, IsSpent, Log, last_epoch, with_raised}
 use Rattle.tip_rows.specs.declared.row.Row.{Row}
 use Rattle.tip_transcript.specs.Printing.{refusal_text, shown_text, start_text}
 use Rattle.tip_line.specs.declared.refusal.Refusal.TheVariants.{EpochEnd, Refused}
@@ -25,7 +25,7 @@ use Rattle.tip_actor.proofs.Doing.{leaves_on, stays}
 use Rattle.tip_actor.proofs.Leaving.{left_here, shown_each}
 use Rattle.tip_actor.proofs.Serving.{itself}
 use Rattle.tip_actor.specs.Acting.{Acting, boxes_in, renewed, renews, willing_boxes}
-use Rattle.tip_actor.specs.Standing.{Actor, AreReadings, Host, IsActing, IsDone, IsStored, Keeping, Leaves}
+use Rattle.tip_actor.specs.Standing.{Actor, AreReadings, StoredCore, IsActing, IsDone, IsStored, Leaves}
 use Rattle.tip_scene.proofs.Again.{boxes_of_rows, boxes_unadopted, loads_same}
 use Rattle.tip_scene.proofs.Begun.{row_text, said_all}
 use Rattle.tip_scene.specs.Rising.{IsWilling, willing_rows}
@@ -63,20 +63,20 @@ pub not_due : (b : Bool) → (IsTrue b → ⊥) → b ≡ false
 not_due true never = absurd (never refl)
 not_due false never = refl
 
-module _ {S : Type 0} (kept : Keeping S) (host new : Host S) (place : ℕ) (actor actor' : Actor) (acting : Acting) (is : IsActing kept host place actor acting) where
+module _ {S : Type 0} (kept : Keeping S) (stored_core new : StoredCore S) (place : ℕ) (actor actor' : Actor) (acting : Acting) (is : IsActing kept stored_core place actor acting) where
   own_name : actor.name ≡ acting.world.state.head.name
   own_name = is.own.name ∙ sym is.named
 
   -- it has started again, by what is stored of it
-  state_again : (recovery : Recovery) → IsWilling recovery acting → IsRenewed kept.stands kept.is_true recovery acting.world.state host.store new.store (realm new.core place) → realm new.core place ≡ Some (Moves.restarted_from (boxes_in acting.world.rows) acting.world)
+  state_again : (recovery : Recovery) → IsWilling recovery acting → IsRenewed kept recovery acting.world.state stored_core.store new.store (realm new.core place) → realm new.core place ≡ Some (Moves.restarted_from (boxes_in acting.world.rows) acting.world)
   state_again recovery willing after = after.state_is ∙ ap (λ rows. Some (restarted (Moves.risen acting.world.state.head) rows)) (ap (map loaded) willing ∙ sym (loads_same acting.name acting.world.rows is.stored.part.rising))
 
-  module _ (stood : (log : Log) → kept.stands host.store log → kept.stands new.store (with_raised acting.world.state.head.name log)) (spent : IsSpent (kept.is_due host.store) (kept.is_due new.store) acting.world.state.head.name) where
-    leaves_renewed : ((other : ℕ) → other ≢ place → realm new.core other ≡ realm host.core other) → Leaves kept host new place actor.name
+  module _ (stood : (log : Log) → kept.stands stored_core.store log → kept.stands new.store (with_raised acting.world.state.head.name log)) (spent : IsSpent (kept.is_due stored_core.store) (kept.is_due new.store) acting.world.state.head.name) where
+    leaves_renewed : ((other : ℕ) → other ≢ place → realm new.core other ≡ realm stored_core.core other) → Leaves kept stored_core new place actor.name
     leaves_renewed others =
         let name = acting.world.state.head.name in record {
           realms = others;
-          due = λ other differ. spent other ∙ ap (λ n. if bytes_eq n other then false else kept.is_due host.store other) (sym own_name) ∙ rw differ refl;
+          due = λ other differ. spent other ∙ ap (λ n. if bytes_eq n other then false else kept.is_due stored_core.store other) (sym own_name) ∙ rw differ refl;
           stored = λ other epoch rows differ stored. record {
             log = with_raised name stored.log;
             stood = stood stored.log stored.stood;
@@ -85,18 +85,18 @@ module _ {S : Type 0} (kept : Keeping S) (host new : Host S) (place : ℕ) (acto
           };
         }
 
-    pub renews_so : (recovery : Recovery) → IsWilling recovery acting → IsRenewed kept.stands kept.is_true recovery acting.world.state host.store new.store (realm new.core place) →
-        (IsTrue (kept.is_due host.store acting.world.state.head.name) → ⊥) → (acting.world.state.head.epoch == last_epoch) ≡ false →
-        ((other : ℕ) → other ≢ place → realm new.core other ≡ realm host.core other) → HaveNames new.core →
+    pub renews_so : (recovery : Recovery) → IsWilling recovery acting → IsRenewed kept recovery acting.world.state stored_core.store new.store (realm new.core place) →
+        (IsTrue (kept.is_due stored_core.store acting.world.state.head.name) → ⊥) → (acting.world.state.head.epoch == last_epoch) ≡ false →
+        ((other : ℕ) → other ≢ place → realm new.core other ≡ realm stored_core.core other) → HaveNames new.core →
         actor'.name ≡ actor.name → actor'.readers.items ≡ [] → actor'.errands ≡ actor.errands → actor'.is_due ≡ actor.is_due →
-        (printed printed' : List ℕ) → printed' ≡ printed ++ (renewed acting.due acting).printed → IsDone kept host new place actor actor' printed printed' (renewed acting.due acting)
+        (printed printed' : List ℕ) → printed' ≡ printed ++ (renewed acting.due acting).printed → IsDone kept stored_core new place actor actor' printed printed' (renewed acting.due acting)
     renews_so recovery willing after never not_last others names name' readers' errands' due' printed printed' text =
         let name = acting.world.state.head.name in
         let rows = acting.world.rows in
         let log = is.stored.log in
-        let due : acting.due ≡ false = sym is.served.due_is ∙ not_due (kept.is_due host.store name) never in
+        let due : acting.due ≡ false = sym is.served.due_is ∙ not_due (kept.is_due stored_core.store name) never in
         let epoch = rises log name acting.world.state.head.epoch rows is.stored.part is.stored.known not_last in
-        subst (λ b. IsDone kept host new place actor actor' printed printed' (renewed b acting)) (sym due) (record {
+        subst (λ b. IsDone kept stored_core new place actor actor' printed printed' (renewed b acting)) (sym due) (record {
           own = record {
             served = record {
               state_is = state_again recovery willing after;
@@ -123,13 +123,13 @@ module _ {S : Type 0} (kept : Keeping S) (host new : Host S) (place : ℕ) (acto
         })
 
   -- the store was to refuse it
-  pub refuses_so : ((log : Log) → kept.stands host.store log → kept.stands new.store log) → IsSpent (kept.is_due host.store) (kept.is_due new.store) acting.world.state.head.name → ((other : ℕ) → realm new.core other ≡ realm host.core other) →
+  pub refuses_so : ((log : Log) → kept.stands stored_core.store log → kept.stands new.store log) → IsSpent (kept.is_due stored_core.store) (kept.is_due new.store) acting.world.state.head.name → ((other : ℕ) → realm new.core other ≡ realm stored_core.core other) →
       actor.is_due ≡ true → actor'.name ≡ actor.name → actor'.readers ≡ actor.readers → actor'.errands ≡ actor.errands → actor'.is_due ≡ false →
-      (printed printed' : List ℕ) → printed' ≡ printed ++ refusal_text actor.name Refused → IsDone kept host new place actor actor' printed printed' (renewed acting.due acting)
+      (printed printed' : List ℕ) → printed' ≡ printed ++ refusal_text actor.name Refused → IsDone kept stored_core new place actor actor' printed printed' (renewed acting.due acting)
   refuses_so stood spent same due name' readers' errands' due' printed printed' text =
       let name = acting.world.state.head.name in
       let was_due : acting.due ≡ true = sym is.own.due ∙ due in
-      subst (λ b. IsDone kept host new place actor actor' printed printed' (renewed b acting)) (sym was_due) (record {
+      subst (λ b. IsDone kept stored_core new place actor actor' printed printed' (renewed b acting)) (sym was_due) (record {
         own = record {
           served = record {
             state_is = same place ∙ is.served.state_is;
@@ -147,7 +147,7 @@ module _ {S : Type 0} (kept : Keeping S) (host new : Host S) (place : ℕ) (acto
         };
         leaves = record {
           realms = λ other differ. same other;
-          due = λ other differ. spent other ∙ ap (λ n. if bytes_eq n other then false else kept.is_due host.store other) (sym own_name) ∙ rw differ refl;
+          due = λ other differ. spent other ∙ ap (λ n. if bytes_eq n other then false else kept.is_due stored_core.store other) (sym own_name) ∙ rw differ refl;
           stored = λ other epoch rows differ stored. record { log = stored.log; stood = stood stored.log stored.stood; part = stored.part; known = stored.known };
         };
         name = name';
@@ -174,19 +174,19 @@ module _ (head : Head) (found : Option Head) (result : Option ℕ) (there : foun
 
 -- The whole
 
-module _ {S : Type 0} (kept : Keeping S) (host : Host S) (place : ℕ) (actor : Actor) (acting : Acting) (is : IsActing kept host place actor acting) where
-  pub at_its_end : (printed printed' : List ℕ) → (acting.world.state.head.epoch == last_epoch) ≡ true → printed' ≡ printed ++ refusal_text actor.name EpochEnd → IsDone kept host host place actor actor printed printed' (renews acting)
+module _ {S : Type 0} (kept : Keeping S) (stored_core : StoredCore S) (place : ℕ) (actor : Actor) (acting : Acting) (is : IsActing kept stored_core place actor acting) where
+  pub at_its_end : (printed printed' : List ℕ) → (acting.world.state.head.epoch == last_epoch) ≡ true → printed' ≡ printed ++ refusal_text actor.name EpochEnd → IsDone kept stored_core stored_core place actor actor printed printed' (renews acting)
   at_its_end printed printed' last text = rw last (record {
     own = is;
-    leaves = stays kept host place actor.name;
+    leaves = stays kept stored_core place actor.name;
     name = refl;
     text = text ∙ ap (λ n. printed ++ refusal_text n EpochEnd) is.own.name;
   })
 
-  pub renews_all : (mid host' : Host S) (actor' : Actor) (printed printed' : List ℕ) → (acting.world.state.head.epoch == last_epoch) ≡ false → Leaves kept host mid place actor.name → IsDone kept mid host' place actor actor' printed printed' (renewed acting.due acting) → IsDone kept host host' place actor actor' printed printed' (renews acting)
-  renews_all mid host' actor' printed printed' not_last first done = rw not_last (record {
+  pub renews_all : (mid stored_core' : StoredCore S) (actor' : Actor) (printed printed' : List ℕ) → (acting.world.state.head.epoch == last_epoch) ≡ false → Leaves kept stored_core mid place actor.name → IsDone kept mid stored_core' place actor actor' printed printed' (renewed acting.due acting) → IsDone kept stored_core stored_core' place actor actor' printed printed' (renews acting)
+  renews_all mid stored_core' actor' printed printed' not_last first done = rw not_last (record {
     own = done.own;
-    leaves = leaves_on kept host mid host' place actor.name first done.leaves;
+    leaves = leaves_on kept stored_core mid stored_core' place actor.name first done.leaves;
     name = done.name;
     text = done.text;
   })
@@ -195,24 +195,24 @@ module _ {S : Type 0} (kept : Keeping S) (host : Host S) (place : ℕ) (actor : 
 pub still_stored : {S : Type 0} (kept : Keeping S) (old new : S) → ((log : Log) → kept.stands old log → kept.stands new log) → (name : List ℕ) (epoch : ℕ) (rows : List (Key × Row)) → IsStored kept old name epoch rows → IsStored kept new name epoch rows
 still_stored kept old new stood name epoch rows stored = record { log = stored.log; stood = stood stored.log stored.stood; part = stored.part; known = stored.known }
 
-module _ {S : Type 0} (kept : Keeping S) (host mid : Host S) (core : mid.core ≡ host.core) (stood : (log : Log) → kept.stands host.store log → kept.stands mid.store log) (due : (name : List ℕ) → kept.is_due mid.store name ≡ kept.is_due host.store name) (place : ℕ) where
-  pub acts_still : (actor : Actor) (acting : Acting) → IsActing kept host place actor acting → IsActing kept mid place actor acting
+module _ {S : Type 0} (kept : Keeping S) (stored_core mid : StoredCore S) (core : mid.core ≡ stored_core.core) (stood : (log : Log) → kept.stands stored_core.store log → kept.stands mid.store log) (due : (name : List ℕ) → kept.is_due mid.store name ≡ kept.is_due stored_core.store name) (place : ℕ) where
+  pub acts_still : (actor : Actor) (acting : Acting) → IsActing kept stored_core place actor acting → IsActing kept mid place actor acting
   acts_still actor acting acts = record {
     served = record {
       state_is = ap (λ c. realm c place) core ∙ acts.served.state_is;
       names = subst HaveNames (sym core) acts.served.names;
       due_is = due acting.world.state.head.name ∙ acts.served.due_is;
     };
-    stored = still_stored kept host.store mid.store stood acting.world.state.head.name acting.world.state.head.epoch acting.world.rows acts.stored;
+    stored = still_stored kept stored_core.store mid.store stood acting.world.state.head.name acting.world.state.head.epoch acting.world.rows acts.stored;
     named = acts.named;
     own = acts.own;
   }
 
-  pub leaves_still : (name : List ℕ) → Leaves kept host mid place name
+  pub leaves_still : (name : List ℕ) → Leaves kept stored_core mid place name
   leaves_still name = record {
     realms = λ other differ. ap (λ c. realm c other) core;
     due = λ other differ. due other;
-    stored = λ other epoch rows differ stored. still_stored kept host.store mid.store stood other epoch rows stored;
+    stored = λ other epoch rows differ stored. still_stored kept stored_core.store mid.store stood other epoch rows stored;
   }
 
 -- of each realm that it may be

@@ -1,4 +1,5 @@
 -- Declared realms, and what a line makes of a stage.
+use Rattle.tip_rows.specs.Logs.{Keeping}
 use Rattle.std.proofs.Common.{◌≡◌, ◌≢◌, ◌<◌, ◌++◌, ◌∷◌, [], ℕ, List, true, false, ◌==◌, nat_lt, Some, option_map, length, arith, refl, sym, ap, subst, ◌∙◌}
 use Rattle.std.specs.Prelude.{Err, Ok, Option, Result, if◌then◌else◌}
 use Rattle.std.specs.List.{list_all}
@@ -15,7 +16,6 @@ use Rattle.tip_script.specs.declared.instruction.Instruction.{Instruction}
 use Rattle.tip_script.specs.declared.instruction.Instruction.TheVariants as instruction
 use Rattle.tip_scene.specs.Acts.{Stage, Declaring, Playing, Acted, Basis, acted, acted_by, acts, acts_if, declaration_of, declared, is_count, is_other, may_say, not_understood, scene_of, starts_text}
 use Rattle.tip_scene.specs.Scenes.{Scene, moved}
-use Rattle.tip_actor.specs.Standing.{Keeping}
 use Rattle.tip_scene.specs.Stages.{APlaying, AStage, ActsSo, Declared, Declares, IsDeclared, IsBasis, IsReliable, IsStage, Moves}
 use Rattle.tip_scene.specs.Standing.{IsScene, IsMoved}
 use Rattle.tip_scene.specs.declared.declared.Declaration.{Declaration}
@@ -59,14 +59,14 @@ module _ {S : Type 0} (kept : Keeping S) (basis : Basis) where
   declares_not realms realms' declarations printed more result fault.Store store is said err = tt
 
   -- once they have
-  pub plays_on : (playing playing' : APlaying S) (printed printed' : List ℕ) (move : Move) (now : Stage) → IsStage kept basis (stage.Playing playing) now → ((scene : Scene) → IsScene kept playing.host playing.actors.items scene → Moves kept printed printed' (moved move scene) (Ok playing')) →
+  pub plays_on : (playing playing' : APlaying S) (printed printed' : List ℕ) (move : Move) (now : Stage) → IsStage kept basis (stage.Playing playing) now → ((scene : Scene) → IsScene kept playing.stored_core playing.actors.items scene → Moves kept printed printed' (moved move scene) (Ok playing')) →
       ActsSo kept basis printed printed' (acts basis now move) (Ok (stage.Playing playing'))
   plays_on playing playing' printed printed' move (Declaring declarations) is moves = absurd is
   plays_on playing playing' printed printed' move (Playing scene) is moves = λ truth.
       let m = moves scene is truth in
       (Playing m.scene, ap (option_map Playing) m.is, m.stands, m.text)
 
-  pub plays_not : (playing : APlaying S) (printed printed' : List ℕ) (move : Move) (why : LineFault × Option S) (now : Stage) → IsStage kept basis (stage.Playing playing) now → ((scene : Scene) → IsScene kept playing.host playing.actors.items scene → Moves kept printed printed' (moved move scene) (Err why)) →
+  pub plays_not : (playing : APlaying S) (printed printed' : List ℕ) (move : Move) (why : LineFault × Option S) (now : Stage) → IsStage kept basis (stage.Playing playing) now → ((scene : Scene) → IsScene kept playing.stored_core playing.actors.items scene → Moves kept printed printed' (moved move scene) (Err why)) →
       ActsSo kept basis printed printed' (acts basis now move) (Err why)
   plays_not playing printed printed' move why (Declaring declarations) is moves = absurd is
   plays_not playing printed printed' move (fault.NotUnderstood, store) (Playing scene) is moves = λ truth.
@@ -115,7 +115,7 @@ module _ {S : Type 0} (kept : Keeping S) (basis : Basis) (declarations : List De
       second ∙ ap (λ t. t ++ (moved (move_by i) (scene_of basis declarations)).printed) first ∙ append_assoc printed (starts_text basis declarations) (moved (move_by i) (scene_of basis declarations)).printed
       ∙ ap (λ (a : Acted). printed ++ a.printed) (sym (starts_first basis declarations i other unlabelled))
 
-  pub plays_first : (playing : APlaying S) → (kept.is_true playing.host.store → (between ≡ printed ++ starts_text basis declarations) × IsMoved kept playing.host playing.actors.items between printed' (moved (move_by i) (scene_of basis declarations))) →
+  pub plays_first : (playing : APlaying S) → (kept.is_true playing.stored_core.store → (between ≡ printed ++ starts_text basis declarations) × IsMoved kept playing.stored_core playing.actors.items between printed' (moved (move_by i) (scene_of basis declarations))) →
       ActsSo kept basis printed printed' (acts basis (Declaring declarations) (move_by i)) (Ok (stage.Playing playing))
   plays_first playing all = λ truth.
       let m = (all truth).1 in

@@ -2,12 +2,11 @@
 use Rattle.std.proofs.Common.{◌≡◌, ℕ, zero, suc, List, [], ◌∷◌, Some, None, map, refl, sym, ap, subst, ◌∙◌}
 use Rattle.std.specs.Prelude.{Bool, Ok, false, slice_get}
 use Rattle.std.proofs.lemmas.Option.{none-some, same_Some}
-use Rattle.tip_host.specs.Loading.{Loads}
-use Rattle.tip_host.specs.Recovering.{Recovering}
-use Rattle.tip_host.specs.declared.realm_spec.RealmSpec.{RealmSpec}
-use Rattle.tip_rows.specs.Logs.{Log}
+use Rattle.tip_stored.specs.Loading.{Loads}
+use Rattle.tip_stored.specs.Recovering.{Recovering}
+use Rattle.tip_stored.specs.declared.realm_spec.RealmSpec.{RealmSpec}
+use Rattle.tip_rows.specs.Logs.{Keeping, Log}
 use Rattle.tip_actor.specs.Acting.{Acting}
-use Rattle.tip_actor.specs.Standing.{keeping}
 use Rattle.tip_scene.proofs.Loaded.{beyond, loaded_at, waits}
 use Rattle.tip_scene.specs.Acts.{Basis, acting_of, scene_of}
 use Rattle.tip_scene.specs.Rising.{AreWaiting, IsWaiting}
@@ -24,15 +23,15 @@ none_declared basis [] place none = refl
 none_declared basis (d ∷ declarations) zero none = absurd (none-some (acting_of basis d) (sym none))
 none_declared basis (d ∷ declarations) (suc place) none = none_declared basis declarations place none
 
-pub all_wait : {S : Type 0} (stands may_leave : S → Log → Type 0) (is_true : S → Type 0) (faults : S → ℕ) (is_due : S → List ℕ → Bool) (store : S) (recovering : Recovering S) (basis : Basis) (declarations : List Declaration) (specs : List RealmSpec) → IsBasis (keeping stands is_true is_due) basis store → specs ≡ map spec_of declarations →
-    Loads stands may_leave is_true faults is_due specs store (Ok recovering) → is_true recovering.store → AreWaiting (keeping stands is_true is_due) recovering (scene_of basis declarations)
-all_wait stands may_leave is_true faults is_due store recovering basis declarations specs on specs_are loads truth = record {
+pub all_wait : {S : Type 0} (kept : Keeping S) (store : S) (recovering : Recovering S) (basis : Basis) (declarations : List Declaration) (specs : List RealmSpec) → IsBasis kept basis store → specs ≡ map spec_of declarations →
+    Loads kept specs store (Ok recovering) → kept.is_true recovering.store → AreWaiting kept recovering (scene_of basis declarations)
+all_wait kept store recovering basis declarations specs on specs_are loads truth = record {
   each = λ place acting here.
       let is = declaration_at basis declarations place acting here in
       let before = basis.before is.0.name in
       let spec = ap (λ l. slice_get l place) specs_are ∙ is.1 in
-      let loaded_ = loaded_at stands may_leave is_true faults is_due specs store recovering loads truth place (spec_of is.0) on.log before.epoch before.rows spec on.stood (on.before is.0.name) in
-      subst (IsWaiting (keeping stands is_true is_due) recovering place) (sym is.2)
-      (waits (keeping stands is_true is_due) store recovering place (spec_of is.0) before.epoch before.rows is.0.name false [] loaded_ refl (on.none_due is.0.name));
-  beyond = λ place none. beyond stands may_leave is_true faults is_due specs store recovering loads place (ap (λ l. slice_get l place) specs_are ∙ none_declared basis declarations place none);
+      let loaded_ = loaded_at kept specs store recovering loads truth place (spec_of is.0) on.log before.epoch before.rows spec on.stood (on.before is.0.name) in
+      subst (IsWaiting kept recovering place) (sym is.2)
+      (waits kept store recovering place (spec_of is.0) before.epoch before.rows is.0.name false [] loaded_ refl (on.none_due is.0.name));
+  beyond = λ place none. beyond kept specs store recovering loads place (ap (λ l. slice_get l place) specs_are ∙ none_declared basis declarations place none);
 }

@@ -1,4 +1,5 @@
 -- Realms that have started, before they are at work.
+use Rattle.tip_rows.specs.Logs.{Keeping}
 use Rattle.std.specs.Prelude.{◌≡◌, ℕ, List, [], ◌∷◌, map, Some, None, slice_get}
 use Rattle.tip_branch.specs.declared.branch.Badge.{Badge}
 use Rattle.tip_core.specs.Hosted.{realm}
@@ -6,9 +7,9 @@ use Rattle.tip_machine.specs.Moves as Moves
 use Rattle.tip_machine.specs.Recovery.{restarted}
 use Rattle.tip_machine.specs.States.{started}
 use Rattle.tip_recovery.specs.Adopting.{Recovery, Unfinished, given, loaded, unadopted, with_boxes}
-use Rattle.tip_host.specs.Recovering.{Recovering}
+use Rattle.tip_stored.specs.Recovering.{Recovering}
 use Rattle.tip_actor.specs.Acting.{Acting, boxes_in, willing_boxes}
-use Rattle.tip_actor.specs.Standing.{Actor, IsStored, Keeping}
+use Rattle.tip_actor.specs.Standing.{Actor, IsStored}
 use Rattle.tip_scene.specs.Scenes.{Scene}
 
 -- nothing has come to it, and no party is out

@@ -2,12 +2,12 @@
 use Rattle.std.specs.Prelude.{◌≡◌, ℕ, List, ◌++◌, true, false, Option, Some, None, Result, Ok, Err}
 use Rattle.std.specs.List.{list_all}
 use Rattle.tip_actor.specs.Acting.{boxes_of}
-use Rattle.tip_actor.specs.Standing.{Actor, Host, Keeping}
+use Rattle.tip_actor.specs.Standing.{Actor, StoredCore}
 use Rattle.tip_core.specs.Hosted.{Hosted}
-use Rattle.tip_host.specs.declared.realm_spec.RealmSpec.{RealmSpec}
+use Rattle.tip_stored.specs.declared.realm_spec.RealmSpec.{RealmSpec}
 use Rattle.tip_branch.specs.Lots.{badges_of}
 use Rattle.tip_branch.specs.declared.branch.Standing.{Standing}
-use Rattle.tip_rows.specs.Logs.{IsPart, Log}
+use Rattle.tip_rows.specs.Logs.{Keeping, IsPart, Log}
 use Rattle.tip_script.specs.Scripts.{Move, plans_of, plans_with}
 use Rattle.tip_scene.specs.Acts.{Stage, Declaring, Playing, Acted, Basis}
 use Rattle.tip_scene.specs.Hosting.{may_be_hosted}
@@ -27,7 +27,7 @@ abbrev pub Declared : Type 0 → Type 0
 Declared S = declarations.Declared S Hosted
 
 abbrev pub APlaying : Type 0 → Type 0
-APlaying S = playings.Playing (Host S) Actor
+APlaying S = playings.Playing (StoredCore S) Actor
 
 abbrev pub AStage : Type 0 → Type 0
 AStage S = stages.Stage (Declared S) (APlaying S)
@@ -35,12 +35,12 @@ AStage S = stages.Stage (Declared S) (APlaying S)
 -- the store of a stage
 abbrev pub store_of : {S : Type 0} → AStage S → S
 store_of (stage.Declaring realms) = realms.store
-store_of (stage.Playing playing) = playing.host.store
+store_of (stage.Playing playing) = playing.stored_core.store
 
--- realms that are declared may be hosted so, and the host of those at work was not stopped
+-- realms that are declared may be hosted so, and the stored core of those at work was not stopped
 abbrev pub IsSound : {S : Type 0} → AStage S → Type 0
 IsSound (stage.Declaring realms) = list_all may_be_hosted realms.declarations.items ≡ true
-IsSound (stage.Playing playing) = playing.host.is_stopped ≡ false
+IsSound (stage.Playing playing) = playing.stored_core.is_stopped ≡ false
 
 -- a realm as it is to be hosted
 abbrev pub spec_of : Declaration → RealmSpec
@@ -75,7 +75,7 @@ abbrev pub IsStage : {S : Type 0} → Keeping S → Basis → AStage S → Stage
 IsStage kept basis (stage.Declaring realms) (Declaring declarations) = IsDeclared kept basis realms declarations
 IsStage kept basis (stage.Declaring realms) (Playing scene) = ⊥
 IsStage kept basis (stage.Playing playing) (Declaring declarations) = ⊥
-IsStage kept basis (stage.Playing playing) (Playing scene) = IsScene kept playing.host playing.actors.items scene
+IsStage kept basis (stage.Playing playing) (Playing scene) = IsScene kept playing.stored_core playing.actors.items scene
 
 -- a realm more was declared, or may not be; where memory ends nothing is said
 abbrev pub Declares : Option (List Declaration) → List Declaration → Result (Unit {0}) LineFault → Type 0
@@ -86,14 +86,14 @@ Declares more now (Err Store) = Unit {0}
 
 -- a line was done, or may not stand here; where memory ends, or the store refuses, nothing is said
 abbrev pub Serves : {S : Type 0} → Keeping S → List ℕ → List ℕ → Moved → APlaying S → Result (Unit {0}) LineFault → Type 0
-Serves kept printed printed' moved playing (Ok done) = IsMoved kept playing.host playing.actors.items printed printed' moved
+Serves kept printed printed' moved playing (Ok done) = IsMoved kept playing.stored_core playing.actors.items printed printed' moved
 Serves kept printed printed' moved playing (Err NotUnderstood) = (moved.scene ≡ None) × (printed' ≡ printed ++ moved.printed)
 Serves kept printed printed' moved playing (Err Memory) = Unit {0}
 Serves kept printed printed' moved playing (Err Store) = Unit {0}
 
 -- the same, as long as the store may be relied on
 abbrev pub Moves : {S : Type 0} → Keeping S → List ℕ → List ℕ → Moved → Result (APlaying S) (LineFault × Option S) → Type 0
-Moves kept printed printed' moved (Ok playing) = kept.is_true playing.host.store → IsMoved kept playing.host playing.actors.items printed printed' moved
+Moves kept printed printed' moved (Ok playing) = kept.is_true playing.stored_core.store → IsMoved kept playing.stored_core playing.actors.items printed printed' moved
 Moves kept printed printed' moved (Err (NotUnderstood, store)) = IsReliable kept store → (moved.scene ≡ None) × (printed' ≡ printed ++ moved.printed)
 Moves kept printed printed' moved (Err (Memory, store)) = Unit {0}
 Moves kept printed printed' moved (Err (Store, store)) = Unit {0}

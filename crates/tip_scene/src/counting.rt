@@ -8,16 +8,16 @@ use tip_actor::{ActFault, Actor};
 use tip_line::Realm;
 use tip_rows::{LoadFault, RowLog};
 
-/// How many branches the stored rows of these realms have, or those of the realm of this name alone. The store is read, and stays as
-/// it is.
+/// How many branches the stored rows of these realms have, or those of the realm of this name alone. The store is read, and stays
+/// as it is.
 pub(crate) fn count_declared<S: RowLog + Drop>(
     store: &mut S,
     declarations: &[Declaration],
     only: Option<&str>,
 ) -> Result<usize, ActFault>
-    ensures stands { (log : Log) → S.stands store.old log → S.stands store.new log }
-    ensures due { (r : List ℕ) → S.is_due store.new r ≡ S.is_due store.old r }
-    ensures truth { S.is_true store.new → S.is_true store.old }
+    ensures stands { (log : Log) → S.keeping.stands store.old log → S.keeping.stands store.new log }
+    ensures due { (r : List ℕ) → S.keeping.is_due store.new r ≡ S.keeping.is_due store.old r }
+    ensures truth { S.keeping.is_true store.new → S.keeping.is_true store.old }
 {
     let mut count: usize = 0;
     for declaration in declarations {
@@ -33,9 +33,9 @@ pub(crate) fn count_acting<S: RowLog + Drop>(
     actors: &[Actor],
     only: Option<&str>,
 ) -> Result<usize, ActFault>
-    ensures stands { (log : Log) → S.stands store.old log → S.stands store.new log }
-    ensures due { (r : List ℕ) → S.is_due store.new r ≡ S.is_due store.old r }
-    ensures truth { S.is_true store.new → S.is_true store.old }
+    ensures stands { (log : Log) → S.keeping.stands store.old log → S.keeping.stands store.new log }
+    ensures due { (r : List ℕ) → S.keeping.is_due store.new r ≡ S.keeping.is_due store.old r }
+    ensures truth { S.keeping.is_true store.new → S.keeping.is_true store.old }
 {
     let mut count: usize = 0;
     for actor in actors {
@@ -52,9 +52,9 @@ fn count_more<S: RowLog + Drop>(
     realm: &Realm,
     only: Option<&str>,
 ) -> Result<usize, ActFault>
-    ensures stands { (log : Log) → S.stands store.old log → S.stands store.new log }
-    ensures due { (r : List ℕ) → S.is_due store.new r ≡ S.is_due store.old r }
-    ensures truth { S.is_true store.new → S.is_true store.old }
+    ensures stands { (log : Log) → S.keeping.stands store.old log → S.keeping.stands store.new log }
+    ensures due { (r : List ℕ) → S.keeping.is_due store.new r ≡ S.keeping.is_due store.old r }
+    ensures truth { S.keeping.is_true store.new → S.keeping.is_true store.old }
 {
     if !is_meant(realm, only) {
         return Ok(count);

@@ -4,7 +4,6 @@ ghost use Rattle.std.specs.List.{list_all, position_or_len};
 ghost use Rattle.tip_branch.specs.Always.{Always};
 ghost use Rattle.tip_line.specs.Fields.{fields_of};
 ghost use Rattle.tip_line.specs.Words.{is_address, is_realm};
-ghost use Rattle.tip_actor.specs.Standing.{keeping};
 ghost use Rattle.tip_scene.specs.Acts.{Basis, declaration_of, declared, is_count, is_declared, is_other, labelled, scene_of, starts_text, with_labels};
 ghost use Rattle.tip_scene.specs.Boxes.{AreWilling};
 ghost use Rattle.tip_scene.specs.Hosting.{may_be_hosted};
@@ -23,10 +22,10 @@ use std::collections::VecDeque;
 use tip_actor::{ActFault, Actor};
 use tip_branch::Branch;
 use tip_core::Core;
-use tip_host::{Host, RealmSpec};
 use tip_line::{Address, Realm};
 use tip_machine::Limits;
 use tip_rows::{Branches, RowLog};
+use tip_stored::{RealmSpec, StoredCore};
 
 /// How many realms a script may declare.
 const MOST_REALMS: usize = 64;
@@ -56,8 +55,8 @@ impl<S: RowLog + Drop> Declared<S, Core> {
         requires { Always }
         ensures store { result.store ≡ store }
         ensures hostable { list_all may_be_hosted result.declarations.items ≡ true }
-        ensures none { (basis : Basis) → IsBasis (keeping S.stands S.is_true S.is_due) basis store →
-            IsDeclared (keeping S.stands S.is_true S.is_due) basis result [] }
+        ensures none { (basis : Basis) → IsBasis S.keeping basis store →
+            IsDeclared S.keeping basis result [] }
     {
         Declared {
             core,
@@ -119,21 +118,22 @@ impl<S: RowLog + Drop> Declared<S, Core> {
         alloc: Global,
         pool: &mut Vec<Box<dyn Branch + Send>>,
         printed: &mut String,
-    ) -> Result<Playing<Host<S>>, (ActFault, Option<S>)>
+    ) -> Result<Playing<StoredCore<S>>, (ActFault, Option<S>)>
         requires hostable { list_all may_be_hosted self.declarations.items ≡ true }
         requires willing { AreWilling (map standing pool.old.items) }
         ensures willing { OnOk result (AreWilling (map standing pool.new.items)) }
-        ensures running { IfOk result (λ playing. playing.host.is_stopped ≡ false) }
-        ensures truth { Trusts (keeping S.stands S.is_true S.is_due) self.store
-            (λ playing. playing.host.store) result }
+        ensures running { IfOk result (λ playing. playing.stored_core.is_stopped ≡ false) }
+        ensures truth { Trusts S.keeping self.store
+            (λ playing. playing.stored_core.store) result }
         ensures text { (basis : Basis) (declarations : List Declaration) →
-            IsDeclared (keeping S.stands S.is_true S.is_due) basis self declarations →
-            IfOk result (λ playing. S.is_true playing.host.store → string_bytes printed.new
+            IsDeclared S.keeping basis self declarations →
+            IfOk result (λ playing. S.keeping.is_true playing.stored_core.store →
+            string_bytes printed.new
             ≡ string_bytes printed.old ++ starts_text basis declarations) }
         ensures scene { (basis : Basis) (declarations : List Declaration) →
-            IsDeclared (keeping S.stands S.is_true S.is_due) basis self declarations →
-            IfOk result (λ playing. S.is_true playing.host.store → IsScene
-            (keeping S.stands S.is_true S.is_due) playing.host playing.actors.items
+            IsDeclared S.keeping basis self declarations →
+            IfOk result (λ playing. S.keeping.is_true playing.stored_core.store → IsScene
+            S.keeping playing.stored_core playing.actors.items
             (scene_of basis declarations)) }
     {
         let Declared {
@@ -144,7 +144,7 @@ impl<S: RowLog + Drop> Declared<S, Core> {
         let Ok((actors, specs)) = parts_of(alloc, declarations) else {
             return Err((ActFault::Memory, Some(store)));
         };
-        match Host::load(alloc, store, core, specs) {
+        match StoredCore::load(alloc, store, core, specs) {
             Ok(recovering) => match rise(alloc, recovering, actors, pool, printed) {
                 Ok(playing) => Ok(playing),
                 Err(fault) => Err((fault, None)),
@@ -157,10 +157,10 @@ impl<S: RowLog + Drop> Declared<S, Core> {
     pub(crate) fn willing(&mut self, only: Option<&str>) -> Result<usize, ActFault>
         requires { Always }
         ensures same { self.new.declarations ≡ self.old.declarations }
-        ensures truth { S.is_true self.new.store → S.is_true self.old.store }
+        ensures truth { S.keeping.is_true self.new.store → S.keeping.is_true self.old.store }
         ensures stands { (basis : Basis) (declarations : List Declaration) →
-            IsDeclared (keeping S.stands S.is_true S.is_due) basis self.old declarations →
-            IsDeclared (keeping S.stands S.is_true S.is_due) basis self.new declarations }
+            IsDeclared S.keeping basis self.old declarations →
+            IsDeclared S.keeping basis self.new declarations }
     {
         count_declared(&mut self.store, &self.declarations, only)
     }

@@ -3,7 +3,7 @@ ghost use Rattle.std.specs.Prelude.{◌≡◌, Some, None, true, false, map, IfO
 ghost use Rattle.std.specs.List.{position_or_len};
 ghost use Rattle.tip_branch.specs.Always.{Always};
 ghost use Rattle.tip_actor.specs.Acting.{Acting, boxes_of};
-ghost use Rattle.tip_actor.specs.Standing.{IsActing, Tells, keeping};
+ghost use Rattle.tip_actor.specs.Standing.{IsActing, Tells};
 ghost use Rattle.tip_script.specs.Moves.{move_by};
 ghost use Rattle.tip_script.specs.Scripts.{Renew as Renews, is_start, plans_with, realm_of};
 ghost use Rattle.tip_branch.specs.Lots.{AreIn};
@@ -23,20 +23,20 @@ use crate::restarting::restart;
 use std::alloc::Global;
 use tip_actor::{ActFault, Actor, Refuser};
 use tip_branch::{Branch, HeldFresh};
-use tip_host::Host;
 use tip_machine::Event;
 use tip_rows::RowLog;
 use tip_script::Instruction;
+use tip_stored::StoredCore;
 use tip_transcript::{print_idle, print_nowhere};
 
 /// All realms, each at its place in the order of declaration.
 #[derive(Drop)]
 pub struct Playing<H, A = Actor> {
-    pub host: H,
+    pub stored_core: H,
     pub actors: Vec<A>,
 }
 
-impl<S: RowLog + Drop> Playing<Host<S>, Actor> {
+impl<S: RowLog + Drop> Playing<StoredCore<S>, Actor> {
     /// Does what a line says, with the boxes that come with it, and willing ones for rows out of a pool; then all lines of its
     /// realm that may be taken are taken. `NotUnderstood` where the line may not stand here. At a fault the store comes back, but
     /// where memory ends in a start.
@@ -48,18 +48,18 @@ impl<S: RowLog + Drop> Playing<Host<S>, Actor> {
         boxes: Vec<Box<dyn Branch + Send>>,
         pool: &mut Vec<Box<dyn Branch + Send>>,
         printed: &mut String,
-    ) -> Result<Playing<Host<S>>, (LineFault, Option<S>)>
-        requires running { self.host.is_stopped ≡ false }
+    ) -> Result<Playing<StoredCore<S>>, (LineFault, Option<S>)>
+        requires running { self.stored_core.is_stopped ≡ false }
         requires active { AreIn Active (map standing boxes.items) }
         requires willing { AreWilling (map standing pool.old.items) }
-        ensures running { IfOk result (λ playing. playing.host.is_stopped ≡ false) }
-        ensures truth { Trusts (keeping S.stands S.is_true S.is_due) self.host.store
-            (λ playing. playing.host.store) result }
+        ensures running { IfOk result (λ playing. playing.stored_core.is_stopped ≡ false) }
+        ensures truth { Trusts S.keeping self.stored_core.store
+            (λ playing. playing.stored_core.store) result }
         ensures moves { (scene : Scene) →
-            IsScene (keeping S.stands S.is_true S.is_due) self.host self.actors.items scene →
+            IsScene S.keeping self.stored_core self.actors.items scene →
             may_say R.may (move_by instruction.entry) ≡ true →
             ComeWith (Some (move_by instruction.entry)) (map standing boxes.items) →
-            Moves (keeping S.stands S.is_true S.is_due) (string_bytes printed.old)
+            Moves S.keeping (string_bytes printed.old)
             (string_bytes printed.new) (moved (move_by instruction.entry) scene) result }
     {
         let Some(realm) = instruction.realm() else {
@@ -67,7 +67,7 @@ impl<S: RowLog + Drop> Playing<Host<S>, Actor> {
         };
         match self.serve(alloc, refuser, realm, instruction, boxes, pool, printed) {
             Ok(()) => Ok(self),
-            Err(fault) => Err((fault, Some(self.host.shut()))),
+            Err(fault) => Err((fault, Some(self.stored_core.shut()))),
         }
     }
 
@@ -83,16 +83,17 @@ impl<S: RowLog + Drop> Playing<Host<S>, Actor> {
         printed: &mut String,
     ) -> Result<(), LineFault>
         requires named { realm_of (move_by instruction) ≡ Some realm.now }
-        requires running { self.old.host.is_stopped ≡ false }
+        requires running { self.old.stored_core.is_stopped ≡ false }
         requires active { AreIn Active (map standing boxes.items) }
         requires willing { AreWilling (map standing pool.old.items) }
-        ensures running { self.new.host.is_stopped ≡ false }
-        ensures truth { S.is_true self.new.host.store → S.is_true self.old.host.store }
-        ensures serves { (scene : Scene) → IsScene (keeping S.stands S.is_true S.is_due)
-            self.old.host self.old.actors.items scene →
+        ensures running { self.new.stored_core.is_stopped ≡ false }
+        ensures truth { S.keeping.is_true self.new.stored_core.store →
+            S.keeping.is_true self.old.stored_core.store }
+        ensures serves { (scene : Scene) → IsScene S.keeping
+            self.old.stored_core self.old.actors.items scene →
             may_say R.may (move_by instruction.entry) ≡ true →
             ComeWith (Some (move_by instruction.entry)) (map standing boxes.items) →
-            S.is_true self.new.host.store → Serves (keeping S.stands S.is_true S.is_due)
+            S.keeping.is_true self.new.stored_core.store → Serves S.keeping
             (string_bytes printed.old) (string_bytes printed.new)
             (moved (move_by instruction.entry) scene) self.new result }
     {
@@ -111,13 +112,15 @@ impl<S: RowLog + Drop> Playing<Host<S>, Actor> {
         pool: &mut Vec<Box<dyn Branch + Send>>,
         printed: &mut String,
     ) -> Result<(), LineFault>
-        requires running { self.old.host.is_stopped ≡ false }
+        requires running { self.old.stored_core.is_stopped ≡ false }
         requires willing { AreWilling (map standing pool.old.items) }
-        ensures running { self.new.host.is_stopped ≡ false }
-        ensures truth { S.is_true self.new.host.store → S.is_true self.old.host.store }
-        ensures serves { (scene : Scene) → IsScene (keeping S.stands S.is_true S.is_due)
-            self.old.host self.old.actors.items scene → S.is_true self.new.host.store →
-            Serves (keeping S.stands S.is_true S.is_due) (string_bytes printed.old)
+        ensures running { self.new.stored_core.is_stopped ≡ false }
+        ensures truth { S.keeping.is_true self.new.stored_core.store →
+            S.keeping.is_true self.old.stored_core.store }
+        ensures serves { (scene : Scene) → IsScene S.keeping
+            self.old.stored_core self.old.actors.items scene →
+            S.keeping.is_true self.new.stored_core.store →
+            Serves S.keeping (string_bytes printed.old)
             (string_bytes printed.new) (moved_in (Renews name.now) (Some name.now) scene)
             self.new result }
     {
@@ -126,9 +129,9 @@ impl<S: RowLog + Drop> Playing<Host<S>, Actor> {
             print_nowhere(printed, name)?;
             return Ok(());
         };
-        let host = &mut self.host;
-        renew(actor, alloc, host, place, pool, printed)?;
-        actor.settle(alloc, host, place, printed)?;
+        let stored_core = &mut self.stored_core;
+        renew(actor, alloc, stored_core, place, pool, printed)?;
+        actor.settle(alloc, stored_core, place, printed)?;
         Ok(())
     }
 
@@ -143,14 +146,15 @@ impl<S: RowLog + Drop> Playing<Host<S>, Actor> {
         printed: &mut String,
     ) -> Result<(), LineFault>
         requires same { is_start (move_by instruction) ≡ false }
-        requires running { self.old.host.is_stopped ≡ false }
-        ensures running { self.new.host.is_stopped ≡ false }
-        ensures truth { S.is_true self.new.host.store → S.is_true self.old.host.store }
-        ensures serves { (scene : Scene) → IsScene (keeping S.stands S.is_true S.is_due)
-            self.old.host self.old.actors.items scene →
+        requires running { self.old.stored_core.is_stopped ≡ false }
+        ensures running { self.new.stored_core.is_stopped ≡ false }
+        ensures truth { S.keeping.is_true self.new.stored_core.store →
+            S.keeping.is_true self.old.stored_core.store }
+        ensures serves { (scene : Scene) → IsScene S.keeping
+            self.old.stored_core self.old.actors.items scene →
             may_say R.may (move_by instruction.entry) ≡ true →
             boxes ≡ boxes_of (plans_with (move_by instruction.entry)) →
-            Serves (keeping S.stands S.is_true S.is_due) (string_bytes printed.old)
+            Serves S.keeping (string_bytes printed.old)
             (string_bytes printed.new)
             (moved_in (move_by instruction.entry) (Some realm.now) scene) self.new result }
     {
@@ -158,12 +162,12 @@ impl<S: RowLog + Drop> Playing<Host<S>, Actor> {
         let Some(actor) = self.actors.get_mut(place) else {
             return print_elsewhere(printed, instruction);
         };
-        let host = &mut self.host;
+        let stored_core = &mut self.stored_core;
         if !obey(
             actor,
             alloc,
             refuser,
-            host,
+            stored_core,
             place,
             instruction,
             boxes,
@@ -171,21 +175,22 @@ impl<S: RowLog + Drop> Playing<Host<S>, Actor> {
         )? {
             return Err(LineFault::NotUnderstood);
         }
-        actor.settle(alloc, &mut self.host, place, printed)?;
+        actor.settle(alloc, &mut self.stored_core, place, printed)?;
         Ok(())
     }
 
     /// How many boxes a start wants: a willing one for each branch of each stored row, of one realm or of all.
     pub(crate) fn willing(&mut self, only: Option<&str>) -> Result<usize, ActFault>
         requires { Always }
-        ensures running { self.new.host.is_stopped ≡ self.old.host.is_stopped }
-        ensures truth { S.is_true self.new.host.store → S.is_true self.old.host.store }
-        ensures stands { (scene : Scene) → IsScene (keeping S.stands S.is_true S.is_due)
-            self.old.host self.old.actors.items scene →
-            IsScene (keeping S.stands S.is_true S.is_due) self.new.host self.new.actors.items
+        ensures running { self.new.stored_core.is_stopped ≡ self.old.stored_core.is_stopped }
+        ensures truth { S.keeping.is_true self.new.stored_core.store →
+            S.keeping.is_true self.old.stored_core.store }
+        ensures stands { (scene : Scene) → IsScene S.keeping
+            self.old.stored_core self.old.actors.items scene →
+            IsScene S.keeping self.new.stored_core self.new.actors.items
             scene }
     {
-        count_acting(&mut self.host.store, &self.actors, only)
+        count_acting(&mut self.stored_core.store, &self.actors, only)
     }
 
     /// The place of a realm; one behind all realms where it is not declared.
@@ -206,21 +211,22 @@ fn obey<S: RowLog + Drop, R: Refuser<S>>(
     actor: &mut Actor,
     alloc: Global,
     refuser: &R,
-    host: &mut Host<S>,
+    stored_core: &mut StoredCore<S>,
     place: usize,
     instruction: Instruction<'_>,
     boxes: HeldFresh,
     printed: &mut String,
 ) -> Result<bool, ActFault>
     requires same { is_start (move_by instruction) ≡ false }
-    requires running { host.old.is_stopped ≡ false }
-    ensures running { host.new.is_stopped ≡ false }
-    ensures truth { S.is_true host.new.store → S.is_true host.old.store }
+    requires running { stored_core.old.is_stopped ≡ false }
+    ensures running { stored_core.new.is_stopped ≡ false }
+    ensures truth { S.keeping.is_true stored_core.new.store →
+        S.keeping.is_true stored_core.old.store }
     ensures tells { (acting : Acting) →
-        IsActing (keeping S.stands S.is_true S.is_due) host.old place actor.old acting →
+        IsActing S.keeping stored_core.old place actor.old acting →
         may_say R.may (move_by instruction.entry) ≡ true →
         boxes ≡ boxes_of (plans_with (move_by instruction.entry)) →
-        IfOk result (λ told. Tells (keeping S.stands S.is_true S.is_due) host.old host.new place
+        IfOk result (λ told. Tells S.keeping stored_core.old stored_core.new place
         actor.old actor.new (string_bytes printed.old) (string_bytes printed.new) told
         (does (move_by instruction.entry) acting)) }
 {
@@ -230,11 +236,20 @@ fn obey<S: RowLog + Drop, R: Refuser<S>>(
         | Instruction::Renew { .. }
         | Instruction::Restart => Ok(false),
         Instruction::Open { .. } => {
-            actor.happen(alloc, host, place, Event::Open { boxes }, printed)?;
+            actor.happen(alloc, stored_core, place, Event::Open { boxes }, printed)?;
             Ok(true)
         }
         Instruction::Dial { address, aim, .. } => {
-            dial(actor, alloc, host, place, address, aim, boxes, printed)
+            dial(
+                actor,
+                alloc,
+                stored_core,
+                place,
+                address,
+                aim,
+                boxes,
+                printed,
+            )
         }
         Instruction::Feed {
             connection,
@@ -242,18 +257,18 @@ fn obey<S: RowLog + Drop, R: Refuser<S>>(
             ..
         } => Ok(actor.feed(alloc, connection, octets)?),
         Instruction::Lost { connection, .. } => {
-            actor.lose_connection(alloc, host, place, connection, printed)
+            actor.lose_connection(alloc, stored_core, place, connection, printed)
         }
-        Instruction::Push(asked) => push(actor, alloc, host, place, asked, printed),
-        Instruction::Pull(asked) => pull(actor, alloc, host, place, asked, printed),
-        Instruction::Go { .. } => actor.go(alloc, host, place, printed),
+        Instruction::Push(asked) => push(actor, alloc, stored_core, place, asked, printed),
+        Instruction::Pull(asked) => pull(actor, alloc, stored_core, place, asked, printed),
+        Instruction::Go { .. } => actor.go(alloc, stored_core, place, printed),
         Instruction::Drop { .. } => {
-            actor.lose(host, place, printed)?;
+            actor.lose(stored_core, place, printed)?;
             Ok(true)
         }
-        Instruction::Resume { id, .. } => resume(actor, alloc, host, place, id, printed),
+        Instruction::Resume { id, .. } => resume(actor, alloc, stored_core, place, id, printed),
         Instruction::Refuse { .. } => {
-            actor.refuse(refuser, host);
+            actor.refuse(refuser, stored_core);
             Ok(true)
         }
     }

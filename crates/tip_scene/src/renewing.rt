@@ -2,7 +2,7 @@
 ghost use Rattle.std.specs.Prelude.{◌≡◌, ◌+◌, ◌++◌, Some, OnOk, map, string_bytes};
 ghost use Rattle.std.specs.List.{flat_map};
 ghost use Rattle.tip_actor.specs.Acting.{Acting, renewed, renews};
-ghost use Rattle.tip_actor.specs.Standing.{Acts, IsActing, IsDone, keeping};
+ghost use Rattle.tip_actor.specs.Standing.{Acts, IsActing, IsDone};
 ghost use Rattle.tip_core.specs.Hosted.{realm as realm_at};
 ghost use Rattle.tip_machine.specs.Answers.{identifier};
 ghost use Rattle.tip_machine.specs.Moves.{drops_at};
@@ -18,58 +18,60 @@ use std::alloc::{AllocError, Global};
 use tip_actor::{ActFault, Actor, print_here};
 use tip_branch::Branch;
 use tip_core::Core;
-use tip_host::{Host, RenewFault};
 use tip_line::Refusal;
 use tip_machine::next_epoch;
 use tip_recovery::{Recovery, Unfinished};
 use tip_rows::RowLog;
+use tip_stored::{RenewFault, StoredCore};
 use tip_transcript::{print_refusal, print_start};
 
 /// The realm starts again, and each branch of its rows has one of these boxes. After the last epoch it does not.
 pub(crate) fn renew<S: RowLog + Drop>(
     actor: &mut Actor,
     alloc: Global,
-    host: &mut Host<S>,
+    stored_core: &mut StoredCore<S>,
     place: usize,
     pool: &mut Vec<Box<dyn Branch + Send>>,
     printed: &mut String,
 ) -> Result<(), ActFault>
     requires { AreWilling (map standing pool.old.items) }
-    ensures running { host.new.is_stopped ≡ host.old.is_stopped }
-    ensures truth { S.is_true host.new.store → S.is_true host.old.store }
-    ensures acts { S.is_true host.new.store → OnOk result (Acts
-        (keeping S.stands S.is_true S.is_due) host.old host.new place actor.old actor.new
+    ensures running { stored_core.new.is_stopped ≡ stored_core.old.is_stopped }
+    ensures truth { S.keeping.is_true stored_core.new.store →
+        S.keeping.is_true stored_core.old.store }
+    ensures acts { S.keeping.is_true stored_core.new.store → OnOk result (Acts
+        S.keeping stored_core.old stored_core.new place actor.old actor.new
         (string_bytes printed.old) (string_bytes printed.new) renews) }
 {
-    let Some(epoch) = next_epoch(host.core.heads(), place) else {
+    let Some(epoch) = next_epoch(stored_core.core.heads(), place) else {
         print_refusal(printed, actor.name.as_str(), Refusal::EpochEnd)?;
         return Ok(());
     };
-    let mut recovery = host.doubts(alloc, place)?;
+    let mut recovery = stored_core.doubts(alloc, place)?;
     let lots = dealt_to_rows(alloc, pool, recovery.rows())?;
     // only of a store that can be relied on does `doubts` say that nothing was adopted for its rows
     if !recovery.adopt_all(lots) {
         return Err(ActFault::Store);
     }
-    renew_by(actor, alloc, host, place, epoch, recovery, printed)
+    renew_by(actor, alloc, stored_core, place, epoch, recovery, printed)
 }
 
 /// The realm starts again in this epoch, by its rows and their boxes, unless the store is to refuse that.
 fn renew_by<S: RowLog + Drop>(
     actor: &mut Actor,
     alloc: Global,
-    host: &mut Host<S>,
+    stored_core: &mut StoredCore<S>,
     place: usize,
     epoch: u32,
     recovery: Recovery,
     printed: &mut String,
 ) -> Result<(), ActFault>
-    ensures running { host.new.is_stopped ≡ host.old.is_stopped }
-    ensures truth { S.is_true host.new.store → S.is_true host.old.store }
-    ensures done { S.is_true host.new.store → (acting : Acting) →
-        IsActing (keeping S.stands S.is_true S.is_due) host.old place actor.old acting →
+    ensures running { stored_core.new.is_stopped ≡ stored_core.old.is_stopped }
+    ensures truth { S.keeping.is_true stored_core.new.store →
+        S.keeping.is_true stored_core.old.store }
+    ensures done { S.keeping.is_true stored_core.new.store → (acting : Acting) →
+        IsActing S.keeping stored_core.old place actor.old acting →
         IsWilling recovery acting → epoch ≡ acting.world.state.head.epoch + 1 →
-        OnOk result (IsDone (keeping S.stands S.is_true S.is_due) host.old host.new place actor.old
+        OnOk result (IsDone S.keeping stored_core.old stored_core.new place actor.old
         actor.new (string_bytes printed.old) (string_bytes printed.new)
         (renewed acting.due acting)) }
 {
@@ -78,12 +80,12 @@ fn renew_by<S: RowLog + Drop>(
     print_opening(
         &mut opening,
         name,
-        &host.core,
+        &stored_core.core,
         place,
         epoch,
         recovery.rows(),
     )?;
-    match host.renew(alloc, place, recovery) {
+    match stored_core.renew(alloc, place, recovery) {
         Ok(_left) => {
             printed.push_str(&opening)?;
             actor.readers.clear();

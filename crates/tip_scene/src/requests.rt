@@ -1,7 +1,7 @@
 //! What a script asks of a realm with words of its own: addresses and identifiers.
 ghost use Rattle.std.specs.Prelude.{◌≡◌, ◌&&◌, ℕ, List, false, Some, None, IfOk, if◌then◌else◌, string_bytes};
 ghost use Rattle.tip_actor.specs.Acting.{Acting, boxes_of};
-ghost use Rattle.tip_actor.specs.Standing.{IsActing, Tells, keeping};
+ghost use Rattle.tip_actor.specs.Standing.{IsActing, Tells};
 ghost use Rattle.tip_branch.specs.declared.branch.Plan.{Plan};
 ghost use Rattle.tip_line.specs.Words.{is_address, is_word};
 ghost use Rattle.tip_machine.specs.declared.event.Event.TheVariants.{Dial as Dials};
@@ -12,36 +12,37 @@ ghost use Rattle.tip_scene.specs.Scenes.{does, is_purpose};
 use std::alloc::{AllocError, Global};
 use tip_actor::{ActFault, Actor};
 use tip_branch::HeldFresh;
-use tip_host::Host;
 use tip_line::{Address, Id, WordFault};
 use tip_machine::{Event, Purpose};
 use tip_rows::RowLog;
 use tip_script::{Aim, Asked};
+use tip_stored::StoredCore;
 
 /// A connection is opened to this address. It says whether address and aim are words.
 pub(crate) fn dial<S: RowLog + Drop>(
     actor: &mut Actor,
     alloc: Global,
-    host: &mut Host<S>,
+    stored_core: &mut StoredCore<S>,
     place: usize,
     address: &[u8],
     aim: Aim<'_>,
     boxes: HeldFresh,
     printed: &mut String,
 ) -> Result<bool, ActFault>
-    requires { host.old.is_stopped ≡ false }
-    ensures running { host.new.is_stopped ≡ false }
-    ensures truth { S.is_true host.new.store → S.is_true host.old.store }
+    requires { stored_core.old.is_stopped ≡ false }
+    ensures running { stored_core.new.is_stopped ≡ false }
+    ensures truth { S.keeping.is_true stored_core.new.store →
+        S.keeping.is_true stored_core.old.store }
     ensures tells { (acting : Acting) (realm : List ℕ) (plans : List Plan) →
-        IsActing (keeping S.stands S.is_true S.is_due) host.old place actor.old acting →
-        boxes ≡ boxes_of plans → IfOk result (λ told. Tells (keeping S.stands S.is_true S.is_due)
-        host.old host.new place actor.old actor.new (string_bytes printed.old)
+        IsActing S.keeping stored_core.old place actor.old acting →
+        boxes ≡ boxes_of plans → IfOk result (λ told. Tells S.keeping
+        stored_core.old stored_core.new place actor.old actor.new (string_bytes printed.old)
         (string_bytes printed.new) told
         (does (Dial realm address.now plans (purpose_of aim.entry)) acting)) }
 {
     match dialling(alloc, address, aim, boxes)? {
         Some(event) => {
-            actor.happen(alloc, host, place, event, printed)?;
+            actor.happen(alloc, stored_core, place, event, printed)?;
             Ok(true)
         }
         None => Ok(false),
@@ -75,22 +76,23 @@ fn dialling(
 pub(crate) fn push<S: RowLog + Drop>(
     actor: &mut Actor,
     alloc: Global,
-    host: &mut Host<S>,
+    stored_core: &mut StoredCore<S>,
     place: usize,
     asked: Asked<'_>,
     printed: &mut String,
 ) -> Result<bool, ActFault>
-    requires { host.old.is_stopped ≡ false }
-    ensures running { host.new.is_stopped ≡ false }
-    ensures truth { S.is_true host.new.store → S.is_true host.old.store }
+    requires { stored_core.old.is_stopped ≡ false }
+    ensures running { stored_core.new.is_stopped ≡ false }
+    ensures truth { S.keeping.is_true stored_core.new.store →
+        S.keeping.is_true stored_core.old.store }
     ensures tells { (acting : Acting) (realm : List ℕ) →
-        IsActing (keeping S.stands S.is_true S.is_due) host.old place actor.old acting →
-        IfOk result (λ told. Tells (keeping S.stands S.is_true S.is_due) host.old host.new place
+        IsActing S.keeping stored_core.old place actor.old acting →
+        IfOk result (λ told. Tells S.keeping stored_core.old stored_core.new place
         actor.old actor.new (string_bytes printed.old) (string_bytes printed.new) told
         (does (Push realm asked.entry.connection asked.entry.id.now) acting)) }
 {
     match id_in(alloc, asked.id)? {
-        Some(id) => actor.push(alloc, host, place, asked.connection, id, printed),
+        Some(id) => actor.push(alloc, stored_core, place, asked.connection, id, printed),
         None => Ok(false),
     }
 }
@@ -99,22 +101,30 @@ pub(crate) fn push<S: RowLog + Drop>(
 pub(crate) fn pull<S: RowLog + Drop>(
     actor: &mut Actor,
     alloc: Global,
-    host: &mut Host<S>,
+    stored_core: &mut StoredCore<S>,
     place: usize,
     asked: Asked<'_>,
     printed: &mut String,
 ) -> Result<bool, ActFault>
-    requires { host.old.is_stopped ≡ false }
-    ensures running { host.new.is_stopped ≡ false }
-    ensures truth { S.is_true host.new.store → S.is_true host.old.store }
+    requires { stored_core.old.is_stopped ≡ false }
+    ensures running { stored_core.new.is_stopped ≡ false }
+    ensures truth { S.keeping.is_true stored_core.new.store →
+        S.keeping.is_true stored_core.old.store }
     ensures tells { (acting : Acting) (realm : List ℕ) →
-        IsActing (keeping S.stands S.is_true S.is_due) host.old place actor.old acting →
-        IfOk result (λ told. Tells (keeping S.stands S.is_true S.is_due) host.old host.new place
+        IsActing S.keeping stored_core.old place actor.old acting →
+        IfOk result (λ told. Tells S.keeping stored_core.old stored_core.new place
         actor.old actor.new (string_bytes printed.old) (string_bytes printed.new) told
         (does (Pull realm asked.entry.connection asked.entry.id.now) acting)) }
 {
     match id_in(alloc, asked.id)? {
-        Some(superior) => actor.pull(alloc, host, place, asked.connection, superior, printed),
+        Some(superior) => actor.pull(
+            alloc,
+            stored_core,
+            place,
+            asked.connection,
+            superior,
+            printed,
+        ),
         None => Ok(false),
     }
 }
@@ -123,23 +133,24 @@ pub(crate) fn pull<S: RowLog + Drop>(
 pub(crate) fn resume<S: RowLog + Drop>(
     actor: &mut Actor,
     alloc: Global,
-    host: &mut Host<S>,
+    stored_core: &mut StoredCore<S>,
     place: usize,
     id: &[u8],
     printed: &mut String,
 ) -> Result<bool, ActFault>
-    requires { host.old.is_stopped ≡ false }
-    ensures running { host.new.is_stopped ≡ false }
-    ensures truth { S.is_true host.new.store → S.is_true host.old.store }
+    requires { stored_core.old.is_stopped ≡ false }
+    ensures running { stored_core.new.is_stopped ≡ false }
+    ensures truth { S.keeping.is_true stored_core.new.store →
+        S.keeping.is_true stored_core.old.store }
     ensures tells { (acting : Acting) (realm : List ℕ) →
-        IsActing (keeping S.stands S.is_true S.is_due) host.old place actor.old acting →
-        IfOk result (λ told. Tells (keeping S.stands S.is_true S.is_due) host.old host.new place
+        IsActing S.keeping stored_core.old place actor.old acting →
+        IfOk result (λ told. Tells S.keeping stored_core.old stored_core.new place
         actor.old actor.new (string_bytes printed.old) (string_bytes printed.new) told
         (does (Resume realm id.now) acting)) }
 {
     match id_in(alloc, id)? {
         Some(id) => {
-            actor.happen(alloc, host, place, Event::Resume { id }, printed)?;
+            actor.happen(alloc, stored_core, place, Event::Resume { id }, printed)?;
             Ok(true)
         }
         None => Ok(false),

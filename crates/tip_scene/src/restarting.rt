@@ -2,9 +2,8 @@
 ghost use Rattle.std.specs.Prelude.{◌≡◌, ◌++◌, ◌==◌, ℕ, false, map, IfOk, OnOk, option_map, slice_get, string_bytes};
 ghost use Rattle.std.specs.List.{flat_map, list_any};
 ghost use Rattle.tip_actor.specs.Acting.{is_at_end, restarts};
-ghost use Rattle.tip_actor.specs.Standing.{keeping};
 ghost use Rattle.tip_core.specs.Hosted.{realm as realm_at};
-ghost use Rattle.tip_host.specs.Loading.{spec_of as spec_of_head};
+ghost use Rattle.tip_stored.specs.Loading.{spec_of as spec_of_head};
 ghost use Rattle.tip_machine.specs.States.{State};
 ghost use Rattle.tip_scene.specs.Boxes.{AreWilling};
 ghost use Rattle.tip_scene.specs.Rising.{AreAgain, AreWaiting};
@@ -19,36 +18,39 @@ use crate::rising::{anew, rise};
 use std::alloc::{AllocError, Global};
 use tip_actor::{ActFault, Actor};
 use tip_branch::Branch;
-use tip_host::{Host, RealmSpec, Recovering};
 use tip_machine::Head;
 use tip_rows::RowLog;
+use tip_stored::{RealmSpec, Recovering, StoredCore};
 
 /// The process starts again: of what the realms were only their rows stay, and each branch of a row has a box out of this pool.
 /// `NotUnderstood` where a realm is in its last epoch. At a fault the store comes back, but where memory ends in the start.
 pub(crate) fn restart<S: RowLog + Drop>(
-    playing: Playing<Host<S>>,
+    playing: Playing<StoredCore<S>>,
     alloc: Global,
     pool: &mut Vec<Box<dyn Branch + Send>>,
     printed: &mut String,
-) -> Result<Playing<Host<S>>, (LineFault, Option<S>)>
+) -> Result<Playing<StoredCore<S>>, (LineFault, Option<S>)>
     requires { AreWilling (map standing pool.old.items) }
-    ensures running { IfOk result (λ again. again.host.is_stopped ≡ false) }
-    ensures truth { Trusts (keeping S.stands S.is_true S.is_due) playing.host.store
-        (λ again. again.host.store) result }
+    ensures running { IfOk result (λ again. again.stored_core.is_stopped ≡ false) }
+    ensures truth { Trusts S.keeping playing.stored_core.store
+        (λ again. again.stored_core.store) result }
     ensures moves { (scene : Scene) →
-        IsScene (keeping S.stands S.is_true S.is_due) playing.host playing.actors.items scene →
-        Moves (keeping S.stands S.is_true S.is_due) (string_bytes printed.old)
+        IsScene S.keeping playing.stored_core playing.actors.items scene →
+        Moves S.keeping (string_bytes printed.old)
         (string_bytes printed.new) (restarted scene) result }
 {
-    let Playing { host, actors } = playing;
-    if is_any_at_end(host.core.heads()) {
-        return Err((LineFault::NotUnderstood, Some(host.shut())));
+    let Playing {
+        stored_core,
+        actors,
+    } = playing;
+    if is_any_at_end(stored_core.core.heads()) {
+        return Err((LineFault::NotUnderstood, Some(stored_core.shut())));
     }
-    let specs = match leave(alloc, &host, &actors, printed) {
+    let specs = match leave(alloc, &stored_core, &actors, printed) {
         Ok(specs) => specs,
-        Err(AllocError) => return Err((LineFault::Memory, Some(host.shut()))),
+        Err(AllocError) => return Err((LineFault::Memory, Some(stored_core.shut()))),
     };
-    match host.restart(alloc, specs) {
+    match stored_core.restart(alloc, specs) {
         Ok(recovering) => match rise_again(alloc, recovering, actors, pool, printed) {
             Ok(playing) => Ok(playing),
             Err(fault) => Err((LineFault::from(fault), None)),
@@ -60,39 +62,39 @@ pub(crate) fn restart<S: RowLog + Drop>(
 /// Prints what each realm lets go, and says how the realms were declared.
 fn leave<S: RowLog + Drop>(
     alloc: Global,
-    host: &Host<S>,
+    stored_core: &StoredCore<S>,
     actors: &[Actor],
     printed: &mut String,
 ) -> Result<Vec<RealmSpec>, AllocError>
     ensures specs { IfOk result (λ specs. (place : ℕ) → slice_get specs.items place ≡ option_map
-        (λ (state : State). spec_of_head state.head) (realm_at host.now.core place)) }
+        (λ (state : State). spec_of_head state.head) (realm_at stored_core.now.core place)) }
     ensures text { (scene : Scene) →
-        IsScene (keeping S.stands S.is_true S.is_due) host.now actors.now scene →
+        IsScene S.keeping stored_core.now actors.now scene →
         OnOk result (string_bytes printed.new ≡ string_bytes printed.old
         ++ flat_map (λ acting. (restarts acting).printed) scene) }
 {
-    print_leaving(printed, host, actors)?;
-    host.declarations(alloc)
+    print_leaving(printed, stored_core, actors)?;
+    stored_core.declarations(alloc)
 }
 
-/// These realms are at work again as those that begin, on the host that has read their rows.
+/// These realms are at work again as those that begin, on the stored core that has read their rows.
 fn rise_again<S: RowLog + Drop>(
     alloc: Global,
     recovering: Recovering<S>,
     actors: Vec<Actor>,
     pool: &mut Vec<Box<dyn Branch + Send>>,
     printed: &mut String,
-) -> Result<Playing<Host<S>>, ActFault>
+) -> Result<Playing<StoredCore<S>>, ActFault>
     requires { AreWilling (map standing pool.old.items) }
-    ensures running { IfOk result (λ playing. playing.host.is_stopped ≡ false) }
-    ensures store { IfOk result (λ playing. playing.host.store ≡ recovering.store) }
+    ensures running { IfOk result (λ playing. playing.stored_core.is_stopped ≡ false) }
+    ensures store { IfOk result (λ playing. playing.stored_core.store ≡ recovering.store) }
     ensures text { (scene : Scene) → AreAgain actors.items scene →
-        AreWaiting (keeping S.stands S.is_true S.is_due) recovering scene →
+        AreWaiting S.keeping recovering scene →
         IfOk result (λ playing. string_bytes printed.new
         ≡ string_bytes printed.old ++ openings_text scene) }
     ensures scene { (scene : Scene) → AreAgain actors.items scene →
-        AreWaiting (keeping S.stands S.is_true S.is_due) recovering scene →
-        IfOk result (λ playing. IsScene (keeping S.stands S.is_true S.is_due) playing.host
+        AreWaiting S.keeping recovering scene →
+        IfOk result (λ playing. IsScene S.keeping playing.stored_core
         playing.actors.items scene) }
 {
     rise(alloc, recovering, anew(alloc, actors)?, pool, printed)
@@ -108,16 +110,16 @@ fn is_any_at_end(heads: &[Head]) -> bool
 /// Prints what each realm lets go.
 fn print_leaving<S: RowLog + Drop>(
     printed: &mut String,
-    host: &Host<S>,
+    stored_core: &StoredCore<S>,
     actors: &[Actor],
 ) -> Result<(), AllocError>
     ensures { (scene : Scene) →
-        IsScene (keeping S.stands S.is_true S.is_due) host.now actors.now scene →
+        IsScene S.keeping stored_core.now actors.now scene →
         OnOk result (string_bytes printed.new ≡ string_bytes printed.old
         ++ flat_map (λ acting. (restarts acting).printed) scene) }
 {
     for (place, actor) in actors.iter().enumerate() {
-        actor.print_leaving(host, place, printed)?;
+        actor.print_leaving(stored_core, place, printed)?;
     }
     Ok(())
 }

@@ -5,8 +5,7 @@ ghost use Rattle.tip_machine.specs.Answers.{identifier};
 ghost use Rattle.tip_rows.specs.Rows.{branches_of};
 ghost use Rattle.tip_transcript.specs.Printing.{adopted_text};
 ghost use Rattle.tip_actor.specs.Acting.{Acting, opening_text};
-ghost use Rattle.tip_actor.specs.Standing.{keeping};
-ghost use Rattle.tip_host.specs.Recovering.{all_adopted};
+ghost use Rattle.tip_stored.specs.Recovering.{all_adopted};
 ghost use Rattle.tip_scene.specs.Boxes.{AreWilling};
 ghost use Rattle.tip_scene.specs.Rising.{AreAnew, AreNew, AreRising, AreWaiting, IsRising};
 ghost use Rattle.tip_scene.specs.Scenes.{Scene, openings_text};
@@ -17,9 +16,9 @@ use crate::playing::Playing;
 use std::alloc::{AllocError, Global};
 use tip_actor::{ActFault, Actor};
 use tip_branch::Branch;
-use tip_host::{Host, Recovering};
 use tip_recovery::Unfinished;
 use tip_rows::RowLog;
+use tip_stored::{Recovering, StoredCore};
 use tip_transcript::{print_adopted, print_start};
 
 /// Realms that have started adopt a box out of the pool for each branch of their rows, say so, and are at work.
@@ -29,18 +28,18 @@ pub(crate) fn rise<S: RowLog + Drop>(
     actors: Vec<Actor>,
     pool: &mut Vec<Box<dyn Branch + Send>>,
     printed: &mut String,
-) -> Result<Playing<Host<S>>, ActFault>
+) -> Result<Playing<StoredCore<S>>, ActFault>
     requires { AreWilling (map standing pool.old.items) }
     ensures willing { OnOk result (AreWilling (map standing pool.new.items)) }
-    ensures running { IfOk result (λ playing. playing.host.is_stopped ≡ false) }
-    ensures store { IfOk result (λ playing. playing.host.store ≡ recovering.store) }
+    ensures running { IfOk result (λ playing. playing.stored_core.is_stopped ≡ false) }
+    ensures store { IfOk result (λ playing. playing.stored_core.store ≡ recovering.store) }
     ensures text { (scene : Scene) → AreNew actors.items scene →
-        AreWaiting (keeping S.stands S.is_true S.is_due) recovering scene →
+        AreWaiting S.keeping recovering scene →
         IfOk result (λ playing. string_bytes printed.new
         ≡ string_bytes printed.old ++ openings_text scene) }
     ensures scene { (scene : Scene) → AreNew actors.items scene →
-        AreWaiting (keeping S.stands S.is_true S.is_due) recovering scene →
-        IfOk result (λ playing. IsScene (keeping S.stands S.is_true S.is_due) playing.host
+        AreWaiting S.keeping recovering scene →
+        IfOk result (λ playing. IsScene S.keeping playing.stored_core
         playing.actors.items scene) }
 {
     let lots = dealt_to_all(alloc, pool, recovering.realms())?;
@@ -56,22 +55,25 @@ fn begin<S: RowLog + Drop>(
     recovering: Recovering<S>,
     actors: Vec<Actor>,
     printed: &mut String,
-) -> Result<Playing<Host<S>>, AllocError>
+) -> Result<Playing<StoredCore<S>>, AllocError>
     requires { all_adopted recovering.realms ≡ true }
-    ensures running { IfOk result (λ playing. playing.host.is_stopped ≡ false) }
-    ensures store { IfOk result (λ playing. playing.host.store ≡ recovering.store) }
+    ensures running { IfOk result (λ playing. playing.stored_core.is_stopped ≡ false) }
+    ensures store { IfOk result (λ playing. playing.stored_core.store ≡ recovering.store) }
     ensures text { (scene : Scene) → AreNew actors.items scene →
-        AreRising (keeping S.stands S.is_true S.is_due) recovering scene →
+        AreRising S.keeping recovering scene →
         IfOk result (λ playing. string_bytes printed.new
         ≡ string_bytes printed.old ++ openings_text scene) }
     ensures scene { (scene : Scene) → AreNew actors.items scene →
-        AreRising (keeping S.stands S.is_true S.is_due) recovering scene →
-        IfOk result (λ playing. IsScene (keeping S.stands S.is_true S.is_due) playing.host
+        AreRising S.keeping recovering scene →
+        IfOk result (λ playing. IsScene S.keeping playing.stored_core
         playing.actors.items scene) }
 {
     print_openings(printed, &recovering, &actors)?;
     match recovering.begin() {
-        Ok(host) => Ok(Playing { host, actors }),
+        Ok(stored_core) => Ok(Playing {
+            stored_core,
+            actors,
+        }),
         Err(_) => unreachable!(),
     }
 }
@@ -94,7 +96,7 @@ fn print_openings<S: RowLog + Drop>(
     actors: &[Actor],
 ) -> Result<(), AllocError>
     ensures { (scene : Scene) → AreNew actors.now scene →
-        AreRising (keeping S.stands S.is_true S.is_due) recovering.now scene →
+        AreRising S.keeping recovering.now scene →
         OnOk result (string_bytes printed.new ≡ string_bytes printed.old ++ openings_text scene) }
 {
     for (place, actor) in actors.iter().enumerate() {
@@ -111,7 +113,7 @@ fn print_opening<S: RowLog + Drop>(
     actor: &Actor,
 ) -> Result<(), AllocError>
     ensures { (acting : Acting) → actor.now.name ≡ acting.name →
-        IsRising (keeping S.stands S.is_true S.is_due) recovering.now place acting →
+        IsRising S.keeping recovering.now place acting →
         OnOk result (string_bytes printed.new ≡ string_bytes printed.old ++ opening_text acting) }
 {
     let name = actor.name.as_str();

@@ -1,7 +1,6 @@
 //! A script as far as it was played.
 ghost use Rattle.std.specs.Prelude.{◌≡◌, ◌++◌, [], List, Some, map, IfOk, true, string_bytes};
 ghost use Rattle.tip_branch.specs.Always.{Always};
-ghost use Rattle.tip_actor.specs.Standing.{keeping};
 ghost use Rattle.tip_script.specs.Moves.{move_by};
 ghost use Rattle.tip_script.specs.Scripts.{move_of};
 ghost use Rattle.tip_scene.specs.Acts.{Basis, Stage as AStage, Declaring as Begins, acted, acts, closing_of, may_say};
@@ -20,9 +19,9 @@ use std::alloc::Global;
 use tip_actor::{ActFault, Refuser};
 use tip_branch::Branch;
 use tip_core::Core;
-use tip_host::Host;
 use tip_rows::RowLog;
 use tip_script::Instruction;
+use tip_stored::StoredCore;
 
 /// The realms, before and after their start. The first line that declares none starts them.
 #[derive(Drop)]
@@ -31,14 +30,14 @@ pub enum Stage<D, P> {
     Playing(P),
 }
 
-impl<S: RowLog + Drop> Stage<Declared<S>, Playing<Host<S>>> {
+impl<S: RowLog + Drop> Stage<Declared<S>, Playing<StoredCore<S>>> {
     /// No realms are declared; `Declared::new` says what the core is for.
-    pub fn new(alloc: Global, core: Core, store: S) -> Stage<Declared<S>, Playing<Host<S>>>
+    pub fn new(alloc: Global, core: Core, store: S) -> Stage<Declared<S>, Playing<StoredCore<S>>>
         requires { Always }
         ensures store { store_of result ≡ store }
         ensures sound { IsSound result }
-        ensures none { (basis : Basis) → IsBasis (keeping S.stands S.is_true S.is_due) basis store →
-            IsStage (keeping S.stands S.is_true S.is_due) basis result (Begins []) }
+        ensures none { (basis : Basis) → IsBasis S.keeping basis store →
+            IsStage S.keeping basis result (Begins []) }
     {
         Stage::Declaring(Declared::new(alloc, core, store))
     }
@@ -53,17 +52,17 @@ impl<S: RowLog + Drop> Stage<Declared<S>, Playing<Host<S>>> {
         boxes: Vec<Box<dyn Branch + Send>>,
         pool: &mut Vec<Box<dyn Branch + Send>>,
         printed: &mut String,
-    ) -> Result<Stage<Declared<S>, Playing<Host<S>>>, (LineFault, Option<S>)>
+    ) -> Result<Stage<Declared<S>, Playing<StoredCore<S>>>, (LineFault, Option<S>)>
         requires sound { IsSound self }
         requires active { AreIn Active (map standing boxes.items) }
         requires willing { AreWilling (map standing pool.old.items) }
         ensures sound { IfOk result IsSound }
-        ensures truth { Trusts (keeping S.stands S.is_true S.is_due) (store_of self) store_of
+        ensures truth { Trusts S.keeping (store_of self) store_of
             result }
         ensures acts { (basis : Basis) (stage : AStage) → basis.may_refuse ≡ R.may →
-            IsStage (keeping S.stands S.is_true S.is_due) basis self stage →
+            IsStage S.keeping basis self stage →
             ComeWith (move_of line.now) (map standing boxes.items) →
-            ActsSo (keeping S.stands S.is_true S.is_due) basis (string_bytes printed.old)
+            ActsSo S.keeping basis (string_bytes printed.old)
             (string_bytes printed.new) (acted basis stage line.now) result }
     {
         if line.is_empty() {
@@ -77,8 +76,8 @@ impl<S: RowLog + Drop> Stage<Declared<S>, Playing<Host<S>>> {
         }
     }
 
-    /// The script has ended: the realms start, if they have not, and the store comes back. At a fault it does, too, but where memory
-    /// ends in the start.
+    /// The script has ended: the realms start, if they have not, and the store comes back. At a fault it does, too, but where
+    /// memory ends in the start.
     pub fn finish(
         self,
         alloc: Global,
@@ -87,19 +86,19 @@ impl<S: RowLog + Drop> Stage<Declared<S>, Playing<Host<S>>> {
     ) -> Result<S, (ActFault, Option<S>)>
         requires sound { IsSound self }
         requires willing { AreWilling (map standing pool.old.items) }
-        ensures truth { Trusts (keeping S.stands S.is_true S.is_due) (store_of self)
+        ensures truth { Trusts S.keeping (store_of self)
             (λ store. store) result }
         ensures closes { (basis : Basis) (stage : AStage) →
-            IsStage (keeping S.stands S.is_true S.is_due) basis self stage →
-            IfOk result (λ store. S.is_true store →
+            IsStage S.keeping basis self stage →
+            IfOk result (λ store. S.keeping.is_true store →
             string_bytes printed.new ≡ string_bytes printed.old ++ closing_of basis stage) }
     {
         match self {
             Stage::Declaring(declared) => {
                 let playing = declared.start(alloc, pool, printed)?;
-                Ok(playing.host.shut())
+                Ok(playing.stored_core.shut())
             }
-            Stage::Playing(playing) => Ok(playing.host.shut()),
+            Stage::Playing(playing) => Ok(playing.stored_core.shut()),
         }
     }
 
@@ -110,7 +109,7 @@ impl<S: RowLog + Drop> Stage<Declared<S>, Playing<Host<S>>> {
     {
         match self {
             Stage::Declaring(declared) => declared.store,
-            Stage::Playing(playing) => playing.host.shut(),
+            Stage::Playing(playing) => playing.stored_core.shut(),
         }
     }
 
@@ -118,10 +117,11 @@ impl<S: RowLog + Drop> Stage<Declared<S>, Playing<Host<S>>> {
     pub fn wanted(&mut self, alloc: Global, line: &[u8]) -> Result<Wanted, ActFault>
         requires { Always }
         ensures sound { IsSound self.old → IsSound self.new }
-        ensures truth { S.is_true (store_of self.new) → S.is_true (store_of self.old) }
+        ensures truth { S.keeping.is_true (store_of self.new) →
+            S.keeping.is_true (store_of self.old) }
         ensures stands { (basis : Basis) (stage : AStage) →
-            IsStage (keeping S.stands S.is_true S.is_due) basis self.old stage →
-            IsStage (keeping S.stands S.is_true S.is_due) basis self.new stage }
+            IsStage S.keeping basis self.old stage →
+            IsStage S.keeping basis self.new stage }
         ensures wanted { IfOk result (AreWanted (move_of line.now)) }
     {
         match Instruction::parse(line) {
@@ -137,10 +137,11 @@ impl<S: RowLog + Drop> Stage<Declared<S>, Playing<Host<S>>> {
     pub fn wanted_at_start(&mut self) -> Result<usize, ActFault>
         requires { Always }
         ensures sound { IsSound self.old → IsSound self.new }
-        ensures truth { S.is_true (store_of self.new) → S.is_true (store_of self.old) }
+        ensures truth { S.keeping.is_true (store_of self.new) →
+            S.keeping.is_true (store_of self.old) }
         ensures stands { (basis : Basis) (stage : AStage) →
-            IsStage (keeping S.stands S.is_true S.is_due) basis self.old stage →
-            IsStage (keeping S.stands S.is_true S.is_due) basis self.new stage }
+            IsStage S.keeping basis self.old stage →
+            IsStage S.keeping basis self.new stage }
     {
         match self {
             Stage::Declaring(declared) => declared.willing(None),
@@ -148,13 +149,15 @@ impl<S: RowLog + Drop> Stage<Declared<S>, Playing<Host<S>>> {
         }
     }
 
-    /// How many willing boxes an instruction wants: for the start, if it is the first that declares none, and for what it starts again.
+    /// How many willing boxes an instruction wants: for the start, if it is the first that declares none, and for what it starts
+    /// again.
     fn willing(&mut self, instruction: Instruction<'_>) -> Result<usize, ActFault>
         ensures sound { IsSound self.old → IsSound self.new }
-        ensures truth { S.is_true (store_of self.new) → S.is_true (store_of self.old) }
+        ensures truth { S.keeping.is_true (store_of self.new) →
+            S.keeping.is_true (store_of self.old) }
         ensures stands { (basis : Basis) (stage : AStage) →
-            IsStage (keeping S.stands S.is_true S.is_due) basis self.old stage →
-            IsStage (keeping S.stands S.is_true S.is_due) basis self.new stage }
+            IsStage S.keeping basis self.old stage →
+            IsStage S.keeping basis self.new stage }
     {
         let again = match instruction {
             Instruction::Realm { .. } | Instruction::Labels { .. } => return Ok(0),
@@ -168,10 +171,11 @@ impl<S: RowLog + Drop> Stage<Declared<S>, Playing<Host<S>>> {
     /// How many branches the stored rows have, of one realm or of all.
     fn rows(&mut self, only: Option<&str>) -> Result<usize, ActFault>
         ensures sound { IsSound self.old → IsSound self.new }
-        ensures truth { S.is_true (store_of self.new) → S.is_true (store_of self.old) }
+        ensures truth { S.keeping.is_true (store_of self.new) →
+            S.keeping.is_true (store_of self.old) }
         ensures stands { (basis : Basis) (stage : AStage) →
-            IsStage (keeping S.stands S.is_true S.is_due) basis self.old stage →
-            IsStage (keeping S.stands S.is_true S.is_due) basis self.new stage }
+            IsStage S.keeping basis self.old stage →
+            IsStage S.keeping basis self.new stage }
     {
         match self {
             Stage::Declaring(declared) => declared.willing(only),
@@ -188,18 +192,18 @@ impl<S: RowLog + Drop> Stage<Declared<S>, Playing<Host<S>>> {
         boxes: Vec<Box<dyn Branch + Send>>,
         pool: &mut Vec<Box<dyn Branch + Send>>,
         printed: &mut String,
-    ) -> Result<Stage<Declared<S>, Playing<Host<S>>>, (LineFault, Option<S>)>
+    ) -> Result<Stage<Declared<S>, Playing<StoredCore<S>>>, (LineFault, Option<S>)>
         requires sound { IsSound self }
         requires active { AreIn Active (map standing boxes.items) }
         requires willing { AreWilling (map standing pool.old.items) }
         ensures sound { IfOk result IsSound }
-        ensures truth { Trusts (keeping S.stands S.is_true S.is_due) (store_of self) store_of
+        ensures truth { Trusts S.keeping (store_of self) store_of
             result }
         ensures acts { (basis : Basis) (stage : AStage) →
-            IsStage (keeping S.stands S.is_true S.is_due) basis self stage →
+            IsStage S.keeping basis self stage →
             may_say R.may (move_by instruction.entry) ≡ true →
             ComeWith (Some (move_by instruction.entry)) (map standing boxes.items) →
-            ActsSo (keeping S.stands S.is_true S.is_due) basis (string_bytes printed.old)
+            ActsSo S.keeping basis (string_bytes printed.old)
             (string_bytes printed.new) (acts basis stage (move_by instruction.entry)) result }
     {
         match self {
@@ -223,17 +227,17 @@ fn declare<S: RowLog + Drop, R: Refuser<S>>(
     boxes: Vec<Box<dyn Branch + Send>>,
     pool: &mut Vec<Box<dyn Branch + Send>>,
     printed: &mut String,
-) -> Result<Stage<Declared<S>, Playing<Host<S>>>, (LineFault, Option<S>)>
+) -> Result<Stage<Declared<S>, Playing<StoredCore<S>>>, (LineFault, Option<S>)>
     requires hostable { list_all may_be_hosted declared.declarations.items ≡ true }
     requires active { AreIn Active (map standing boxes.items) }
     requires willing { AreWilling (map standing pool.old.items) }
     ensures sound { IfOk result IsSound }
-    ensures truth { Trusts (keeping S.stands S.is_true S.is_due) declared.store store_of result }
+    ensures truth { Trusts S.keeping declared.store store_of result }
     ensures acts { (basis : Basis) (declarations : List Declaration) →
-        IsDeclared (keeping S.stands S.is_true S.is_due) basis declared declarations →
+        IsDeclared S.keeping basis declared declarations →
         may_say R.may (move_by instruction.entry) ≡ true →
         ComeWith (Some (move_by instruction.entry)) (map standing boxes.items) →
-        ActsSo (keeping S.stands S.is_true S.is_due) basis (string_bytes printed.old)
+        ActsSo S.keeping basis (string_bytes printed.old)
         (string_bytes printed.new)
         (acts basis (Begins declarations) (move_by instruction.entry)) result }
 {

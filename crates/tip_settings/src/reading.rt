@@ -36,7 +36,8 @@ pub fn read_config(alloc: Global, bytes: &[u8]) -> Result<Config, ConfigFault>
 fn config_in(alloc: Global, table: &Table) -> Result<Config, ConfigFault>
     ensures ok { IfOk result
         (λ config. configuration_in (table_view table.now) ≡ Some (data_of config)) }
-    ensures wrong { IfErr result (λ fault. Refuses fault (configuration_in (table_view table.now))) }
+    ensures wrong { IfErr result
+        (λ fault. Refuses fault (configuration_in (table_view table.now))) }
     ensures why { IfErr result (λ fault. IsWrong fault (table_view table.now)) }
 {
     let Some(store) = text_at(table, "store") else {

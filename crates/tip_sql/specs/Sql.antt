@@ -6,7 +6,7 @@ use Rattle.std.specs.Coded.{Coded, code_by, coded×, coded_ℕ, coded_bool}
 use Rattle.sqlite_trees.specs.declared.store.Store.{Ghosts}
 use Rattle.sqlite.specs.Held.{Held, held_code, state}
 use Rattle.sqlite.specs.State.{State, HasCleanDisk}
-use Rattle.tip_rows.specs.Logs.{Log, IsAtEnd, is_refused_load}
+use Rattle.tip_rows.specs.Logs.{Keeping, Log, IsAtEnd, is_refused_load}
 use Rattle.tip_rows.specs.declared.log.LoadFault.{LoadFault}
 use Rattle.tip_rows.specs.declared.log.LoadFault.TheVariants.{BadRow}
 use Rattle.tip_sql.specs.Standing.{log_of, IsOurs, IsLeft, Stands, MayLeave}
@@ -29,6 +29,10 @@ is_true_in g s = HasCleanDisk (state g s.conn)
 
 abbrev pub may_leave_in : {S : Type 0} → Ghosts S → Sql S → Log → Type 0
 may_leave_in g s log = MayLeave (state g s.conn) log
+
+-- what such a log shows of its rows; no refusal can be asked for
+abbrev pub keeping_in : {S : Type 0} → Ghosts S → Keeping (Sql S)
+keeping_in g = record { stands = stands_in g; may_leave = may_leave_in g; is_true = is_true_in g; faults = λ s. s.faults; is_due = λ s realm. false }
 
 -- where a crash leaves trees, it leaves a log
 pub leaves_some : (may_leave : Trees → Type 0) → ∥ ((db : Trees) × may_leave db) ∥₁ → ∥ ((left : Log) × ((db : Trees) × may_leave db × (log_of db ≡ left))) ∥₁

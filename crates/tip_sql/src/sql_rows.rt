@@ -5,7 +5,7 @@ ghost use Rattle.sqlite.specs.Held.{state};
 ghost use Rattle.tip_rows.specs.Logs.{Log, counted, is_refused_load, Stands, LeavesOne, LeavesSame, IsSettled};
 ghost use Rattle.sqlite.specs.State.{HasCleanDisk};
 ghost use Rattle.tip_sql.specs.Standing.{change_of, found_in, lacks_column};
-ghost use Rattle.tip_sql.specs.Sql.{stands_in, is_true_in, may_leave_in, leaves_some, IsEnded, Probes};
+ghost use Rattle.tip_sql.specs.Sql.{keeping_in, stands_in, is_true_in, leaves_some, IsEnded, Probes};
 
 use crate::database::Database;
 use crate::layout::lacks_column;
@@ -53,7 +53,7 @@ impl<S: Alter + Drop> SqlRows<S> {
         ensures truth { IfOk result
             (λ rows. is_true_in S.Store rows → HasCleanDisk (state S.Store conn)) }
         ensures settled { IfOk result (λ rows. is_true_in S.Store rows →
-            IsSettled (stands_in S.Store) (may_leave_in S.Store) rows) }
+            IsSettled (keeping_in S.Store) rows) }
         ensures no_faults { IfOk result (λ rows. rows.faults ≡ 0) }
     {
         if lacks_column(conn.schema()) {
@@ -91,14 +91,14 @@ impl<S: Alter> SqlRows<S> {
 
     /// Makes one change, unless the database is shut.
     fn change(&mut self, change: &Change<'_>) -> Result<(), Refused>
-        ensures stands { Stands (stands_in S.Store) (change_of change.now) self.old self.new
+        ensures stands { Stands (keeping_in S.Store) (change_of change.now) self.old self.new
             result }
         ensures counts { self.new.faults ≡ counted (is_err result) self.old.faults }
         ensures truth { is_true_in S.Store self.new → is_true_in S.Store self.old }
-        ensures stop { LeavesOne (stands_in S.Store) (is_true_in S.Store) (may_leave_in S.Store)
+        ensures stop { LeavesOne (keeping_in S.Store)
             (change_of change.now) self.old self.new }
         ensures settled { is_true_in S.Store self.new →
-            OnOk result (IsSettled (stands_in S.Store) (may_leave_in S.Store) self.new) }
+            OnOk result (IsSettled (keeping_in S.Store) self.new) }
     {
         if self.is_shut {
             return Err(refuse(&mut self.faults));
@@ -120,10 +120,10 @@ impl<S: Alter> SqlRows<S> {
             stands_in S.Store self.new log }
         ensures counts { self.new.faults ≡ counted (is_err result) self.old.faults }
         ensures truth { is_true_in S.Store self.new → is_true_in S.Store self.old }
-        ensures stop { LeavesSame (stands_in S.Store) (is_true_in S.Store) (may_leave_in S.Store)
+        ensures stop { LeavesSame (keeping_in S.Store)
             self.old self.new }
         ensures settled { is_true_in S.Store self.new →
-            OnOk result (IsSettled (stands_in S.Store) (may_leave_in S.Store) self.new) }
+            OnOk result (IsSettled (keeping_in S.Store) self.new) }
     {
         if self.is_shut {
             return Err(refuse(&mut self.faults));
@@ -143,15 +143,7 @@ impl<S: Alter> RowLog for SqlRows<S> {
 
     ghost medium = { λ s. record { conn = s.conn } };
 
-    ghost stands = { stands_in S.Store };
-
-    ghost faults = { λ s. s.faults };
-
-    ghost is_true = { is_true_in S.Store };
-
-    ghost may_leave = { may_leave_in S.Store };
-
-    ghost is_due = { λ _ _. false };
+    ghost keeping = { keeping_in S.Store };
 
     fn know(&mut self, realm: &Realm) -> Result<(), Refused> {
         self.change(&Change::Know(realm))

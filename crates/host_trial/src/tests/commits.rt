@@ -2,14 +2,14 @@
 ghost use Rattle.tip_branch.specs.Always.{Always};
 
 use super::boxes::open;
-use super::desks::{FIRST, NORTH, opened};
+use super::hosts::{FIRST, NORTH, opened};
 use super::journals::are_reported;
 use super::serving::Serving;
 use super::waiting::waits;
 use std::alloc::Global;
 use std::process::Abort;
 use std::test::Fail;
-use tip_desk::Reply;
+use tip_host::Reply;
 use tip_machine::{Change, Event, Outcome};
 
 const COMMIT: &[&str] = &["IDENTIFY 3 3 - -", "BEGIN", "COMMIT"];

@@ -1,8 +1,8 @@
-//! The end of a desk: whose branches are rolled back.
+//! The end of a host: whose branches are rolled back.
 ghost use Rattle.tip_branch.specs.Always.{Always};
 
 use super::boxes::open_counted;
-use super::desks::opened;
+use super::hosts::opened;
 use super::serving::Serving;
 use counting_branch::Counters;
 use std::alloc::Global;

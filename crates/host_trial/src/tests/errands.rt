@@ -1,14 +1,13 @@
-//! Parties that are taken out of a desk, and come back.
+//! Parties that are taken out of a host, and come back.
 ghost use Rattle.tip_branch.specs.Always.{Always};
 
 use super::boxes::open;
-use super::desks::{FIRST, SECOND, opened};
+use super::hosts::{FIRST, SECOND, opened};
 use super::serving::Serving;
 use super::waiting::waits;
 use std::alloc::Global;
 use std::test::Fail;
-use tip_desk::{DeskFault, Reply};
-use tip_host::Returned;
+use tip_host::{HostFault, Reply, Returned};
 use tip_line::Refusal;
 use tip_machine::Event;
 
@@ -47,7 +46,7 @@ fn two_come_back_in_the_other_order_and_both_commit(rt: HostRuntime) -> Result<(
     Ok(())
 }
 
-/// A party that has voted at this desk.
+/// A party that has voted at this host.
 fn voted(alloc: Global, serving: &mut Serving, opening: Event) -> Result<Returned, Fail>
     requires { Always }
 {
@@ -56,7 +55,7 @@ fn voted(alloc: Global, serving: &mut Serving, opening: Event) -> Result<Returne
 }
 
 /// Whether it was refused as one that is not out. It is let go.
-fn is_not_out(came: Result<Reply, (DeskFault, Returned)>) -> bool
+fn is_not_out(came: Result<Reply, (HostFault, Returned)>) -> bool
     requires { Always }
 {
     match came {
@@ -66,13 +65,13 @@ fn is_not_out(came: Result<Reply, (DeskFault, Returned)>) -> bool
         }
         Err((fault, returned)) => {
             drop(returned);
-            fault == DeskFault::NotOut
+            fault == HostFault::NotOut
         }
     }
 }
 
 #[test]
-fn a_party_of_another_desk_is_refused(rt: HostRuntime) -> Result<(), Fail> {
+fn a_party_of_another_host_is_refused(rt: HostRuntime) -> Result<(), Fail> {
     let alloc = rt.alloc();
     let mut elsewhere = opened(alloc, 100)?;
     let mut here = opened(alloc, 100)?;

@@ -1,19 +1,19 @@
-//! A desk over rows that are taken up.
+//! A host over rows that are taken up.
 ghost use Rattle.tip_branch.specs.Always.{Always};
 
 use super::boxes::ready;
-use super::desks::{NORTH, begun, loaded};
+use super::hosts::{NORTH, begun, loaded};
 use super::serving::Serving;
 use std::alloc::Global;
 use std::process::Abort;
 use std::test::Fail;
 use tip_branch::HeldPrepared;
-use tip_desk::{Desk, OpenFault};
-use tip_host::{Recovering, RenewFault};
+use tip_host::{Host, OpenFault};
 use tip_line::{Id, Realm};
 use tip_machine::{Change, Event};
 use tip_recovery::AdoptFault;
 use tip_rows::{Key, MemRows, Row, RowLog};
+use tip_stored::{Recovering, RenewFault};
 
 /// Rows in which the first transaction of north is committed, with one branch.
 fn committed(alloc: Global) -> Result<MemRows, Fail> {
@@ -44,11 +44,11 @@ fn fault_of(
     }
 }
 
-/// The realms come back from a desk that is not opened since a row waits.
+/// The realms come back from a host that is not opened since a row waits.
 fn unopened(alloc: Global, recovering: Recovering<MemRows>) -> Result<Recovering<MemRows>, Fail>
     requires { Always }
 {
-    match Desk::open(alloc, recovering) {
+    match Host::open(alloc, recovering) {
         Err((OpenFault::Unadopted, recovering)) => Ok(recovering),
         other => {
             drop(other);
@@ -57,7 +57,7 @@ fn unopened(alloc: Global, recovering: Recovering<MemRows>) -> Result<Recovering
     }
 }
 
-/// A desk over a row for which these boxes are adopted, and not before.
+/// A host over a row for which these boxes are adopted, and not before.
 fn taken_up(
     rt: &impl Abort,
     alloc: Global,
@@ -86,7 +86,7 @@ fn ended(rt: &impl Abort, alloc: Global, serving: &mut Serving) -> Result<(), Fa
 }
 
 #[test]
-fn a_desk_is_opened_once_no_row_waits(rt: HostRuntime) -> Result<(), Fail> {
+fn a_host_is_opened_once_no_row_waits(rt: HostRuntime) -> Result<(), Fail> {
     let alloc = rt.alloc();
     let recovering = loaded(alloc, committed(alloc)?)?;
     let mut serving = taken_up(&rt, alloc, recovering, ready(alloc, 1)?)?;

@@ -1,16 +1,16 @@
-//! A realm that starts again at a desk while the other goes on.
+//! A realm that starts again at a host while the other goes on.
 ghost use Rattle.tip_branch.specs.Always.{Always};
 
 use super::boxes::open;
-use super::desks::{AGAIN, FIRST, NORTH, SOUTH, opened};
+use super::hosts::{AGAIN, FIRST, NORTH, SOUTH, opened};
 use super::journals::are_reported;
 use super::serving::Serving;
 use super::waiting::waits;
 use std::alloc::Global;
 use std::process::Abort;
 use std::test::Fail;
-use tip_host::RenewFault;
 use tip_machine::Event;
+use tip_stored::RenewFault;
 
 /// Why north is not renewed, if so.
 fn fault_of(alloc: Global, serving: &mut Serving) -> Result<Option<RenewFault>, Fail>

@@ -3,15 +3,15 @@
 ghost use Rattle.tip_branch.specs.Always.{Always};
 
 use super::boxes::{open, ready};
-use super::desks::{AGAIN, FIRST, NORTH, spec};
+use super::hosts::{AGAIN, FIRST, NORTH, spec};
 use std::alloc::Global;
 use std::test::Fail;
 use tip_branch::{Call, Errand, Vote};
 use tip_core::Core;
-use tip_host::Host;
 use tip_machine::{Change, Event, Heard, Item, Outcome, Said, Seat};
 use tip_rows::{MemRows, RowLog};
 use tip_run::{Halt, Move, RunFault, Running, Shown};
+use tip_stored::StoredCore;
 
 /// The realm at work, over rows in memory.
 fn begun(alloc: Global) -> Result<Running<MemRows>, Fail>
@@ -26,9 +26,9 @@ fn at_work<S: RowLog + Drop>(alloc: Global, rows: S) -> Result<Running<S>, Fail>
 {
     let mut specs = Vec::new(alloc);
     specs.push(spec(alloc, "north", 100).ok_or("it may be hosted")?)?;
-    match Host::load(alloc, rows, Core::new(alloc), specs) {
+    match StoredCore::load(alloc, rows, Core::new(alloc), specs) {
         Ok(recovering) => match recovering.begin() {
-            Ok(host) => Ok(Running::new(alloc, host)),
+            Ok(stored) => Ok(Running::new(alloc, stored)),
             Err(_) => Err(Fail::from("no row waits")),
         },
         Err(_) => Err(Fail::from("it is loaded")),

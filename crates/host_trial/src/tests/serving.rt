@@ -1,31 +1,31 @@
-//! Events of north at a desk, made one by one. Each call of the desk is in a function without a clause, so that the proof of a test
+//! Events of north at a host, made one by one. Each call of the host is in a function without a clause, so that the proof of a test
 //! does not carry all that the call promises.
 ghost use Rattle.tip_branch.specs.Always.{Always};
 
-use super::desks::NORTH;
+use super::hosts::NORTH;
 use std::alloc::{AllocError, Global};
 use std::slice::from_ref;
 use std::test::Fail;
-use tip_desk::{Desk, DeskFault, Reply};
 use tip_honest::Entry;
-use tip_host::{RenewFault, Returned, Work};
+use tip_host::{Host, HostFault, Reply, Returned, Work};
 use tip_journal::{AuditFault, Pass, Reported};
 use tip_machine::{Event, Heard, Seat, Sent};
 use tip_recovery::Recovery;
 use tip_rows::MemRows;
+use tip_stored::RenewFault;
 
-/// A desk, and the pass of whoever makes events there.
+/// A host, and the pass of whoever makes events there.
 #[derive(Drop)]
 pub struct Serving {
-    desk: Desk<MemRows>,
+    host: Host<MemRows>,
     pass: Pass<Entry>,
 }
 
 impl Serving {
-    /// At this desk no event was made yet.
-    pub fn at(alloc: Global, desk: Desk<MemRows>) -> Serving {
-        let pass = desk.pass(alloc);
-        Serving { desk, pass }
+    /// At this host no event was made yet.
+    pub fn at(alloc: Global, host: Host<MemRows>) -> Serving {
+        let pass = host.pass(alloc);
+        Serving { host, pass }
     }
 
     /// One event of north; where memory was wanting it comes once more, as it was handed back.
@@ -34,7 +34,7 @@ impl Serving {
     {
         match self.stepped(alloc, event) {
             Ok(reply) => Ok(reply),
-            Err((DeskFault::Memory, event)) => self.stepped_again(alloc, event),
+            Err((HostFault::Memory, event)) => self.stepped_again(alloc, event),
             Err(fault) => {
                 drop(fault);
                 Err(Fail::from("it happens"))
@@ -43,10 +43,10 @@ impl Serving {
     }
 
     /// One event of north.
-    fn stepped(&mut self, alloc: Global, event: Event) -> Result<Reply, (DeskFault, Event)>
+    fn stepped(&mut self, alloc: Global, event: Event) -> Result<Reply, (HostFault, Event)>
         requires { Always }
     {
-        self.desk.step(alloc, &mut self.pass, NORTH, event)
+        self.host.step(alloc, &mut self.pass, NORTH, event)
     }
 
     fn stepped_again(&mut self, alloc: Global, event: Event) -> Result<Reply, Fail>
@@ -103,7 +103,7 @@ impl Serving {
     fn taken(&mut self, alloc: Global) -> Result<Option<Work>, AllocError>
         requires { Always }
     {
-        self.desk.take_work(alloc, NORTH)
+        self.host.take_work(alloc, NORTH)
     }
 
     /// A party comes back; where memory was wanting it comes once more, as it was handed back.
@@ -112,7 +112,7 @@ impl Serving {
     {
         match self.came(alloc, returned) {
             Ok(reply) => Ok(reply),
-            Err((DeskFault::Memory, returned)) => self.came_again(alloc, returned),
+            Err((HostFault::Memory, returned)) => self.came_again(alloc, returned),
             Err(fault) => {
                 drop(fault);
                 Err(Fail::from("it was out"))
@@ -125,10 +125,10 @@ impl Serving {
         &mut self,
         alloc: Global,
         returned: Returned,
-    ) -> Result<Reply, (DeskFault, Returned)>
+    ) -> Result<Reply, (HostFault, Returned)>
         requires { Always }
     {
-        self.desk.come_back(alloc, &mut self.pass, NORTH, returned)
+        self.host.come_back(alloc, &mut self.pass, NORTH, returned)
     }
 
     fn came_again(&mut self, alloc: Global, returned: Returned) -> Result<Reply, Fail>
@@ -153,25 +153,25 @@ impl Serving {
 
     /// What waits first for a connection of a realm is taken out.
     pub fn take_out(&mut self, realm: usize, seat: Seat) -> Option<Sent> {
-        self.desk.take_out(realm, seat)
+        self.host.take_out(realm, seat)
     }
 
     pub fn epoch(&self, realm: usize) -> Option<u32> {
-        self.desk.epoch(realm)
+        self.host.epoch(realm)
     }
 
     /// What is stored of north.
     pub fn doubts(&mut self, alloc: Global) -> Result<Recovery, RenewFault>
         requires { Always }
     {
-        self.desk.doubts(alloc, NORTH)
+        self.host.doubts(alloc, NORTH)
     }
 
     /// Why north is not renewed by this, if so. What it had is let go.
     pub fn renew(&mut self, alloc: Global, recovery: Recovery) -> Option<RenewFault>
         requires { Always }
     {
-        match self.desk.renew(alloc, NORTH, recovery) {
+        match self.host.renew(alloc, NORTH, recovery) {
             Ok(left) => {
                 drop(left);
                 None
@@ -183,14 +183,14 @@ impl Serving {
         }
     }
 
-    /// Whether the pass of whoever makes events at another desk can go on here.
+    /// Whether the pass of whoever makes events at another host can go on here.
     pub fn fits(&self, other: &Serving, realm: usize) -> bool {
-        self.desk.fits(&other.pass, realm)
+        self.host.fits(&other.pass, realm)
     }
 
     /// What an audit says of these passes.
     fn audit(&self, alloc: Global, passes: &[Pass<Entry>]) -> Result<Vec<Reported>, AuditFault> {
-        self.desk.audit(alloc, passes)
+        self.host.audit(alloc, passes)
     }
 
     /// What an audit says of this pass; where memory was wanting it is made once more.
@@ -202,13 +202,13 @@ impl Serving {
         }
     }
 
-    /// The desk is closed, and its rows come back.
+    /// The host is closed, and its rows come back.
     pub fn close(self, alloc: Global) -> Result<MemRows, Fail>
         requires { Always }
     {
-        let Serving { desk, pass } = self;
+        let Serving { host, pass } = self;
         drop(pass);
-        match desk.close(alloc) {
+        match host.close(alloc) {
             Ok((rows, journals)) => {
                 drop(journals);
                 Ok(rows)

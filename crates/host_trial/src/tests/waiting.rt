@@ -1,6 +1,6 @@
-//! What waits at a desk: lines that are to go out.
+//! What waits at a host: lines that are to go out.
 
-use super::desks::NORTH;
+use super::hosts::NORTH;
 use super::serving::Serving;
 use std::alloc::Global;
 use tip_line::Realm;

@@ -6,10 +6,10 @@ use std::alloc::Global;
 use std::test::Fail;
 use tip_branch::{HeldFresh, HeldParty};
 use tip_core::Happened;
-use tip_host::{Host, are_untold, done};
 use tip_line::{Address, Id};
 use tip_machine::{Answer, Event, Heard, Outcome, Purpose, Seat};
 use tip_rows::RowLog;
+use tip_stored::{StoredCore, are_untold, done};
 
 /// One act. Lines come on the connection that was opened last.
 #[derive(Clone, Copy)]
@@ -60,7 +60,7 @@ impl Reached {
 /// Does these acts, up to the first whose change the store refuses. The boxes are for the one connection that is opened.
 pub fn acted<S: RowLog>(
     alloc: Global,
-    host: &mut Host<S>,
+    stored_core: &mut StoredCore<S>,
     boxes: HeldFresh,
     acts: &[Act],
 ) -> Result<Reached, Fail>
@@ -71,7 +71,7 @@ pub fn acted<S: RowLog>(
     let mut work = None;
     for act in acts {
         let event = event(alloc, *act, reached.seat, &mut boxes, &mut work)?;
-        reached = stepped(alloc, host, event, reached, &mut work)?;
+        reached = stepped(alloc, stored_core, event, reached, &mut work)?;
         if reached.is_stopped {
             return Ok(reached);
         }
@@ -151,14 +151,14 @@ fn returned(work: Option<HeldParty>) -> Result<Event, Fail>
 /// One event of north.
 fn stepped<S: RowLog>(
     alloc: Global,
-    host: &mut Host<S>,
+    stored_core: &mut StoredCore<S>,
     event: Event,
     reached: Reached,
     work: &mut Option<HeldParty>,
 ) -> Result<Reached, Fail>
     requires { Always }
 {
-    match host.step(alloc, NORTH, event) {
+    match stored_core.step(alloc, NORTH, event) {
         Ok(happened) => noted(happened, reached, work),
         Err(_) => Err(Fail::from("memory is there")),
     }

@@ -1,5 +1,5 @@
-//! What is asked of a host over a store. Rows in SQLite go through one function, `answered`, which is generic in what is below them:
-//! a proof that has them over the files of a test, for any log, comes to no end.
+//! What is asked of a stored core over a store. Rows in SQLite go through one function, `answered`, which is generic in what is
+//! below them: a proof that has them over the files of a test, for any log, comes to no end.
 ghost use Rattle.tip_branch.specs.Always.{Always};
 
 use super::acts::{Act, Reached, acted};
@@ -11,10 +11,10 @@ use sqlite::Alter;
 use std::alloc::Global;
 use std::test::Fail;
 use tip_branch::HeldFresh;
-use tip_host::Host;
 use tip_recovery::Unfinished;
 use tip_rows::RowLog;
 use tip_sql::SqlRows;
+use tip_stored::StoredCore;
 
 #[derive(Clone, Copy)]
 pub enum Call<'a> {
@@ -22,9 +22,9 @@ pub enum Call<'a> {
     Fill(&'a str),
     /// Both realms start.
     Load,
-    /// North starts again, once the host has begun.
+    /// North starts again, once the stored core has begun.
     Renew,
-    /// North is taken through these acts, once the host has begun.
+    /// North is taken through these acts, once the stored core has begun.
     Acts(&'a [Act]),
     /// Whether this is stored, a start raises the epochs by one, and the rest goes on from there.
     GoOn(Stage),
@@ -81,7 +81,7 @@ fn started<S: RowLog + Drop>(alloc: Global, store: S) -> Result<(Option<Reached>
     requires { Always }
 {
     match begin(alloc, store)? {
-        Beginning::Begun(host) => Ok((Some(Reached::after(1, false)), host.shut())),
+        Beginning::Begun(stored_core) => Ok((Some(Reached::after(1, false)), stored_core.shut())),
         Beginning::Refused(store) => Ok((Some(Reached::after(0, true)), store)),
     }
 }
@@ -90,10 +90,10 @@ fn renewed<S: RowLog + Drop>(alloc: Global, store: S) -> Result<(Option<Reached>
     requires { Always }
 {
     match begin(alloc, store)? {
-        Beginning::Begun(mut host) => {
-            let is_renewed = is_renewed(alloc, &mut host, boxes::for_rows(alloc, &[1])?)?;
+        Beginning::Begun(mut stored_core) => {
+            let is_renewed = is_renewed(alloc, &mut stored_core, boxes::for_rows(alloc, &[1])?)?;
             let reached = Reached::after(usize::from(is_renewed), !is_renewed);
-            Ok((Some(reached), host.shut()))
+            Ok((Some(reached), stored_core.shut()))
         }
         Beginning::Refused(store) => Ok((None, store)),
     }
@@ -107,9 +107,9 @@ fn taken<S: RowLog + Drop>(
     requires { Always }
 {
     match begin(alloc, store)? {
-        Beginning::Begun(mut host) => {
-            let reached = acted(alloc, &mut host, boxes::fresh(alloc)?, acts)?;
-            Ok((Some(reached), host.shut()))
+        Beginning::Begun(mut stored_core) => {
+            let reached = acted(alloc, &mut stored_core, boxes::fresh(alloc)?, acts)?;
+            Ok((Some(reached), stored_core.shut()))
         }
         Beginning::Refused(store) => Ok((None, store)),
     }
@@ -139,15 +139,15 @@ fn going_on<S: RowLog + Drop>(
     if !holds(alloc, &mut store, north, south, stage.row)? {
         return Ok((None, store));
     }
-    let mut host = begun(alloc, store)?;
-    let ends = ends(alloc, &mut host, boxes::fresh(alloc)?, stage)?;
-    Ok((Reached::only_if(ends), host.shut()))
+    let mut stored_core = begun(alloc, store)?;
+    let ends = ends(alloc, &mut stored_core, boxes::fresh(alloc)?, stage)?;
+    Ok((Reached::only_if(ends), stored_core.shut()))
 }
 
-/// Whether a host begins in the epochs behind those of a stage, and goes on from there until north has no row.
+/// Whether a stored core begins in the epochs behind those of a stage, and goes on from there until north has no row.
 fn ends<S: RowLog + Drop>(
     alloc: Global,
-    host: &mut Host<S>,
+    stored_core: &mut StoredCore<S>,
     boxes: HeldFresh,
     stage: &Stage,
 ) -> Result<bool, Fail>
@@ -155,11 +155,11 @@ fn ends<S: RowLog + Drop>(
 {
     let (north, south) = stage.epochs;
     let (north, south) = (north.saturating_add(1), south.saturating_add(1));
-    if !holds(alloc, &mut host.store, north, south, stage.row)? {
+    if !holds(alloc, &mut stored_core.store, north, south, stage.row)? {
         return Ok(false);
     }
-    let reached = acted(alloc, host, boxes, stage.rest)?;
-    Ok(!reached.is_stopped && holds(alloc, &mut host.store, north, south, "")?)
+    let reached = acted(alloc, stored_core, boxes, stage.rest)?;
+    Ok(!reached.is_stopped && holds(alloc, &mut stored_core.store, north, south, "")?)
 }
 
 /// Whether a log has these epochs, this row of north or none, and the row of south.

@@ -1,4 +1,5 @@
-//! Databases below rows. Each call is in a helper without a clause, so that the proof of a test does not carry what a statement means.
+//! Databases below rows. Each call is in a helper without a clause, so that the proof of a test does not carry what a statement
+//! means.
 use sqlite::types::ValueRef;
 use sqlite::{Alter, Connection, Error, MemStore, Row};
 use std::alloc::Global;

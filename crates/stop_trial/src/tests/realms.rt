@@ -6,12 +6,12 @@ use std::alloc::Global;
 use std::test::Fail;
 use tip_branch::HeldPrepared;
 use tip_core::Core;
-use tip_host::{Host, LoadFault, RealmSpec, Recovering, RenewFault};
 use tip_line::{Address, Realm};
 use tip_listing::listed;
 use tip_machine::Limits;
 use tip_recovery::{Recovery, Unfinished};
 use tip_rows::{Branches, Key, Label, Row, RowLog};
+use tip_stored::{LoadFault, RealmSpec, Recovering, RenewFault, StoredCore};
 
 /// The place of north.
 pub const NORTH: usize = 0;
@@ -79,7 +79,7 @@ pub enum Loading<S: Drop> {
 pub fn loaded<S: RowLog + Drop>(alloc: Global, store: S) -> Result<Loading<S>, Fail>
     requires { Always }
 {
-    match Host::load(alloc, store, Core::new(alloc), specs(alloc)?) {
+    match StoredCore::load(alloc, store, Core::new(alloc), specs(alloc)?) {
         Ok(recovering) => Ok(Loading::Recovering(recovering)),
         Err((LoadFault::Refused, store)) => Ok(Loading::Refused(store)),
         Err(_) => Err(Fail::from("memory is there, and each row is one")),
@@ -89,12 +89,12 @@ pub fn loaded<S: RowLog + Drop>(alloc: Global, store: S) -> Result<Loading<S>, F
 /// What became of a start.
 #[derive(Drop)]
 pub enum Beginning<S: Drop> {
-    Begun(Host<S>),
+    Begun(StoredCore<S>),
     /// The store refused.
     Refused(S),
 }
 
-/// A host of both realms over a store.
+/// A stored core of both realms over a store.
 pub fn begin<S: RowLog + Drop>(alloc: Global, store: S) -> Result<Beginning<S>, Fail>
     requires { Always }
 {
@@ -107,12 +107,12 @@ pub fn begin<S: RowLog + Drop>(alloc: Global, store: S) -> Result<Beginning<S>, 
     }
 }
 
-/// A host of both realms over a store that refuses nothing.
-pub fn begun<S: RowLog + Drop>(alloc: Global, store: S) -> Result<Host<S>, Fail>
+/// A stored core of both realms over a store that refuses nothing.
+pub fn begun<S: RowLog + Drop>(alloc: Global, store: S) -> Result<StoredCore<S>, Fail>
     requires { Always }
 {
     match begin(alloc, store)? {
-        Beginning::Begun(host) => Ok(host),
+        Beginning::Begun(stored_core) => Ok(stored_core),
         Beginning::Refused(_) => Err(Fail::from("it refuses nothing")),
     }
 }
@@ -134,18 +134,18 @@ fn counts_of(alloc: Global, rows: &[Unfinished]) -> Result<Vec<usize>, Fail> {
     Ok(counts)
 }
 
-/// These boxes are adopted for all rows, and the host begins.
+/// These boxes are adopted for all rows, and the stored core begins.
 pub fn adopted<S: RowLog + Drop>(
     mut recovering: Recovering<S>,
     boxes: Vec<Vec<HeldPrepared>>,
-) -> Result<Host<S>, Fail>
+) -> Result<StoredCore<S>, Fail>
     requires { Always }
 {
     if !recovering.adopt_all(boxes) {
         return Err(Fail::from("each branch has a box"));
     }
     match recovering.begin() {
-        Ok(host) => Ok(host),
+        Ok(stored_core) => Ok(stored_core),
         Err(_) => Err(Fail::from("no row waits")),
     }
 }
@@ -153,13 +153,13 @@ pub fn adopted<S: RowLog + Drop>(
 /// Whether north starts again, and not where the store refuses. These boxes are for its rows.
 pub fn is_renewed<S: RowLog + Drop>(
     alloc: Global,
-    host: &mut Host<S>,
+    stored_core: &mut StoredCore<S>,
     boxes: Vec<HeldPrepared>,
 ) -> Result<bool, Fail>
     requires { Always }
 {
-    match host.doubts(alloc, NORTH) {
-        Ok(recovery) => is_renewed_by(alloc, host, recovery, boxes),
+    match stored_core.doubts(alloc, NORTH) {
+        Ok(recovery) => is_renewed_by(alloc, stored_core, recovery, boxes),
         Err(RenewFault::NotRead) => Ok(false),
         Err(_) => Err(Fail::from("memory is there, and each row is one")),
     }
@@ -167,7 +167,7 @@ pub fn is_renewed<S: RowLog + Drop>(
 
 fn is_renewed_by<S: RowLog + Drop>(
     alloc: Global,
-    host: &mut Host<S>,
+    stored_core: &mut StoredCore<S>,
     mut recovery: Recovery,
     boxes: Vec<HeldPrepared>,
 ) -> Result<bool, Fail>
@@ -176,7 +176,7 @@ fn is_renewed_by<S: RowLog + Drop>(
     if !recovery.adopt_all(boxes) {
         return Err(Fail::from("each branch has a box"));
     }
-    match host.renew(alloc, NORTH, recovery) {
+    match stored_core.renew(alloc, NORTH, recovery) {
         Ok(_) => Ok(true),
         Err((RenewFault::NotRead | RenewFault::NotRaised, _)) => Ok(false),
         Err(_) => Err(Fail::from("memory is there, and nothing has changed")),

@@ -1,4 +1,5 @@
-//! Calls of a host over files that stop: what is left is what was there before a change, or has it, and the rest goes on from there.
+//! Calls of a stored core over files that stop: what is left is what was there before a change, or has it, and the rest goes on
+//! from there.
 ghost use Rattle.tip_branch.specs.Always.{Always};
 
 use super::acts::Reached;
@@ -87,7 +88,7 @@ fn stops(
     Ok(None)
 }
 
-/// The earliest stop of a file at which the host can still be asked, found by halving.
+/// The earliest stop of a file at which the stored core can still be asked, found by halving.
 fn first_stop(alloc: Global, case: Case<'_>, is_of_log: bool) -> Result<Stop, Fail>
     requires { Always }
 {

@@ -1,4 +1,4 @@
-//! A row of version 1, which SQL wrote, in the hands of a host.
+//! A row of version 1, which SQL wrote, in the hands of a stored core.
 ghost use Rattle.tip_branch.specs.Always.{Always};
 
 use super::acts::Act::{self, Line, Open};

@@ -2,4 +2,4 @@ use Rattle.tip_calls.proofs.Running.{has_started}
 use Rattle.tip_calls.proofs.laws.a_host_that_begins_has_each_realm_at_its_start.Goals as goal
 
 pub returns : goal.returns
-returns g c = has_started g.S.RowLog.stands g.S.RowLog.may_leave g.S.RowLog.is_true g.S.RowLog.faults g.S.RowLog.is_due
+returns g c = has_started g.S.RowLog.keeping

@@ -2,4 +2,4 @@ use Rattle.tip_calls.proofs.Running.{are_run}
 use Rattle.tip_calls.proofs.laws.a_list_of_calls_is_each_realms_own_run.Goals as goal
 
 pub returns : goal.returns
-returns g c = are_run g.S.RowLog.stands g.S.RowLog.may_leave g.S.RowLog.is_true g.S.RowLog.faults g.S.RowLog.is_due
+returns g c = are_run g.S.RowLog.keeping

@@ -1,7 +1,6 @@
 -- Lines that are read and played, one after another.
 use Rattle.std.proofs.Common.{◌∙◌, ◌++◌, ◌∷◌, [], ap, arith, map, refl, subst, sym, Err, Ok}
 use Rattle.std.proofs.lemmas.Result.{err_from_is_err_and}
-use Rattle.tip_actor.specs.Standing.{keeping}
 use Rattle.tip_scene.specs.Stages.{IsReliable, IsStage, store_of}
 use Rattle.script_lines.specs.Lines.{Reads}
 use Rattle.tip_actor.specs.Acting.{boxes_of}
@@ -19,12 +18,12 @@ pub loop-number-init : goal.loop-number-init
 loop-number-init g c = record {
   numbered = omega arith;
   sound = c.new-stage.ensures.sound;
-  truth = λ is. subst g.S.RowLog.is_true c.new-stage.ensures.store is;
-  goes = λ basis may on is. reads_none (keeping g.S.RowLog.stands g.S.RowLog.is_true g.S.RowLog.is_due) basis c.new-stage.result (g.R.Read.remaining c.args.input.now) (g.W.Write.contents c.args.output.now) (c.new-stage.ensures.none basis on);
+  truth = λ is. subst g.S.RowLog.keeping.is_true c.new-stage.ensures.store is;
+  goes = λ basis may on is. reads_none g.S.RowLog.keeping basis c.new-stage.result (g.R.Read.remaining c.args.input.now) (g.W.Write.contents c.args.output.now) (c.new-stage.ensures.none basis on);
 }
 
 pub returns-then-is_beyond-clause-truth : goal.returns-then-is_beyond-clause-truth
-returns-then-is_beyond-clause-truth g c = λ is. c.loop-number.invariant.truth (subst g.S.RowLog.is_true c.shut.ensures is)
+returns-then-is_beyond-clause-truth g c = λ is. c.loop-number.invariant.truth (subst g.S.RowLog.keeping.is_true c.shut.ensures is)
 
 pub returns-then-is_beyond-clause-transcribes : goal.returns-then-is_beyond-clause-transcribes
 returns-then-is_beyond-clause-transcribes g c = λ basis may on.
@@ -32,11 +31,11 @@ returns-then-is_beyond-clause-transcribes g c = λ basis may on.
     let left = g.R.Read.remaining c.loop-number.input in
     let old = g.W.Write.contents c.args.output.now in
     let new = g.W.Write.contents c.loop-number.output in
-    relying (keeping g.S.RowLog.stands g.S.RowLog.is_true g.S.RowLog.is_due) basis whole (λ script. IsReadTo basis script left old new) (g.S.RowLog.is_true c.shut.result)
-    (λ is. no_number (keeping g.S.RowLog.stands g.S.RowLog.is_true g.S.RowLog.is_due) basis c.loop-number.is_over c.loop-number.stage c.loop-number.number whole left old new (c.is_beyond.ensures.yes c.if-is_beyond.true) (c.loop-number.invariant.goes basis may on (subst g.S.RowLog.is_true c.shut.ensures is)))
+    relying g.S.RowLog.keeping basis whole (λ script. IsReadTo basis script left old new) (g.S.RowLog.keeping.is_true c.shut.result)
+    (λ is. no_number g.S.RowLog.keeping basis c.loop-number.is_over c.loop-number.stage c.loop-number.number whole left old new (c.is_beyond.ensures.yes c.if-is_beyond.true) (c.loop-number.invariant.goes basis may on (subst g.S.RowLog.keeping.is_true c.shut.ensures is)))
 
 pub returns-in-Err-clause-truth : goal.returns-in-Err-clause-truth
-returns-in-Err-clause-truth g c = λ is. c.loop-number.invariant.truth (c.next.ensures.truth (subst g.S.RowLog.is_true c.shut-in-Err.ensures is))
+returns-in-Err-clause-truth g c = λ is. c.loop-number.invariant.truth (c.next.ensures.truth (subst g.S.RowLog.keeping.is_true c.shut-in-Err.ensures is))
 
 pub returns-in-Err-clause-transcribes : goal.returns-in-Err-clause-transcribes
 returns-in-Err-clause-transcribes g c = λ basis may on.
@@ -44,9 +43,9 @@ returns-in-Err-clause-transcribes g c = λ basis may on.
     let left' = g.R.Read.remaining c.next.new.input in
     let old = g.W.Write.contents c.args.output.now in
     let new = g.W.Write.contents c.loop-number.output in
-    relying (keeping g.S.RowLog.stands g.S.RowLog.is_true g.S.RowLog.is_due) basis whole (λ script. Transcribes basis script left' old new (Err c.in-Err.fault)) (g.S.RowLog.is_true c.shut-in-Err.result)
-    (λ is. not_come (keeping g.S.RowLog.stands g.S.RowLog.is_true g.S.RowLog.is_due) basis c.loop-number.is_over c.loop-number.stage c.loop-number.number whole (g.R.Read.remaining c.loop-number.input) left' old new c.next.new.line.octets.items c.in-Err.fault
-    (c.loop-number.invariant.goes basis may on (c.next.ensures.truth (subst g.S.RowLog.is_true c.shut-in-Err.ensures is))) c.in-Err.ensures.coming)
+    relying g.S.RowLog.keeping basis whole (λ script. Transcribes basis script left' old new (Err c.in-Err.fault)) (g.S.RowLog.keeping.is_true c.shut-in-Err.result)
+    (λ is. not_come g.S.RowLog.keeping basis c.loop-number.is_over c.loop-number.stage c.loop-number.number whole (g.R.Read.remaining c.loop-number.input) left' old new c.next.new.line.octets.items c.in-Err.fault
+    (c.loop-number.invariant.goes basis may on (c.next.ensures.truth (subst g.S.RowLog.keeping.is_true c.shut-in-Err.ensures is))) c.in-Err.ensures.coming)
 
 pub loop-kind-init : goal.loop-kind-init
 loop-kind-init g c = record { same = refl; made = ap (map (read_of (λ s. s.standing))) c.new-boxes.ensures.items }
@@ -75,36 +74,36 @@ returns-in_default-new-clause-transcribes g c = λ basis may on.
     let whole = g.R.Read.remaining c.args.input.now in
     let old = g.W.Write.contents c.args.output.now in
     let new = g.W.Write.contents c.loop-number.output in
-    relying (keeping g.S.RowLog.stands g.S.RowLog.is_true g.S.RowLog.is_due) basis whole (λ script. IsFront basis script old new) (g.S.RowLog.is_true c.shut-in_default-new.result)
-    (λ is. goes_front (keeping g.S.RowLog.stands g.S.RowLog.is_true g.S.RowLog.is_due) basis c.loop-number.is_over c.loop-number.stage c.loop-number.number whole (g.R.Read.remaining c.loop-number.input) old new
-    (c.loop-number.invariant.goes basis may on (c.next.ensures.truth (subst g.S.RowLog.is_true c.shut-in_default-new.ensures is))))
+    relying g.S.RowLog.keeping basis whole (λ script. IsFront basis script old new) (g.S.RowLog.keeping.is_true c.shut-in_default-new.result)
+    (λ is. goes_front g.S.RowLog.keeping basis c.loop-number.is_over c.loop-number.stage c.loop-number.number whole (g.R.Read.remaining c.loop-number.input) old new
+    (c.loop-number.invariant.goes basis may on (c.next.ensures.truth (subst g.S.RowLog.keeping.is_true c.shut-in_default-new.ensures is))))
 
 pub returns-then-is_err-clause-transcribes : goal.returns-then-is_err-clause-transcribes
 returns-then-is_err-clause-transcribes g c = λ basis may on.
     let whole = g.R.Read.remaining c.args.input.now in
     let old = g.W.Write.contents c.args.output.now in
     let new = g.W.Write.contents c.loop-number.output in
-    relying (keeping g.S.RowLog.stands g.S.RowLog.is_true g.S.RowLog.is_due) basis whole (λ script. IsFront basis script old new) (g.S.RowLog.is_true c.shut-then-is_err.result)
-    (λ is. goes_front (keeping g.S.RowLog.stands g.S.RowLog.is_true g.S.RowLog.is_due) basis c.loop-number.is_over c.loop-number.stage c.loop-number.number whole (g.R.Read.remaining c.loop-number.input) old new
-    (c.loop-number.invariant.goes basis may on (c.next.ensures.truth (subst g.S.RowLog.is_true c.shut-then-is_err.ensures is))))
+    relying g.S.RowLog.keeping basis whole (λ script. IsFront basis script old new) (g.S.RowLog.keeping.is_true c.shut-then-is_err.result)
+    (λ is. goes_front g.S.RowLog.keeping basis c.loop-number.is_over c.loop-number.stage c.loop-number.number whole (g.R.Read.remaining c.loop-number.input) old new
+    (c.loop-number.invariant.goes basis may on (c.next.ensures.truth (subst g.S.RowLog.keeping.is_true c.shut-then-is_err.ensures is))))
 
 pub returns-in_default-new-2-clause-transcribes : goal.returns-in_default-new-2-clause-transcribes
 returns-in_default-new-2-clause-transcribes g c = λ basis may on.
     let whole = g.R.Read.remaining c.args.input.now in
     let old = g.W.Write.contents c.args.output.now in
     let new = g.W.Write.contents c.loop-number.output in
-    relying (keeping g.S.RowLog.stands g.S.RowLog.is_true g.S.RowLog.is_due) basis whole (λ script. IsFront basis script old new) (g.S.RowLog.is_true c.shut-in_default-new-2.result)
-    (λ is. goes_front (keeping g.S.RowLog.stands g.S.RowLog.is_true g.S.RowLog.is_due) basis c.loop-number.is_over c.loop-number.stage c.loop-number.number whole (g.R.Read.remaining c.loop-number.input) old new
-    (c.loop-number.invariant.goes basis may on (c.next.ensures.truth (subst g.S.RowLog.is_true c.shut-in_default-new-2.ensures is))))
+    relying g.S.RowLog.keeping basis whole (λ script. IsFront basis script old new) (g.S.RowLog.keeping.is_true c.shut-in_default-new-2.result)
+    (λ is. goes_front g.S.RowLog.keeping basis c.loop-number.is_over c.loop-number.stage c.loop-number.number whole (g.R.Read.remaining c.loop-number.input) old new
+    (c.loop-number.invariant.goes basis may on (c.next.ensures.truth (subst g.S.RowLog.keeping.is_true c.shut-in_default-new-2.ensures is))))
 
 pub returns-then-is_err-2-clause-transcribes : goal.returns-then-is_err-2-clause-transcribes
 returns-then-is_err-2-clause-transcribes g c = λ basis may on.
     let whole = g.R.Read.remaining c.args.input.now in
     let old = g.W.Write.contents c.args.output.now in
     let new = g.W.Write.contents c.loop-number.output in
-    relying (keeping g.S.RowLog.stands g.S.RowLog.is_true g.S.RowLog.is_due) basis whole (λ script. IsFront basis script old new) (g.S.RowLog.is_true c.shut-then-is_err-2.result)
-    (λ is. goes_front (keeping g.S.RowLog.stands g.S.RowLog.is_true g.S.RowLog.is_due) basis c.loop-number.is_over c.loop-number.stage c.loop-number.number whole (g.R.Read.remaining c.loop-number.input) old new
-    (c.loop-number.invariant.goes basis may on (c.next.ensures.truth (subst g.S.RowLog.is_true c.shut-then-is_err-2.ensures is))))
+    relying g.S.RowLog.keeping basis whole (λ script. IsFront basis script old new) (g.S.RowLog.keeping.is_true c.shut-then-is_err-2.result)
+    (λ is. goes_front g.S.RowLog.keeping basis c.loop-number.is_over c.loop-number.stage c.loop-number.number whole (g.R.Read.remaining c.loop-number.input) old new
+    (c.loop-number.invariant.goes basis may on (c.next.ensures.truth (subst g.S.RowLog.keeping.is_true c.shut-then-is_err-2.ensures is))))
 
 pub finish-requires-clause-willing : goal.finish-requires-clause-willing
 finish-requires-clause-willing g c = subst AreWilling (sym (all_alike _ (λ s. s.standing) no_other (λ box value. refl) c.loop.pool.items)) c.loop.invariant.made
@@ -122,8 +121,8 @@ loop-init g c = record { same = refl; made = subst (λ l. AreWilling (map (read_
 
 pub returns-then-is_over-clause-truth : goal.returns-then-is_over-clause-truth
 returns-then-is_over-clause-truth g c =
-    trusts_back (keeping g.S.RowLog.stands g.S.RowLog.is_true g.S.RowLog.is_due) in_memory c.args.store _ (λ store. store) c.finish.result c.finish.ensures.truth
-    (λ is. c.loop-number.invariant.truth (c.next.ensures.truth (subst (λ s. g.S.RowLog.is_true (store_of s)) (c.loop.invariant.same ∙ c.loop-kind.invariant.same) is)))
+    trusts_back g.S.RowLog.keeping in_memory c.args.store _ (λ store. store) c.finish.result c.finish.ensures.truth
+    (λ is. c.loop-number.invariant.truth (c.next.ensures.truth (subst (λ s. g.S.RowLog.keeping.is_true (store_of s)) (c.loop.invariant.same ∙ c.loop-kind.invariant.same) is)))
 
 pub returns-then-is_over-clause-transcribes : goal.returns-then-is_over-clause-transcribes
 returns-then-is_over-clause-transcribes g c = λ basis may on.
@@ -135,15 +134,15 @@ returns-then-is_over-clause-transcribes g c = λ basis may on.
     let new = g.W.Write.contents c.finish.new.output in
     let stage = c.loop-number.stage in
     let over = c.loop-number.is_over in
-    let same = no_line (keeping g.S.RowLog.stands g.S.RowLog.is_true g.S.RowLog.is_due) basis over left left' c.loop-number.number c.next.new.line.octets.items c.in-Ok-next.coming c.if-is_over.true c.in-Ok-next.ensures.coming in
-    closes_on (keeping g.S.RowLog.stands g.S.RowLog.is_true g.S.RowLog.is_due) basis stage whole left' old mid new c.finish.result (trusts_back (keeping g.S.RowLog.stands g.S.RowLog.is_true g.S.RowLog.is_due) basis (store_of stage) _ (λ store. store) c.finish.result c.finish.ensures.truth (λ is. c.next.ensures.truth (subst (λ s. g.S.RowLog.is_true (store_of s)) (c.loop.invariant.same ∙ c.loop-kind.invariant.same) is)))
-    (λ is. subst (λ l. HasEnded (keeping g.S.RowLog.stands g.S.RowLog.is_true g.S.RowLog.is_due) basis stage whole l old mid) (sym same) (gone (keeping g.S.RowLog.stands g.S.RowLog.is_true g.S.RowLog.is_due) basis over stage c.loop-number.number whole left old mid c.if-is_over.true (c.loop-number.invariant.goes basis may on is)))
-    (λ now is. c.finish.ensures.closes basis now (subst (λ s. IsStage (keeping g.S.RowLog.stands g.S.RowLog.is_true g.S.RowLog.is_due) basis s now) (sym (c.loop.invariant.same ∙ c.loop-kind.invariant.same)) (c.next.ensures.stands basis now is)))
+    let same = no_line g.S.RowLog.keeping basis over left left' c.loop-number.number c.next.new.line.octets.items c.in-Ok-next.coming c.if-is_over.true c.in-Ok-next.ensures.coming in
+    closes_on g.S.RowLog.keeping basis stage whole left' old mid new c.finish.result (trusts_back g.S.RowLog.keeping basis (store_of stage) _ (λ store. store) c.finish.result c.finish.ensures.truth (λ is. c.next.ensures.truth (subst (λ s. g.S.RowLog.keeping.is_true (store_of s)) (c.loop.invariant.same ∙ c.loop-kind.invariant.same) is)))
+    (λ is. subst (λ l. HasEnded g.S.RowLog.keeping basis stage whole l old mid) (sym same) (gone g.S.RowLog.keeping basis over stage c.loop-number.number whole left old mid c.if-is_over.true (c.loop-number.invariant.goes basis may on is)))
+    (λ now is. c.finish.ensures.closes basis now (subst (λ s. IsStage g.S.RowLog.keeping basis s now) (sym (c.loop.invariant.same ∙ c.loop-kind.invariant.same)) (c.next.ensures.stands basis now is)))
 
 pub returns-in_err-stage-clause-truth : goal.returns-in_err-stage-clause-truth
 returns-in_err-stage-clause-truth g c =
     let e = err_from_is_err_and c.from_residual.result c.from_residual.ensures.1 in
-    rw (e.1, e.2) (λ is. c.loop-number.invariant.truth (c.next.ensures.truth (subst (λ s. g.S.RowLog.is_true (store_of s)) (c.loop.invariant.same ∙ c.loop-kind.invariant.same) (c.in_err-stage.ensures.truth is))))
+    rw (e.1, e.2) (λ is. c.loop-number.invariant.truth (c.next.ensures.truth (subst (λ s. g.S.RowLog.keeping.is_true (store_of s)) (c.loop.invariant.same ∙ c.loop-kind.invariant.same) (c.in_err-stage.ensures.truth is))))
 
 pub returns-in_err-stage-clause-transcribes : goal.returns-in_err-stage-clause-transcribes
 returns-in_err-stage-clause-transcribes g c = λ basis may on.
@@ -158,19 +157,19 @@ returns-in_err-stage-clause-transcribes g c = λ basis may on.
     let text = c.as_slice-text.result.now in
     let why = c.in_err-stage.field-0.0 in
     let letters = c.deref-kind-items.result.now in
-    let come = a_line (keeping g.S.RowLog.stands g.S.RowLog.is_true g.S.RowLog.is_due) basis c.loop-number.is_over left left' c.loop-number.number c.next.new.line.octets.items c.in-Ok-next.coming c.if-is_over.false c.in-Ok-next.ensures.coming in
+    let come = a_line g.S.RowLog.keeping basis c.loop-number.is_over left left' c.loop-number.number c.next.new.line.octets.items c.in-Ok-next.coming c.if-is_over.false c.in-Ok-next.ensures.coming in
     let reads : Reads left left' text (Ok c.in-Ok-next.coming.end) = subst (λ l. Reads left left' l (Ok c.in-Ok-next.coming.end)) (sym c.as_slice-text.ensures) come.0 in
-    rw (e.1, e.2) (relying (keeping g.S.RowLog.stands g.S.RowLog.is_true g.S.RowLog.is_due) basis whole (λ script. Transcribes basis script left' old new (Err why.0)) (IsReliable (keeping g.S.RowLog.stands g.S.RowLog.is_true g.S.RowLog.is_due) why.1)
-    (λ is. line_fails (keeping g.S.RowLog.stands g.S.RowLog.is_true g.S.RowLog.is_due) basis stage c.loop-number.number whole left left' old mid new text c.in-Ok-next.coming.end why.0
-    (still_going (keeping g.S.RowLog.stands g.S.RowLog.is_true g.S.RowLog.is_due) basis c.loop-number.is_over stage c.loop-number.number whole left old mid c.if-is_over.false (c.loop-number.invariant.goes basis may on (c.next.ensures.truth (subst (λ s. g.S.RowLog.is_true (store_of s)) (c.loop.invariant.same ∙ c.loop-kind.invariant.same) (c.in_err-stage.ensures.truth is)))))
+    rw (e.1, e.2) (relying g.S.RowLog.keeping basis whole (λ script. Transcribes basis script left' old new (Err why.0)) (IsReliable g.S.RowLog.keeping why.1)
+    (λ is. line_fails g.S.RowLog.keeping basis stage c.loop-number.number whole left left' old mid new text c.in-Ok-next.coming.end why.0
+    (still_going g.S.RowLog.keeping basis c.loop-number.is_over stage c.loop-number.number whole left old mid c.if-is_over.false (c.loop-number.invariant.goes basis may on (c.next.ensures.truth (subst (λ s. g.S.RowLog.keeping.is_true (store_of s)) (c.loop.invariant.same ∙ c.loop-kind.invariant.same) (c.in_err-stage.ensures.truth is)))))
     come.1 reads
-    (λ now there. c.in_err-stage.ensures.acts basis now may (subst (λ s. IsStage (keeping g.S.RowLog.stands g.S.RowLog.is_true g.S.RowLog.is_due) basis s now) (sym (c.loop.invariant.same ∙ c.loop-kind.invariant.same)) (c.next.ensures.stands basis now there)) (λ move said. ap badges_of (all_alike _ (λ s. s.standing) no_other (λ box value. refl) c.loop-kind.boxes.items ∙ all_made letters c.loop-kind.kind-index _ c.loop-kind-test.false c.loop-kind.invariant.made) ∙ fresh_known (plans_of letters) ∙ ap (λ l. boxes_of (plans_of l)) c.deref-kind-items.ensures.value ∙ ap boxes_of (come.2 move (ap move_of (sym c.as_slice-text.ensures) ∙ said))) is)))
+    (λ now there. c.in_err-stage.ensures.acts basis now may (subst (λ s. IsStage g.S.RowLog.keeping basis s now) (sym (c.loop.invariant.same ∙ c.loop-kind.invariant.same)) (c.next.ensures.stands basis now there)) (λ move said. ap badges_of (all_alike _ (λ s. s.standing) no_other (λ box value. refl) c.loop-kind.boxes.items ∙ all_made letters c.loop-kind.kind-index _ c.loop-kind-test.false c.loop-kind.invariant.made) ∙ fresh_known (plans_of letters) ∙ ap (λ l. boxes_of (plans_of l)) c.deref-kind-items.ensures.value ∙ ap boxes_of (come.2 move (ap move_of (sym c.as_slice-text.ensures) ∙ said))) is)))
 
 pub loop-number-preserved : goal.loop-number-preserved
 loop-number-preserved g c =
     let beyond = c.is_beyond.ensures.no c.if-is_beyond.false c.if-is_over.false in
     let before = c.loop-number.invariant.numbered in
-    let back = λ (is : g.S.RowLog.is_true (store_of c.in_ok-stage.stage)). c.next.ensures.truth (subst (λ s. g.S.RowLog.is_true (store_of s)) (c.loop.invariant.same ∙ c.loop-kind.invariant.same) (c.in_ok-stage.ensures.truth is)) in
+    let back = λ (is : g.S.RowLog.keeping.is_true (store_of c.in_ok-stage.stage)). c.next.ensures.truth (subst (λ s. g.S.RowLog.keeping.is_true (store_of s)) (c.loop.invariant.same ∙ c.loop-kind.invariant.same) (c.in_ok-stage.ensures.truth is)) in
     record {
       numbered = omega (arith, beyond, before);
       sound = c.in_ok-stage.ensures.sound;
@@ -185,10 +184,10 @@ loop-number-preserved g c =
           let stage = c.loop-number.stage in
           let text = c.as_slice-text.result.now in
           let letters = c.deref-kind-items.result.now in
-          let come = a_line (keeping g.S.RowLog.stands g.S.RowLog.is_true g.S.RowLog.is_due) basis c.loop-number.is_over left left' c.loop-number.number c.next.new.line.octets.items c.in-Ok-next.coming c.if-is_over.false c.in-Ok-next.ensures.coming in
+          let come = a_line g.S.RowLog.keeping basis c.loop-number.is_over left left' c.loop-number.number c.next.new.line.octets.items c.in-Ok-next.coming c.if-is_over.false c.in-Ok-next.ensures.coming in
           let reads : Reads left left' text (Ok c.in-Ok-next.coming.end) = subst (λ l. Reads left left' l (Ok c.in-Ok-next.coming.end)) (sym c.as_slice-text.ensures) come.0 in
-          goes_on (keeping g.S.RowLog.stands g.S.RowLog.is_true g.S.RowLog.is_due) basis c.is_last-is_over.result stage c.in_ok-stage.stage c.loop-number.number whole left left' old mid new text c.in-Ok-next.coming.end
-          (still_going (keeping g.S.RowLog.stands g.S.RowLog.is_true g.S.RowLog.is_due) basis c.loop-number.is_over stage c.loop-number.number whole left old mid c.if-is_over.false (c.loop-number.invariant.goes basis may on (back is)))
+          goes_on g.S.RowLog.keeping basis c.is_last-is_over.result stage c.in_ok-stage.stage c.loop-number.number whole left left' old mid new text c.in-Ok-next.coming.end
+          (still_going g.S.RowLog.keeping basis c.loop-number.is_over stage c.loop-number.number whole left old mid c.if-is_over.false (c.loop-number.invariant.goes basis may on (back is)))
           come.1 c.is_last-is_over.ensures.yes c.is_last-is_over.ensures.no reads
-          (λ now there. c.in_ok-stage.ensures.acts basis now may (subst (λ s. IsStage (keeping g.S.RowLog.stands g.S.RowLog.is_true g.S.RowLog.is_due) basis s now) (sym (c.loop.invariant.same ∙ c.loop-kind.invariant.same)) (c.next.ensures.stands basis now there)) (λ move said. ap badges_of (all_alike _ (λ s. s.standing) no_other (λ box value. refl) c.loop-kind.boxes.items ∙ all_made letters c.loop-kind.kind-index _ c.loop-kind-test.false c.loop-kind.invariant.made) ∙ fresh_known (plans_of letters) ∙ ap (λ l. boxes_of (plans_of l)) c.deref-kind-items.ensures.value ∙ ap boxes_of (come.2 move (ap move_of (sym c.as_slice-text.ensures) ∙ said))) is);
+          (λ now there. c.in_ok-stage.ensures.acts basis now may (subst (λ s. IsStage g.S.RowLog.keeping basis s now) (sym (c.loop.invariant.same ∙ c.loop-kind.invariant.same)) (c.next.ensures.stands basis now there)) (λ move said. ap badges_of (all_alike _ (λ s. s.standing) no_other (λ box value. refl) c.loop-kind.boxes.items ∙ all_made letters c.loop-kind.kind-index _ c.loop-kind-test.false c.loop-kind.invariant.made) ∙ fresh_known (plans_of letters) ∙ ap (λ l. boxes_of (plans_of l)) c.deref-kind-items.ensures.value ∙ ap boxes_of (come.2 move (ap move_of (sym c.as_slice-text.ensures) ∙ said))) is);
     }

@@ -1,5 +1,4 @@
 use Rattle.std.proofs.Common.{◌≡◌, ◌≤◌, map, take}
-use Rattle.tip_actor.specs.Standing.{keeping}
 use Rattle.tip_scene.specs.Acts.{Basis}
 use Rattle.tip_scene.specs.Boxes.{AreWilling}
 use Rattle.tip_scene.specs.Stages.{IsBasis, IsSound, store_of}
@@ -13,8 +12,8 @@ abbrev pub invariant-loop-number : goal.invariant-loop-number
 invariant-loop-number g l = record {
   numbered : l.number ≤ 18446744073709551614;
   sound : IsSound l.stage;
-  truth : g.S.RowLog.is_true (store_of l.stage) → g.S.RowLog.is_true l.fn.store;
-  goes : (basis : Basis) → basis.may_refuse ≡ g.F.Refuser.may → IsBasis (keeping g.S.RowLog.stands g.S.RowLog.is_true g.S.RowLog.is_due) basis l.fn.store → g.S.RowLog.is_true (store_of l.stage) → Goes (keeping g.S.RowLog.stands g.S.RowLog.is_true g.S.RowLog.is_due) basis l.is_over l.stage l.number (g.R.Read.remaining l.fn.input) (g.R.Read.remaining l.input) (g.W.Write.contents l.fn.output) (g.W.Write.contents l.output);
+  truth : g.S.RowLog.keeping.is_true (store_of l.stage) → g.S.RowLog.keeping.is_true l.fn.store;
+  goes : (basis : Basis) → basis.may_refuse ≡ g.F.Refuser.may → IsBasis g.S.RowLog.keeping basis l.fn.store → g.S.RowLog.keeping.is_true (store_of l.stage) → Goes g.S.RowLog.keeping basis l.is_over l.stage l.number (g.R.Read.remaining l.fn.input) (g.R.Read.remaining l.input) (g.W.Write.contents l.fn.output) (g.W.Write.contents l.output);
 }
 
 -- making boxes leaves the stage, and each holds the branch of its letter

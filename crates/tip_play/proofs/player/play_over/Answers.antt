@@ -1,19 +1,18 @@
 -- What was written stays, and is not known to be there where it was not flushed.
 use Rattle.std.proofs.Common.{subst, sym}
 use Rattle.std.specs.Prelude.{IfSome}
-use Rattle.tip_actor.specs.Standing.{keeping}
 use Rattle.tip_play.specs.Transcripts.{TranscribesOn}
 use Rattle.tip_play.proofs.Ending.{all_kept, all_unflushed}
 use Rattle.tip_play.proofs.player.play_over.Goals as goal
 
 pub returns-in-Ok-clause-transcribes : goal.returns-in-Ok-clause-transcribes
 returns-in-Ok-clause-transcribes g c = λ basis may on.
-    all_kept (keeping g.S.RowLog.stands g.S.RowLog.is_true g.S.RowLog.is_due) basis (g.R.Read.remaining c.args.input.now) (g.R.Read.remaining c.play_lines-end.new.input) (g.W.Write.contents c.args.output.now) (g.W.Write.contents c.play_lines-end.new.output) (g.W.Write.contents c.flush.new.self) c.play_lines-end.result c.flush.ensures.bytes
+    all_kept g.S.RowLog.keeping basis (g.R.Read.remaining c.args.input.now) (g.R.Read.remaining c.play_lines-end.new.input) (g.W.Write.contents c.args.output.now) (g.W.Write.contents c.play_lines-end.new.output) (g.W.Write.contents c.flush.new.self) c.play_lines-end.result c.flush.ensures.bytes
     (c.play_lines-end.ensures.transcribes basis may on)
 
 pub returns-in-Err-clause-transcribes : goal.returns-in-Err-clause-transcribes
 returns-in-Err-clause-transcribes g c = λ basis may on.
-    subst (λ r. IfSome (g.R.Read.remaining c.args.input.now) (λ script. TranscribesOn (keeping g.S.RowLog.stands g.S.RowLog.is_true g.S.RowLog.is_due) basis script (g.R.Read.remaining c.play_lines-end.new.input) (g.W.Write.contents c.args.output.now) (g.W.Write.contents c.flush.new.self) r)) (sym c.unflushed.ensures)
-    (all_unflushed (keeping g.S.RowLog.stands g.S.RowLog.is_true g.S.RowLog.is_due) basis (g.R.Read.remaining c.args.input.now) (g.R.Read.remaining c.play_lines-end.new.input) (g.W.Write.contents c.args.output.now) (g.W.Write.contents c.flush.new.self) c.play_lines-end.result
-    (all_kept (keeping g.S.RowLog.stands g.S.RowLog.is_true g.S.RowLog.is_due) basis (g.R.Read.remaining c.args.input.now) (g.R.Read.remaining c.play_lines-end.new.input) (g.W.Write.contents c.args.output.now) (g.W.Write.contents c.play_lines-end.new.output) (g.W.Write.contents c.flush.new.self) c.play_lines-end.result c.flush.ensures.bytes
+    subst (λ r. IfSome (g.R.Read.remaining c.args.input.now) (λ script. TranscribesOn g.S.RowLog.keeping basis script (g.R.Read.remaining c.play_lines-end.new.input) (g.W.Write.contents c.args.output.now) (g.W.Write.contents c.flush.new.self) r)) (sym c.unflushed.ensures)
+    (all_unflushed g.S.RowLog.keeping basis (g.R.Read.remaining c.args.input.now) (g.R.Read.remaining c.play_lines-end.new.input) (g.W.Write.contents c.args.output.now) (g.W.Write.contents c.flush.new.self) c.play_lines-end.result
+    (all_kept g.S.RowLog.keeping basis (g.R.Read.remaining c.args.input.now) (g.R.Read.remaining c.play_lines-end.new.input) (g.W.Write.contents c.args.output.now) (g.W.Write.contents c.play_lines-end.new.output) (g.W.Write.contents c.flush.new.self) c.play_lines-end.result c.flush.ensures.bytes
     (c.play_lines-end.ensures.transcribes basis may on)))

@@ -5,7 +5,7 @@ use Rattle.tip_scene.proofs.counting.count_declared.Given as goal
 -- what was read left the store as it was
 abbrev pub invariant-loop-declaration : goal.invariant-loop-declaration
 invariant-loop-declaration g l = record {
-  stands : (log : Log) → g.S.RowLog.stands l.fn.store log → g.S.RowLog.stands l.store log;
-  due : (r : List ℕ) → g.S.RowLog.is_due l.store r ≡ g.S.RowLog.is_due l.fn.store r;
-  truth : g.S.RowLog.is_true l.store → g.S.RowLog.is_true l.fn.store;
+  stands : (log : Log) → g.S.RowLog.keeping.stands l.fn.store log → g.S.RowLog.keeping.stands l.store log;
+  due : (r : List ℕ) → g.S.RowLog.keeping.is_due l.store r ≡ g.S.RowLog.keeping.is_due l.fn.store r;
+  truth : g.S.RowLog.keeping.is_true l.store → g.S.RowLog.keeping.is_true l.fn.store;
 }

@@ -3,7 +3,7 @@ use Rattle.std.proofs.Common.{◌≡◌, ◌∙◌, ◌++◌, List, true, ap, ma
 use Rattle.std.specs.Prelude.{option_map, slice_get}
 use Rattle.std.proofs.lemmas.Result.{on_ok_weaker}
 use Rattle.tip_actor.specs.Acting.{renews, willing_boxes}
-use Rattle.tip_actor.specs.Standing.{IsActing, IsDone, keeping}
+use Rattle.tip_actor.specs.Standing.{IsActing, IsDone}
 use Rattle.tip_line.specs.declared.refusal.Refusal.TheVariants.{EpochEnd}
 use Rattle.tip_machine.specs.States.{State}
 use Rattle.tip_recovery.specs.Adopting.{Unfinished}
@@ -15,7 +15,7 @@ use Rattle.tip_scene.proofs.renewing.renew.Goals as goal
 pub returns-in_default-clause-acts : goal.returns-in_default-clause-acts
 returns-in_default-clause-acts g c = λ truth acting acts.
     let there = c.heads.ensures c.args.place ∙ ap (option_map (λ (state : State). state.head)) acts.served.state_is in
-    at_its_end (keeping g.S.RowLog.stands g.S.RowLog.is_true g.S.RowLog.is_due) c.args.host.now c.args.place c.args.actor.now acting acts (string_bytes c.args.printed.now) (string_bytes c.print_refusal.new.printed)
+    at_its_end g.S.RowLog.keeping c.args.stored_core.now c.args.place c.args.actor.now acting acts (string_bytes c.args.printed.now) (string_bytes c.print_refusal.new.printed)
     (was_last acting.world.state.head (slice_get c.heads.result.now c.args.place) c.next_epoch.result there c.next_epoch.ensures c.in_default.is)
     (c.in_ok-print_refusal.ensures ∙ ap (λ n. string_bytes c.args.printed.now ++ refusal_text n EpochEnd) c.as_str.ensures.same)
 
@@ -24,18 +24,18 @@ returns-clause-truth g c = λ truth. c.doubts.ensures.store.truth (c.renew_by.en
 
 pub returns-clause-acts : goal.returns-clause-acts
 returns-clause-acts g c = λ truth.
-    let host = c.args.host.now in
+    let stored_core = c.args.stored_core.now in
     let mid = c.doubts.new.self in
     let goes = c.doubts.ensures.store in
-    let stood : (log : Log) → g.S.RowLog.stands host.store log → g.S.RowLog.stands mid.store log = λ log was. (let way = goes.rows log was in subst (g.S.RowLog.stands mid.store) way.1 way.2) in
+    let stood : (log : Log) → g.S.RowLog.keeping.stands stored_core.store log → g.S.RowLog.keeping.stands mid.store log = λ log was. (let way = goes.rows log was in subst (g.S.RowLog.keeping.stands mid.store) way.1 way.2) in
     let fits : c.adopt_all.result ≡ true = search rules in
     let mid_true = c.renew_by.ensures.truth truth in
-    for_each (IsActing (keeping g.S.RowLog.stands g.S.RowLog.is_true g.S.RowLog.is_due) host c.args.place c.args.actor.now) (λ acting. IsDone (keeping g.S.RowLog.stands g.S.RowLog.is_true g.S.RowLog.is_due) host c.renew_by.new.host c.args.place c.args.actor.now c.renew_by.new.actor (string_bytes c.args.printed.now) (string_bytes c.renew_by.new.printed) (renews acting)) c.renew_by.result (λ acting acts.
+    for_each (IsActing g.S.RowLog.keeping stored_core c.args.place c.args.actor.now) (λ acting. IsDone g.S.RowLog.keeping stored_core c.renew_by.new.stored_core c.args.place c.args.actor.now c.renew_by.new.actor (string_bytes c.args.printed.now) (string_bytes c.renew_by.new.printed) (renews acting)) c.renew_by.result (λ acting acts.
     let there = c.heads.ensures c.args.place ∙ ap (option_map (λ (state : State). state.head)) acts.served.state_is in
     let next = not_last acting.world.state.head (slice_get c.heads.result.now c.args.place) c.next_epoch.result there c.next_epoch.ensures c.in-Some.epoch c.in-Some.is in
-    let due : (name : List _) → g.S.RowLog.is_due mid.store name ≡ g.S.RowLog.is_due host.store name = goes.due acts.stored.log acts.stored.stood in
+    let due : (name : List _) → g.S.RowLog.keeping.is_due mid.store name ≡ g.S.RowLog.keeping.is_due stored_core.store name = goes.due acts.stored.log acts.stored.stood in
     let read = read_rows acts.stored.log acting.world.state.head.name acting.world.state.head.epoch acting.world.rows c.in_ok-recovery.recovery acts.stored.part (c.in_ok-recovery.ensures.read acts.stored.log acting.world.state acts.stored.stood acts.served.state_is mid_true) in
     let lots = c.in_ok-lots.ensures.dealt ∙ ap (map (λ (row : Unfinished). willing_boxes row.row)) c.rows.ensures.same in
     let willing = has_willing acting acting.world.state.head.name c.in_ok-recovery.recovery.rows c.adopt_all.new.self.rows c.in_ok-lots.lots.items acts.named read lots (c.adopt_all.ensures.adopted fits) in
-    on_ok_weaker c.renew_by.result (λ done. renews_all (keeping g.S.RowLog.stands g.S.RowLog.is_true g.S.RowLog.is_due) host c.args.place c.args.actor.now acting acts mid c.renew_by.new.host c.renew_by.new.actor (string_bytes c.args.printed.now) (string_bytes c.renew_by.new.printed) next.1 (leaves_still (keeping g.S.RowLog.stands g.S.RowLog.is_true g.S.RowLog.is_due) host mid c.doubts.ensures.core stood due c.args.place c.args.actor.now.name) done)
-    (c.renew_by.ensures.done truth acting (acts_still (keeping g.S.RowLog.stands g.S.RowLog.is_true g.S.RowLog.is_due) host mid c.doubts.ensures.core stood due c.args.place c.args.actor.now acting acts) willing next.0))
+    on_ok_weaker c.renew_by.result (λ done. renews_all g.S.RowLog.keeping stored_core c.args.place c.args.actor.now acting acts mid c.renew_by.new.stored_core c.renew_by.new.actor (string_bytes c.args.printed.now) (string_bytes c.renew_by.new.printed) next.1 (leaves_still g.S.RowLog.keeping stored_core mid c.doubts.ensures.core stood due c.args.place c.args.actor.now.name) done)
+    (c.renew_by.ensures.done truth acting (acts_still g.S.RowLog.keeping stored_core mid c.doubts.ensures.core stood due c.args.place c.args.actor.now acting acts) willing next.0))

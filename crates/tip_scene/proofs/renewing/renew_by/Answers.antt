@@ -1,10 +1,9 @@
 -- The realm has started again, or the store was to refuse that.
 use Rattle.std.proofs.Common.{◌≡◌, ◌==◌, ◌∙◌, ◌++◌, ℕ, List, false, refl, ap, arith, string_bytes, subst, sym}
 use Rattle.std.proofs.lemmas.Bool.Decides.{nat_tests}
-use Rattle.tip_host.specs.Renewing.{SpendsFor}
+use Rattle.tip_stored.specs.Renewing.{SpendsFor}
 use Rattle.tip_line.specs.declared.refusal.Refusal.TheVariants.{Refused}
 use Rattle.tip_rows.specs.Logs.{last_epoch}
-use Rattle.tip_actor.specs.Standing.{keeping}
 use Rattle.std.specs.List.{flat_map}
 use Rattle.tip_actor.proofs.Leaving.{left_here}
 use Rattle.tip_transcript.specs.Printing.{refusal_text, start_text}
@@ -14,27 +13,27 @@ use Rattle.tip_scene.proofs.renewing.renew_by.Goals as goal
 
 pub returns-in-Ok-clause-done : goal.returns-in-Ok-clause-done
 returns-in-Ok-clause-done g c = λ truth acting acts willing epoch.
-    let host = c.args.host.now in
+    let stored_core = c.args.stored_core.now in
     let name = acting.world.state.head.name in
     let there = acts.served.state_is in
     let rises = c.in-Ok.ensures.store acting.world.state there in
     let spends = rises.due acts.stored.log acts.stored.stood in
     let fits = c.ranges.epoch.fits in
     let not_last : (acting.world.state.head.epoch == last_epoch) ≡ false = grind (arith, nat_tests, epoch, fits) in
-    let due : acting.due ≡ false = sym acts.served.due_is ∙ not_due (g.S.RowLog.is_due host.store name) spends.1 in
+    let due : acting.due ≡ false = sym acts.served.due_is ∙ not_due (g.S.RowLog.keeping.is_due stored_core.store name) spends.1 in
     let own = c.as_str-name.result.now in
     let text = left_here own acting.world.state.transactions ++ (start_text own c.args.epoch ++ flat_map (row_text own) c.rows.result.now) in
     let opening = c.in_ok-print_opening.ensures acting.world.state there ∙ ap (λ (t : List ℕ). t ++ text) c.new-opening.ensures.bytes in
     let said = said_anew acting c.as_str-name.result.now c.args.epoch c.rows.result.now (c.as_str-name.ensures.same ∙ acts.own.name) due epoch (c.rows.ensures.same ∙ willing) in
-    renews_so (keeping g.S.RowLog.stands g.S.RowLog.is_true g.S.RowLog.is_due) host c.renew.new.self c.args.place c.args.actor.now _ acting acts rises.rows spends.0 c.args.recovery willing (c.in-Ok.ensures.renewed acting.world.state there) spends.1 not_last c.renew.ensures.others c.in-Ok.ensures.names
+    renews_so g.S.RowLog.keeping stored_core c.renew.new.self c.args.place c.args.actor.now _ acting acts rises.rows spends.0 c.args.recovery willing (c.in-Ok.ensures.renewed acting.world.state there) spends.1 not_last c.renew.ensures.others c.in-Ok.ensures.names
     refl c.clear.ensures.items refl refl (string_bytes c.args.printed.now) (string_bytes c.push_str.new.self)
     (c.in_ok-push_str-in-Ok.ensures.bytes ∙ ap (λ t. string_bytes c.args.printed.now ++ t) (c.deref.ensures ∙ opening ∙ said))
 
 pub returns-in-Err-NotRaised-default-clause-done : goal.returns-in-Err-NotRaised-default-clause-done
 returns-in-Err-NotRaised-default-clause-done g c = λ truth acting acts willing epoch.
-    let host = c.args.host.now in
+    let stored_core = c.args.stored_core.now in
     let name = acting.world.state.head.name in
     let rises = c.in-Err-NotRaised-default.ensures.store acting.world.state acts.served.state_is in
-    let spent = subst (λ fault. SpendsFor fault name (g.S.RowLog.is_due host.store) (g.S.RowLog.is_due c.renew.new.self.store)) c.in-Err-NotRaised-default.field-0-0-is (rises.due acts.stored.log acts.stored.stood) in
-    refuses_so (keeping g.S.RowLog.stands g.S.RowLog.is_true g.S.RowLog.is_due) host c.renew.new.self c.args.place c.args.actor.now _ acting acts rises.rows spent c.in-Err-NotRaised-default.ensures.same c.if-actor.true
+    let spent = subst (λ fault. SpendsFor fault name (g.S.RowLog.keeping.is_due stored_core.store) (g.S.RowLog.keeping.is_due c.renew.new.self.store)) c.in-Err-NotRaised-default.field-0-0-is (rises.due acts.stored.log acts.stored.stood) in
+    refuses_so g.S.RowLog.keeping stored_core c.renew.new.self c.args.place c.args.actor.now _ acting acts rises.rows spent c.in-Err-NotRaised-default.ensures.same c.if-actor.true
     refl refl refl refl (string_bytes c.args.printed.now) (string_bytes c.print_refusal.new.printed) (c.in_ok-print_refusal-in-Err-NotRaised-default.ensures ∙ ap (λ n. string_bytes c.args.printed.now ++ refusal_text n Refused) c.as_str.ensures.same)

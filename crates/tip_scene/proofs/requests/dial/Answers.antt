@@ -2,7 +2,6 @@
 use Rattle.std.proofs.Common.{◌∙◌, None, Some, ap, string_bytes, sym}
 use Rattle.std.specs.Prelude.{◌&&◌, if◌then◌else◌}
 use Rattle.tip_actor.specs.Acting.{boxes_of}
-use Rattle.tip_actor.specs.Standing.{keeping}
 use Rattle.tip_line.specs.Words.{is_address}
 use Rattle.tip_machine.specs.declared.event.Event.TheVariants.{Dial}
 use Rattle.tip_script.specs.Moves.{purpose_of}
@@ -14,4 +13,4 @@ pub returns-in_ok-happen-in-Some-clause-tells : goal.returns-in_ok-happen-in-Som
 returns-in_ok-happen-in-Some-clause-tells g c = λ acting realm plans is boxes.
     let words = is_address c.args.address.now && is_purpose (purpose_of c.args.aim) in
     let said = sym c.in-Some.is ∙ c.in_ok-event.ensures ∙ ap (λ b. if words then Some (Dial c.args.address.now (purpose_of c.args.aim) b) else None) boxes in
-    dialled (keeping g.S.RowLog.stands g.S.RowLog.is_true g.S.RowLog.is_due) c.args.host.now c.happen.new.host c.args.place c.args.actor.now c.happen.new.self (string_bytes c.args.printed.now) (string_bytes c.happen.new.printed) acting words (Dial c.args.address.now (purpose_of c.args.aim) (boxes_of plans)) c.in-Some.event said (c.in_ok-happen-in-Some.ensures.acts acting is)
+    dialled g.S.RowLog.keeping c.args.stored_core.now c.happen.new.stored_core c.args.place c.args.actor.now c.happen.new.self (string_bytes c.args.printed.now) (string_bytes c.happen.new.printed) acting words (Dial c.args.address.now (purpose_of c.args.aim) (boxes_of plans)) c.in-Some.event said (c.in_ok-happen-in-Some.ensures.acts acting is)

@@ -2,23 +2,22 @@
 use Rattle.std.proofs.Common.{◌≡◌, ◌∙◌, false, string_bytes, subst, sym}
 use Rattle.std.specs.List.{list_any}
 use Rattle.tip_actor.specs.Acting.{is_at_end}
-use Rattle.tip_actor.specs.Standing.{keeping}
 use Rattle.tip_scene.specs.Standing.{IsScene}
 use Rattle.tip_scene.proofs.Again.{any_at_end, new_again, starts_again, stays_put, wait_again}
 use Rattle.tip_scene.proofs.restarting.restart.Goals as goal
 
 pub returns-then-is_any_at_end-clause-moves : goal.returns-then-is_any_at_end-clause-moves
-returns-then-is_any_at_end-clause-moves g c = λ scene is truth. stays_put scene (string_bytes c.args.printed.now) (sym (any_at_end (keeping g.S.RowLog.stands g.S.RowLog.is_true g.S.RowLog.is_due) c.args.playing.host c.args.playing.actors.items scene c.heads.result.now is c.heads.ensures) ∙ sym c.is_any_at_end.ensures ∙ c.if-is_any_at_end.true)
+returns-then-is_any_at_end-clause-moves g c = λ scene is truth. stays_put scene (string_bytes c.args.printed.now) (sym (any_at_end g.S.RowLog.keeping c.args.playing.stored_core c.args.playing.actors.items scene c.heads.result.now is c.heads.ensures) ∙ sym c.is_any_at_end.ensures ∙ c.if-is_any_at_end.true)
 
 pub returns-in-Ok-rise_again-clause-truth : goal.returns-in-Ok-rise_again-clause-truth
-returns-in-Ok-rise_again-clause-truth g c = λ truth. c.in-Ok-restart.ensures.ok.truth (subst g.S.RowLog.is_true c.in-Ok-rise_again.ensures.store truth)
+returns-in-Ok-rise_again-clause-truth g c = λ truth. c.in-Ok-restart.ensures.ok.truth (subst g.S.RowLog.keeping.is_true c.in-Ok-rise_again.ensures.store truth)
 
 pub returns-in-Ok-rise_again-clause-moves : goal.returns-in-Ok-rise_again-clause-moves
 returns-in-Ok-rise_again-clause-moves g c = λ scene is truth.
-    let host = c.args.playing.host in
+    let stored_core = c.args.playing.stored_core in
     let actors = c.args.playing.actors.items in
-    let none : list_any is_at_end scene ≡ false = sym (any_at_end (keeping g.S.RowLog.stands g.S.RowLog.is_true g.S.RowLog.is_due) host actors scene c.heads.result.now is c.heads.ensures) ∙ sym c.is_any_at_end.ensures ∙ c.if-is_any_at_end.false in
-    let waiting = wait_again g.S.RowLog.stands g.S.RowLog.may_leave g.S.RowLog.is_true g.S.RowLog.faults g.S.RowLog.is_due host actors scene c.in-Ok.specs.items c.in-Ok-restart.recovering is c.in-Ok.ensures.specs c.in-Ok-restart.ensures (subst g.S.RowLog.is_true c.in-Ok-rise_again.ensures.store truth) in
-    let again = new_again (keeping g.S.RowLog.stands g.S.RowLog.is_true g.S.RowLog.is_due) host actors scene is in
-    starts_again (keeping g.S.RowLog.stands g.S.RowLog.is_true g.S.RowLog.is_due) c.in-Ok-rise_again.playing.host c.in-Ok-rise_again.playing.actors.items scene (string_bytes c.args.printed.now) (string_bytes c.leave.new.printed) (string_bytes c.rise_again.new.printed) none
-    (c.in-Ok.ensures.text scene (subst (λ l. IsScene (keeping g.S.RowLog.stands g.S.RowLog.is_true g.S.RowLog.is_due) host l scene) (sym c.deref.ensures.value) is)) (c.in-Ok-rise_again.ensures.text _ again waiting) (c.in-Ok-rise_again.ensures.scene _ again waiting)
+    let none : list_any is_at_end scene ≡ false = sym (any_at_end g.S.RowLog.keeping stored_core actors scene c.heads.result.now is c.heads.ensures) ∙ sym c.is_any_at_end.ensures ∙ c.if-is_any_at_end.false in
+    let waiting = wait_again g.S.RowLog.keeping stored_core actors scene c.in-Ok.specs.items c.in-Ok-restart.recovering is c.in-Ok.ensures.specs c.in-Ok-restart.ensures (subst g.S.RowLog.keeping.is_true c.in-Ok-rise_again.ensures.store truth) in
+    let again = new_again g.S.RowLog.keeping stored_core actors scene is in
+    starts_again g.S.RowLog.keeping c.in-Ok-rise_again.playing.stored_core c.in-Ok-rise_again.playing.actors.items scene (string_bytes c.args.printed.now) (string_bytes c.leave.new.printed) (string_bytes c.rise_again.new.printed) none
+    (c.in-Ok.ensures.text scene (subst (λ l. IsScene g.S.RowLog.keeping stored_core l scene) (sym c.deref.ensures.value) is)) (c.in-Ok-rise_again.ensures.text _ again waiting) (c.in-Ok-rise_again.ensures.scene _ again waiting)

@@ -1,9 +1,8 @@
 -- The boxes are adopted, and the realms are at work.
 use Rattle.std.proofs.Common.{◌≡◌, ◌∙◌, List, ap, map, rules, subst, sym, true}
 use Rattle.tip_branch.specs.declared.branch.Badge.{Badge}
-use Rattle.tip_host.specs.Recovering.{adopted_each, all_adopted}
+use Rattle.tip_stored.specs.Recovering.{adopted_each, all_adopted}
 use Rattle.tip_scene.proofs.Adopted.{all_have_boxes}
-use Rattle.tip_actor.specs.Standing.{keeping}
 use Rattle.tip_scene.specs.Rising.{AreRising}
 use Rattle.tip_scene.proofs.Again.{all_adopt, boxes_of_recovery}
 use Rattle.tip_scene.proofs.rising.rise.Goals as goal
@@ -13,14 +12,14 @@ returns-clause-text g c = λ scene are waiting.
     let fits : c.adopt_all.result ≡ true = search rules in
     let lots = c.in_ok-lots.ensures.dealt ∙ ap (map boxes_of_recovery) c.realms.ensures in
     let adopted = c.adopt_all.ensures.adopted fits ∙ ap (λ (boxes : List (List (List Badge))). record c.args.recovering { realms = adopted_each boxes c.args.recovering.realms }) lots in
-    c.in_ok-begin.ensures.text scene are (subst (λ r. AreRising (keeping g.S.RowLog.stands g.S.RowLog.is_true g.S.RowLog.is_due) r scene) (sym adopted) (all_adopt (keeping g.S.RowLog.stands g.S.RowLog.is_true g.S.RowLog.is_due) c.args.recovering scene waiting))
+    c.in_ok-begin.ensures.text scene are (subst (λ r. AreRising g.S.RowLog.keeping r scene) (sym adopted) (all_adopt g.S.RowLog.keeping c.args.recovering scene waiting))
 
 pub returns-clause-scene : goal.returns-clause-scene
 returns-clause-scene g c = λ scene are waiting.
     let fits : c.adopt_all.result ≡ true = search rules in
     let lots = c.in_ok-lots.ensures.dealt ∙ ap (map boxes_of_recovery) c.realms.ensures in
     let adopted = c.adopt_all.ensures.adopted fits ∙ ap (λ (boxes : List (List (List Badge))). record c.args.recovering { realms = adopted_each boxes c.args.recovering.realms }) lots in
-    c.in_ok-begin.ensures.scene scene are (subst (λ r. AreRising (keeping g.S.RowLog.stands g.S.RowLog.is_true g.S.RowLog.is_due) r scene) (sym adopted) (all_adopt (keeping g.S.RowLog.stands g.S.RowLog.is_true g.S.RowLog.is_due) c.args.recovering scene waiting))
+    c.in_ok-begin.ensures.scene scene are (subst (λ r. AreRising g.S.RowLog.keeping r scene) (sym adopted) (all_adopt g.S.RowLog.keeping c.args.recovering scene waiting))
 
 pub begin-requires : goal.begin-requires
 begin-requires g c =

@@ -10,16 +10,16 @@ use Rattle.tip_run.proofs.running.Running.happen.Goals as goal
 
 pub invariant_of-self-in_err-shown : goal.invariant_of-self-in_err-shown
 invariant_of-self-in_err-shown g c = λ place none.
-    c.reserve.ensures.items place ∙ c.self.invariant place (nowhere_before c.self.inside.host.core c.step.new.self.core c.args.realm c.args.event c.in-Ok.happened.outcome c.in-Ok.happened.answer c.in-Ok.ensures.steps place none)
+    c.reserve.ensures.items place ∙ c.self.invariant place (nowhere_before c.self.inside.stored.core c.step.new.self.core c.args.realm c.args.event c.in-Ok.happened.outcome c.in-Ok.happened.answer c.in-Ok.ensures.happens.steps place none)
 
 pub invariant_of-self-in-Some : goal.invariant_of-self-in-Some
 invariant_of-self-in-Some g c =
-    still_of_realms (record { host = c.self.inside.host; out = c.self.inside.out }) c.step.new.self.core c.add.new.self c.args.realm c.args.event c.in-Ok.happened.outcome c.in-Ok.happened.answer c.in-Some.party c.self.invariant c.in-Ok.ensures.steps
+    still_of_realms (record { stored = c.self.inside.stored; out = c.self.inside.out }) c.step.new.self.core c.add.new.self c.args.realm c.args.event c.in-Ok.happened.outcome c.in-Ok.happened.answer c.in-Some.party c.self.invariant c.in-Ok.ensures.happens.steps
     (sym c.in_ok-shown.ensures.work ∙ c.in-Some.is) (λ other differ. c.add.ensures.others other differ ∙ c.reserve.ensures.items other)
 
 pub invariant_of-self-in_default : goal.invariant_of-self-in_default
 invariant_of-self-in_default g c = λ place none.
-    c.reserve.ensures.items place ∙ c.self.invariant place (nowhere_before c.self.inside.host.core c.step.new.self.core c.args.realm c.args.event c.in-Ok.happened.outcome c.in-Ok.happened.answer c.in-Ok.ensures.steps place none)
+    c.reserve.ensures.items place ∙ c.self.invariant place (nowhere_before c.self.inside.stored.core c.step.new.self.core c.args.realm c.args.event c.in-Ok.happened.outcome c.in-Ok.happened.answer c.in-Ok.ensures.happens.steps place none)
 
 pub returns-clause-happens : goal.returns-clause-happens
 returns-clause-happens g c = elim c.match-work.branch [
@@ -31,17 +31,17 @@ returns-clause-happens g c = elim c.match-work.branch [
       (λ other differ. c.reserve.ensures.items other))
 ] where
   happens : (out : Kept PartyNotes) → of out c.args.realm ≡ of c.self.inside.out c.args.realm ++ option_to_list c.in-Ok.happened.answer.work → ((other : ℕ) → other ≢ c.args.realm → of out other ≡ of c.self.inside.out other) →
-      Happens g.S.RowLog.stands g.S.RowLog.may_leave g.S.RowLog.is_true g.S.RowLog.faults g.S.RowLog.is_due (around (record { host = c.self.inside.host; out = c.self.inside.out })) (around (record { host = c.step.new.self; out = out })) c.args.realm c.args.event c.in_ok-shown.shown
+      Happens g.S.RowLog.keeping (around (record { stored = c.self.inside.stored; out = c.self.inside.out })) (around (record { stored = c.step.new.self; out = out })) c.args.realm c.args.event c.in_ok-shown.shown
   happens out goes others = record {
     change = c.in-Ok.happened.change;
     outcome = c.in-Ok.happened.outcome;
     answer = c.in-Ok.happened.answer;
-    steps = c.in-Ok.ensures.steps;
-    wanted = c.in-Ok.ensures.wanted;
-    fits = c.in-Ok.ensures.fits;
-    keeps = c.in-Ok.ensures.keeps;
-    absent = λ none. (c.in-Ok.ensures.absent none).1;
-    names = c.in-Ok.ensures.names;
+    steps = c.in-Ok.ensures.happens.steps;
+    wanted = c.in-Ok.ensures.happens.wanted;
+    fits = c.in-Ok.ensures.happens.fits;
+    keeps = c.in-Ok.ensures.happens.keeps;
+    absent = λ none. (c.in-Ok.ensures.happens.absent none).1;
+    names = c.in-Ok.ensures.happens.names;
     out = goes;
     others = others;
     realm_is = c.in_ok-shown.ensures.realm;

@@ -11,8 +11,8 @@ use Rattle.tip_run.specs.Runs.{around}
 use Rattle.tip_run.proofs.running.Running.renew.Goals as goal
 
 pub returns-clause-renews : goal.returns-clause-renews
-returns-clause-renews g c = rw (← c.self.view_is) (has_renewed g.S.RowLog.stands g.S.RowLog.may_leave g.S.RowLog.is_true g.S.RowLog.faults g.S.RowLog.is_due
-    (around (record { host = c.self.inside.host; out = c.self.inside.out })) (around (record { host = c.renew.new.self; out = c.self.inside.out })) c.doubts.new.self.store _ c.args.realm c.args.boxes.items c.in-Ok.recovery.rows c.adopt_all.new.self c.leaving.result
+returns-clause-renews g c = rw (← c.self.view_is) (has_renewed g.S.RowLog.keeping
+    (around (record { stored = c.self.inside.stored; out = c.self.inside.out })) (around (record { stored = c.renew.new.self; out = c.self.inside.out })) c.doubts.new.self.store _ c.args.realm c.args.boxes.items c.in-Ok.recovery.rows c.adopt_all.new.self c.leaving.result
     c.in-Ok.ensures.here
     c.in-Ok.ensures.store
     (search rules)
@@ -44,7 +44,7 @@ returns-in-Err-renew-clause-why g c = rw (← c.self.view_is) (
         c.adopt_all.new.self,
         c.in-Ok.ensures.read log state stood there ((c.in-Err-renew.ensures.store state now).truth truth),
         search rules,
-        c.in-Err-renew.ensures.reason log state (reads g.S.RowLog.stands g.S.RowLog.may_leave g.S.RowLog.is_true g.S.RowLog.faults g.S.RowLog.is_due c.self.inside.host.store c.doubts.new.self.store _ log c.in-Ok.ensures.store stood) now truth,
+        c.in-Err-renew.ensures.reason log state (reads g.S.RowLog.keeping c.self.inside.stored.store c.doubts.new.self.store _ log c.in-Ok.ensures.store stood) now truth,
         λ is. sym c.doubts.ensures.stopped ∙ c.in-Err-renew.ensures.stopping.0 is,
       ),
 )

@@ -5,8 +5,8 @@ use Rattle.tip_run.proofs.running.Running.step.Goals as goal
 
 pub returns-clause-comes : goal.returns-clause-comes
 returns-clause-comes g c = on_ok
-    (λ shown. Happens g.S.RowLog.stands g.S.RowLog.may_leave g.S.RowLog.is_true g.S.RowLog.faults g.S.RowLog.is_due (around c.args.self.now) (around c.happen.new.self) c.args.realm c.args.event shown)
-    (λ shown. Comes g.S.RowLog.stands g.S.RowLog.may_leave g.S.RowLog.is_true g.S.RowLog.faults g.S.RowLog.is_due (around c.args.self.now) (around c.happen.new.self) c.args.realm c.args.event shown)
+    (λ shown. Happens g.S.RowLog.keeping (around c.args.self.now) (around c.happen.new.self) c.args.realm c.args.event shown)
+    (λ shown. Comes g.S.RowLog.keeping (around c.args.self.now) (around c.happen.new.self) c.args.realm c.args.event shown)
     c.happen.result
-    (λ shown is. came_alone g.S.RowLog.stands g.S.RowLog.may_leave g.S.RowLog.is_true g.S.RowLog.faults g.S.RowLog.is_due (around c.args.self.now) (around c.happen.new.self) c.args.realm c.args.event shown (search rules) is)
+    (λ shown is. came_alone g.S.RowLog.keeping (around c.args.self.now) (around c.happen.new.self) c.args.realm c.args.event shown (search rules) is)
     c.happen.ensures.happens

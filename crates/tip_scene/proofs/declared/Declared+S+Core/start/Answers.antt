@@ -7,14 +7,14 @@ use Rattle.tip_scene.proofs.Starting.{all_wait}
 use Rattle.tip_scene.proofs.declared.Declared+S+Core.start.Goals as goal
 
 pub returns-in-Ok-rise-clause-truth : goal.returns-in-Ok-rise-clause-truth
-returns-in-Ok-rise-clause-truth g c = λ truth. c.in-Ok-load.ensures.ok.truth (subst g.S.RowLog.is_true c.in-Ok-rise.ensures.store truth)
+returns-in-Ok-rise-clause-truth g c = λ truth. c.in-Ok-load.ensures.ok.truth (subst g.S.RowLog.keeping.is_true c.in-Ok-rise.ensures.store truth)
 
 pub returns-in-Ok-rise-clause-text : goal.returns-in-Ok-rise-clause-text
 returns-in-Ok-rise-clause-text g c = λ basis declarations is truth.
     c.in-Ok-rise.ensures.text (scene_of basis declarations) (subst (λ l. AreNew c.in-Ok.actors.items (scene_of basis l)) is.declared (c.in-Ok.ensures.0 basis))
-    (all_wait g.S.RowLog.stands g.S.RowLog.may_leave g.S.RowLog.is_true g.S.RowLog.faults g.S.RowLog.is_due c.args.self.store c.in-Ok-load.recovering basis declarations c.in-Ok.specs.items is.founded (c.in-Ok.ensures.1 ∙ ap (map spec_of) is.declared) c.in-Ok-load.ensures (subst g.S.RowLog.is_true c.in-Ok-rise.ensures.store truth))
+    (all_wait g.S.RowLog.keeping c.args.self.store c.in-Ok-load.recovering basis declarations c.in-Ok.specs.items is.founded (c.in-Ok.ensures.1 ∙ ap (map spec_of) is.declared) c.in-Ok-load.ensures (subst g.S.RowLog.keeping.is_true c.in-Ok-rise.ensures.store truth))
 
 pub returns-in-Ok-rise-clause-scene : goal.returns-in-Ok-rise-clause-scene
 returns-in-Ok-rise-clause-scene g c = λ basis declarations is truth.
     c.in-Ok-rise.ensures.scene (scene_of basis declarations) (subst (λ l. AreNew c.in-Ok.actors.items (scene_of basis l)) is.declared (c.in-Ok.ensures.0 basis))
-    (all_wait g.S.RowLog.stands g.S.RowLog.may_leave g.S.RowLog.is_true g.S.RowLog.faults g.S.RowLog.is_due c.args.self.store c.in-Ok-load.recovering basis declarations c.in-Ok.specs.items is.founded (c.in-Ok.ensures.1 ∙ ap (map spec_of) is.declared) c.in-Ok-load.ensures (subst g.S.RowLog.is_true c.in-Ok-rise.ensures.store truth))
+    (all_wait g.S.RowLog.keeping c.args.self.store c.in-Ok-load.recovering basis declarations c.in-Ok.specs.items is.founded (c.in-Ok.ensures.1 ∙ ap (map spec_of) is.declared) c.in-Ok-load.ensures (subst g.S.RowLog.keeping.is_true c.in-Ok-rise.ensures.store truth))

@@ -1,0 +1,79 @@
+-- WHAT A HOST KEEPS beside its stored core (ours), and what it knows of its realms by it.
+use Rattle.std.specs.Prelude.{◌≡◌, ◌≢◌, ◌<◌, ◌++◌, ℕ, List, length, Option, Some, None}
+use Rattle.std.specs.Option.{option_to_list}
+use Rattle.tip_branch.specs.Notes.{PartyNotes}
+use Rattle.tip_core.specs.Hosted.{Hosted, realm}
+use Rattle.tip_honest.specs.Honesty.{Journal}
+use Rattle.tip_honest.specs.Hosts.{AreAllHonest, Known}
+use Rattle.tip_kept.specs.Keeping.{RealmRows, room_at, rows_at}
+use Rattle.tip_machine.specs.Moves.{rows_after}
+use Rattle.tip_machine.specs.Types.{Answer}
+use Rattle.tip_machine.specs.declared.answer.Sent.{Sent}
+use Rattle.tip_machine.specs.declared.event.Change.{Change}
+use Rattle.tip_machine.specs.declared.event.Outcome.{Outcome}
+use Rattle.tip_table.specs.Kept.{Kept, of, places, taken_out}
+use Rattle.tip_host.specs.Entries.{bare}
+use Rattle.tip_host.specs.Outboxes.{waiting}
+
+-- journals, lines that wait to go out, stored rows as the store has answered, parties that wait to be taken out for their errand, and
+-- how those were sent that were taken
+pub record Books : Type 0 where
+  pub journals : List (List Journal)
+  pub outboxes : Kept (List Sent)
+  pub rows : List RealmRows
+  pub work : Kept PartyNotes
+  pub out : Kept PartyNotes
+
+-- the parties that are out of a realm, those first that were taken
+abbrev pub out_of : Books → ℕ → List PartyNotes
+out_of books place = of books.out place ++ of books.work place
+
+abbrev pub known_by : Hosted → Books → Known
+known_by core books = record {
+  realm = realm core;
+  out = out_of books;
+  rows = rows_at books.rows;
+  journals = bare books.journals;
+}
+
+-- EACH REALM'S JOURNALS ARE THOSE OF AN HONEST RUN of its own machine, which leads to its state, to its stored rows and to its parties
+-- that are out
+pub record IsHonest (core : Hosted) (books : Books) : Type 0 where
+  pub all : AreAllHonest (known_by core books)
+  pub each : length books.rows ≡ length books.journals
+
+-- What an event takes away
+
+-- those that are left of a realm once who stands at this place has come back
+abbrev pub left_in : Option ℕ → Kept PartyNotes → ℕ → List PartyNotes
+left_in None out realm = of out realm
+left_in (Some place) out realm = taken_out (places out place) realm (of out realm)
+
+-- What an event writes
+
+-- all is as it was, as far as it is seen
+pub record IsSeen (old new : Books) : Type 0 where
+  pub lines : (place : ℕ) → of new.outboxes place ≡ of old.outboxes place
+  pub journals : bare new.journals ≡ bare old.journals
+  pub rows : (place : ℕ) → rows_at new.rows place ≡ rows_at old.rows place
+  pub count : length new.rows ≡ length old.rows
+  pub work : (place : ℕ) → of new.work place ≡ of old.work place
+  pub out : new.out ≡ old.out
+
+-- an event of a realm can be written down without memory
+pub record HasSpace (books : Books) (realm : ℕ) : Type 0 where
+  pub lines : 0 < books.outboxes.free
+  pub work : 0 < books.work.free
+  pub rows : realm < length books.rows → 0 < room_at books.rows realm
+
+-- AN EVENT IS WRITTEN DOWN, but for its entry: its lines wait behind those that waited, its change is kept where the store has made
+-- it, who goes out waits to be taken, and who came back is out no more
+pub record Writes (old new : Books) (place : ℕ) (change : Option Change) (outcome : Outcome) (back : Option ℕ) (answer : Answer) : Type 0 where
+  pub lines : waiting new.outboxes place ≡ waiting old.outboxes place ++ answer.sent
+  pub other_lines : (other : ℕ) → other ≢ place → waiting new.outboxes other ≡ waiting old.outboxes other
+  pub rows : rows_at new.rows place ≡ rows_after change outcome (rows_at old.rows place)
+  pub other_rows : (other : ℕ) → other ≢ place → rows_at new.rows other ≡ rows_at old.rows other
+  pub count : length new.rows ≡ length old.rows
+  pub work : of new.work place ≡ of old.work place ++ option_to_list answer.work
+  pub other_work : (other : ℕ) → other ≢ place → of new.work other ≡ of old.work other
+  pub out : (realm : ℕ) → of new.out realm ≡ left_in back old.out realm

@@ -1,0 +1,38 @@
+//! What a host keeps of its realms beside its stored core.
+
+use crate::batch::Batch;
+use crate::opening::Opening;
+use std::marker::Model;
+use tip_branch::{HeldParty, PartyNote};
+use tip_honest::Entry;
+use tip_journal::Journals;
+use tip_kept::KeptRows;
+use tip_table::Table;
+
+/// What a host keeps of its realms beside its stored core.
+#[derive(Drop)]
+pub(crate) struct Books {
+    pub(crate) journals: Journals<Opening, Entry>,
+    /// Lines and closings that wait to go out.
+    pub(crate) outboxes: Table<Batch>,
+    /// The stored rows, as the store has answered.
+    pub(crate) rows: KeptRows,
+    /// Parties that wait to be taken out for their errand.
+    pub(crate) work: Table<HeldParty>,
+    /// How those were sent that were taken out.
+    pub(crate) out: Table<PartyNote>,
+}
+
+impl Model for Books {
+    ghost use Rattle.tip_host.specs.Books.{Books};
+
+    ghost Value = { Books };
+
+    ghost view = { λ b. record {
+      journals = b.journals;
+      outboxes = b.outboxes;
+      rows = b.rows;
+      work = b.work;
+      out = b.out;
+    } };
+}

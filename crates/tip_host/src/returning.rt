@@ -1,0 +1,206 @@
+//! Parties that are taken out of a host for their errand, and that come back.
+ghost use Rattle.std.specs.Prelude.{◌≡◌, ◌≢◌, ◌↔◌, ◌++◌, ℕ, true, false, Some, find, option_map, IfErr, IfOk, IfNone, IfSome, OnErr, OnOk};
+ghost use Rattle.std.specs.List.{list_all};
+ghost use Rattle.tip_agreement.specs.Truth.{is_uncalled};
+ghost use Rattle.tip_branch.specs.Always.{Always};
+ghost use Rattle.tip_table.specs.Kept.{of};
+ghost use Rattle.tip_host.specs.Books.{left_in, out_of};
+ghost use Rattle.tip_host.specs.Hosts.{IsOut, Serves, Stays};
+ghost use Rattle.tip_host.specs.Works.{Takes, WasSent, is_errand_of, left_out};
+ghost use Rattle.tip_host.specs.declared.host.HostFault.TheVariants.{NotOut, Party, Stopped};
+
+use crate::books::Books;
+use crate::host::{Host, HostFault};
+use crate::reply::Reply;
+use crate::work::{Returned, Work};
+use std::alloc::{AllocError, Global};
+use tip_branch::{HeldParty, PartyNote};
+use tip_honest::Entry;
+use tip_journal::Pass;
+use tip_rows::RowLog;
+use tip_table::{Table, Test};
+
+/// Any party.
+struct Any;
+
+impl Test<HeldParty> for Any {
+    ghost use Rattle.std.specs.Prelude.{true};
+
+    ghost passes = { λ _ party. true };
+
+    fn passes(&self, _: &HeldParty) -> bool {
+        true
+    }
+}
+
+/// The errand of a party that was sent so.
+#[derive(Drop)]
+struct IsErrandOf<'a> {
+    sent: &'a PartyNote,
+}
+
+impl Test<PartyNote> for IsErrandOf<'_> {
+    ghost use Rattle.tip_host.specs.Works.{is_errand_of};
+
+    ghost passes = { λ query party. is_errand_of query.sent.now party };
+
+    fn passes(&self, party: &PartyNote) -> bool {
+        party.id() == self.sent.id() && party.epoch() == self.sent.epoch()
+    }
+}
+
+impl<S: RowLog + Drop> Host<S> {
+    /// The oldest party of a realm that waits for its errand is taken out; None where none waits. Without memory it waits still.
+    pub fn take_work(&mut self, alloc: Global, realm: usize) -> Result<Option<Work>, AllocError>
+        requires { Always }
+        ensures takes { IfOk result (λ work. Takes realm (option_map (λ party. party.sent) work)
+            self.old.books.work self.new.books.work self.old.books.out self.new.books.out) }
+        ensures out { (place : ℕ) → out_of self.new.books place ≡ out_of self.old.books place }
+        ensures stays { OnErr result ((place : ℕ) →
+            (of self.new.books.work place ≡ of self.old.books.work place)
+            × (of self.new.books.out place ≡ of self.old.books.out place)) }
+        ensures rest { self.new ≡ record self.old {
+          books = record self.old.books {
+            work = self.new.books.work;
+            out = self.new.books.out;
+          };
+        } }
+    {
+        take_from(alloc, &mut self.books, realm)
+    }
+
+    /// A party that was taken out of a realm comes back, in whatever order, over renewals too. Who is not out is refused. A fault
+    /// hands the party back, and nothing has happened.
+    pub fn come_back(
+        &mut self,
+        alloc: Global,
+        pass: &mut Pass<Entry>,
+        realm: usize,
+        returned: Returned,
+    ) -> Result<Reply, (HostFault, Returned)>
+        requires { Always }
+        ensures serves { IfOk result
+            (λ reply. Serves S.keeping self.old self.new pass.old.noted pass.new.noted realm
+            returned.event
+            (Some returned.sent) reply) }
+        ensures out { OnOk result (IsOut self.old realm returned.sent) }
+        ensures stays { OnErr result (Stays self.old self.new) }
+        ensures pass { OnErr result (pass.new.noted ≡ pass.old.noted) }
+        ensures back { IfErr result (λ fault. fault.1 ≡ returned) }
+        ensures stopped { self.new.stored.is_stopped ≡ self.old.stored.is_stopped }
+        ensures running { OnOk result (self.old.stored.is_stopped ≡ false) }
+        ensures stopping { IfErr result
+            (λ fault. (fault.0 ≡ Stopped) ↔ (self.old.stored.is_stopped ≡ true)) }
+        ensures not_out { IfErr result
+            (λ fault. fault.0 ≡ NotOut → ¬ IsOut self.old realm returned.sent) }
+        ensures party { IfErr result (λ fault. fault.0 ≢ Party) }
+    {
+        if self.stored.is_stopped {
+            return Err((HostFault::Stopped, returned));
+        }
+        let Some(place) = place_of(&self.books.out, realm, returned.sent()) else {
+            return Err((HostFault::NotOut, returned));
+        };
+        let (event, sent) = returned.into_parts();
+        match self.happen(alloc, pass, realm, event, Some(place)) {
+            Ok(reply) => Ok(reply),
+            Err((fault, event)) => Err((fault.into(), Returned::of_parts(event, sent))),
+        }
+    }
+
+    /// A party that was taken out of a realm is given up, its errand undone: it is out no more, and is let go by whoever drops it,
+    /// where nothing waits for the host. It is no event and has no entry. Who is not out is handed back.
+    pub fn lose(&mut self, realm: usize, work: Work) -> Result<HeldParty, Work>
+        requires { Always }
+        ensures party { IfOk result (λ party. party ≡ work.sent) }
+        ensures was { OnOk result (IsOut self.old realm work.sent) }
+        ensures lost { OnOk result (of self.new.books.out realm
+            ≡ left_out (Some work.sent) (of self.old.books.out realm)) }
+        ensures others { (other : ℕ) → other ≢ realm →
+            of self.new.books.out other ≡ of self.old.books.out other }
+        ensures rest { self.new
+            ≡ record self.old { books = record self.old.books { out = self.new.books.out } } }
+        ensures same { OnErr result (self.new ≡ self.old) }
+        ensures not_out { OnErr result (¬ IsOut self.old realm work.sent) }
+        ensures back { IfErr result (λ back. back.sent ≡ work.sent) }
+    {
+        if !give_up(&mut self.books, realm, work.sent()) {
+            return Err(work);
+        }
+        Ok(work.into_party())
+    }
+}
+
+/// Who was taken out of a realm and was sent so is out no more. Whether it was out?
+fn give_up(books: &mut Books, realm: usize, sent: &PartyNote) -> bool
+    ensures gone { result ≡ true → (place : ℕ) × (at : ℕ)
+        × WasSent books.old.out realm sent.now place at
+        × ((other : ℕ) → of books.new.out other ≡ left_in (Some place) books.old.out other) }
+    ensures was { result ≡ true →
+        find (is_errand_of sent.now) (of books.old.out realm) ≡ Some sent.now }
+    ensures not_out { result ≡ false →
+        find (is_errand_of sent.now) (of books.old.out realm) ≢ Some sent.now }
+    ensures rest { books.new ≡ record books.old { out = books.new.out } }
+    ensures same { result ≡ false → books.new ≡ books.old }
+{
+    let Some(place) = place_of(&books.out, realm, sent) else {
+        return false;
+    };
+    books.out.remove(place);
+    true
+}
+
+/// The oldest party of a realm that waits for its errand goes out.
+fn take_from(alloc: Global, books: &mut Books, realm: usize) -> Result<Option<Work>, AllocError>
+    requires always { Always }
+    requires untold { list_all is_uncalled (of books.old.work realm) ≡ true }
+    ensures takes { IfOk result (λ found. Takes realm (option_map (λ party. party.sent) found)
+        books.old.work books.new.work books.old.out books.new.out) }
+    ensures out { (place : ℕ) → out_of books.new place ≡ out_of books.old place }
+    ensures stays { OnErr result ((place : ℕ) →
+        (of books.new.work place ≡ of books.old.work place)
+        × (of books.new.out place ≡ of books.old.out place)) }
+    ensures rest { books.new ≡ record books.old { work = books.new.work; out = books.new.out } }
+{
+    take_oldest(alloc, &mut books.work, &mut books.out, realm)
+}
+
+/// The oldest party of a realm that waits for its errand goes out, and how it was sent is noted.
+fn take_oldest(
+    alloc: Global,
+    work: &mut Table<HeldParty>,
+    out: &mut Table<PartyNote>,
+    realm: usize,
+) -> Result<Option<Work>, AllocError>
+    requires always { Always }
+    requires untold { list_all is_uncalled (of work.old realm) ≡ true }
+    ensures takes { IfOk result (λ found. Takes realm (option_map (λ party. party.sent) found)
+        work.old work.new out.old out.new) }
+    ensures out { (place : ℕ) → of out.new place ++ of work.new place
+        ≡ of out.old place ++ of work.old place }
+    ensures stays { OnErr result ((place : ℕ) →
+        (of work.new place ≡ of work.old place) × (of out.new place ≡ of out.old place)) }
+{
+    let Some(place) = work.find(realm, &Any) else {
+        return Ok(None);
+    };
+    let noted = PartyNote::of(alloc, work.item(place))?;
+    let sent = PartyNote::of(alloc, work.item(place))?;
+    out.reserve()?;
+    out.add(realm, noted);
+    Ok(Some(Work::new(work.remove(place), sent)))
+}
+
+/// At which place a party stands that was taken out and was sent so.
+fn place_of(out: &Table<PartyNote>, realm: usize, sent: &PartyNote) -> Option<usize>
+    ensures some { IfSome result (λ place. (at : ℕ) × WasSent out.now realm sent.now place at) }
+    ensures found { IfSome result (λ place.
+        find (is_errand_of sent.now) (of out.now realm) ≡ Some sent.now) }
+    ensures none { IfNone result (find (is_errand_of sent.now) (of out.now realm) ≢ Some sent.now) }
+{
+    let place = out.find(realm, &IsErrandOf { sent })?;
+    if !out.item(place).is(sent) {
+        return None;
+    }
+    Some(place)
+}

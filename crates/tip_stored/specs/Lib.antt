@@ -1,0 +1,5 @@
+pub mod Keeping
+pub mod Errands
+pub mod Recovering
+pub mod Loading
+pub mod Renewing
