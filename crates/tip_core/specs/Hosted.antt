@@ -10,6 +10,9 @@ use Rattle.tip_machine.specs.declared.head.Start.{Start}
 use Rattle.tip_machine.specs.declared.event.Outcome.{Outcome}
 use Rattle.tip_machine.specs.declared.event.Seat.{Seat}
 use Rattle.tip_rules.specs.Needs.{Granted, Suits}
+use Rattle.tip_rules.specs.Standing.{standing_on}
+use Rattle.tip_rules.specs.declared.standing.Standing.{Standing}
+use Rattle.tip_rules.specs.declared.standing.Standing.TheVariants.{Gone}
 use Rattle.tip_outlook.specs.Searches.{HeldTransaction}
 
 -- all realms in shared tables; clauses speak of them by `realm` and `room_in`
@@ -61,3 +64,8 @@ may_take_in seat (Some state) = may_take_on (seated seat state)
 abbrev pub must_wait_in : Seat → Option State → Bool
 must_wait_in seat None = false
 must_wait_in seat (Some state) = must_wait_on (seated seat state)
+
+-- how the connection of a seat stands: in a realm that is not there it is gone
+abbrev pub standing_in : Seat → Option State → Standing
+standing_in seat None = Gone
+standing_in seat (Some state) = standing_on (seated seat state)

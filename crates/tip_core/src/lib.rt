@@ -11,4 +11,4 @@ pub use happened::Happened;
 pub use machine::Core;
 pub use renewing::{Left, Parting};
 pub use starts::{StartFault, Starts};
-pub use tip_rules::Room;
+pub use tip_rules::{Room, Standing};

@@ -10,7 +10,7 @@ ghost use Rattle.tip_machine.specs.Types.{seen};
 ghost use Rattle.tip_recovery.specs.Adopting.{are_adopted, loaded};
 ghost use Rattle.tip_rows.specs.Logs.{last_epoch};
 ghost use Rattle.tip_table.specs.Kept.{of};
-ghost use Rattle.tip_core.specs.Hosted.{realm as realm_at, room_in, may_take_in, must_wait_in, HaveNames, IsRoomFor, Steps};
+ghost use Rattle.tip_core.specs.Hosted.{realm as realm_at, room_in, may_take_in, must_wait_in, standing_in, HaveNames, IsRoomFor, Steps};
 ghost use Rattle.tip_core.specs.Recovering.{IsOf, taking_up};
 ghost use Rattle.tip_core.specs.Renewing.{HasRoom};
 
@@ -24,7 +24,7 @@ use tip_line::{Realm, Refusal};
 use tip_machine::{Connection, Event, Head, Outcome, Seat, Start, Transaction};
 use tip_outlook::Turns;
 use tip_recovery::Recovery;
-use tip_rules::{Realms, Room};
+use tip_rules::{Realms, Room, Standing};
 use tip_table::{Items, Table};
 
 /// All realms of the process, each by its place in the order of declaration.
@@ -229,6 +229,16 @@ impl Core {
         ensures { result ≡ must_wait_in seat (realm_at self.now realm) }
     {
         realm < self.realms.heads.len() && self.realms.must_wait(realm, seat)
+    }
+
+    /// How the connection of a seat stands.
+    pub fn standing(&self, realm: usize, seat: Seat) -> Standing
+        ensures { result ≡ standing_in seat (realm_at self.now realm) }
+    {
+        if realm >= self.realms.heads.len() {
+            return Standing::Gone;
+        }
+        self.realms.standing(realm, seat)
     }
 }
 

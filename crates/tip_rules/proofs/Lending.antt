@@ -10,7 +10,10 @@ use Rattle.tip_machine.specs.States.{connection_of, seated}
 use Rattle.tip_machine.specs.Types.{Connection}
 use Rattle.tip_machine.specs.declared.event.Seat.{Seat}
 use Rattle.tip_machine.specs.declared.head.Head.{Head}
+use Rattle.tip_rules.specs.Standing.{standing_of, standing_on}
 use Rattle.tip_rules.specs.Works.{Realms, connected, no_head, state_in}
+use Rattle.tip_rules.specs.declared.standing.Standing.{Standing}
+use Rattle.tip_rules.specs.declared.standing.Standing.TheVariants.{Gone}
 
 module _ (realms : Realms) (realm : ℕ) (head : Head) (inside : realm < length realms.heads.items) (is : head ≡ slice_index_or realms.heads.items realm head) (seat : Seat) where
   -- a realm's seats are those of its head and its connections
@@ -32,6 +35,14 @@ module _ (realms : Realms) (realm : ℕ) (head : Head) (inside : realm < length 
 
   pub waits_nowhere : seated seat (connected head realms.connections realm) ≡ None → false ≡ must_wait_on (seated seat (state_in realm realms))
   waits_nowhere none = sym (ap must_wait_on (seats ∙ none))
+
+  pub stands_there : (place : ℕ) (item : Connection) → StandsAt realms.connections realm (has_number seat.number) place → item_at realms.connections place ≡ Some item → seated seat (connected head realms.connections realm) ≡ connection_of seat.number (connected head realms.connections realm) → (stands : Standing) → stands ≡ standing_of item → stands ≡ standing_on (seated seat (state_in realm realms))
+  stands_there place item here is_item same stands so = so ∙ sym (there standing_on place item here is_item same)
+
+  pub stands_nowhere : seated seat (connected head realms.connections realm) ≡ None → Gone ≡ standing_on (seated seat (state_in realm realms))
+  stands_nowhere none = sym (ap standing_on (seats ∙ none))
+
+pub ruleset standing = (stands_there, stands_nowhere)
 
 pub ruleset waiting = (waits_there, waits_nowhere)
 

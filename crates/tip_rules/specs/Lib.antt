@@ -5,3 +5,4 @@ pub mod Growing
 pub mod Reacting
 pub mod Pursuing
 pub mod Needs
+pub mod Standing

@@ -6,11 +6,13 @@ ghost use Rattle.tip_machine.specs.Counts.{HasCounts};
 ghost use Rattle.tip_machine.specs.Requests.{may_take_on, must_wait_on};
 ghost use Rattle.tip_machine.specs.States.{seated};
 ghost use Rattle.tip_rules.specs.Needs.{HasNeeds, Suits, happened};
+ghost use Rattle.tip_rules.specs.Standing.{standing_on};
 ghost use Rattle.tip_rules.specs.Works.{Does, state_in, working};
 
 use crate::making::Making;
 use crate::opening::seat_place;
 use crate::room::Room;
+use crate::standing::{Standing, standing_of};
 use crate::work::Work;
 use std::alloc::{AllocError, Global};
 use std::mem;
@@ -78,6 +80,18 @@ impl Realms<Connection, Transaction> {
         match seat_place(&self.heads[realm], &self.connections, realm, seat) {
             Some(place) => !self.connections.item(place).may_take(),
             None => false,
+        }
+    }
+
+    /// How the connection of a seat stands.
+    #[tactic(auto, using(crate::proofs::Lending::standing))]
+    pub fn standing(&self, realm: usize, seat: Seat) -> Standing
+        requires { realm < length self.now.heads.items }
+        ensures { result ≡ standing_on (seated seat (state_in realm self.now)) }
+    {
+        match seat_place(&self.heads[realm], &self.connections, realm, seat) {
+            Some(place) => standing_of(self.connections.item(place)),
+            None => Standing::Gone,
         }
     }
 

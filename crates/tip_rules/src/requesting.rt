@@ -131,7 +131,7 @@ impl Work<Connection, Transaction, Making> {
 }
 
 /// Whether we opened a connection on which nothing is under way.
-fn is_free(connection: &Connection) -> bool
+pub(crate) fn is_free(connection: &Connection) -> bool
     ensures { result ≡ is_free connection.now }
 {
     connection.dialled && connection.state == State::Idle && connection.awaited.is_none()
