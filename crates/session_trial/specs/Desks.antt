@@ -1,6 +1,5 @@
 -- What a desk in memory took and gave.
 use Rattle.std.specs.Prelude.{◌≡◌, ℕ, [], ◌∷◌, ◌++◌, map, Result, Ok, Err}
-use Rattle.tip_branch.specs.declared.member.Errand.TheVariants as errand
 use Rattle.tip_session.specs.Desks.{Name, Seen, Step, faulted, name_in}
 use Rattle.tip_session.specs.Desks as desks
 use Rattle.tip_session.specs.declared.desk.DeskFault.{DeskFault}
@@ -12,7 +11,7 @@ use Rattle.session_trial.specs.declared.desk.Taken.TheVariants as taken
 
 -- an errand is named by its number
 abbrev pub name_of : ℕ → Name
-name_of n = record { transaction = n ∷ []; which = errand.Vote }
+name_of n = record { transaction = n ∷ []; which = desks.Vote }
 
 abbrev pub step_of : Taken → Step
 step_of (taken.Line heard) = desks.Line heard

@@ -1,6 +1,5 @@
 -- What a desk took from a session, what it told it, and what each of its answers adds to that.
 use Rattle.std.specs.Prelude.{◌≡◌, ◌⊎◌, ℕ, Bool, true, false, List, [], ◌∷◌, ◌++◌, Option, Some, None, Result, Ok, Err}
-use Rattle.tip_branch.specs.declared.member.Errand.{Errand as Which}
 use Rattle.tip_machine.specs.declared.event.Heard.{Heard}
 use Rattle.tip_machine.specs.declared.answer.Item.{Item}
 use Rattle.tip_session.specs.declared.given.Given.{Given}
@@ -12,6 +11,11 @@ use Rattle.tip_session.specs.declared.desk.Came.{Came}
 use Rattle.tip_session.specs.declared.desk.Came.TheVariants as came
 use Rattle.tip_session.specs.declared.desk.Outgoing.{Outgoing}
 use Rattle.tip_session.specs.declared.desk.Outgoing.TheVariants as out
+
+-- what an errand is for: to vote, or to settle what was decided
+pub data Which : Type 0 where
+  Vote : Which
+  Settle : Which
 
 -- an errand by its name: whose it is, and which
 pub record Name : Type 0 where
