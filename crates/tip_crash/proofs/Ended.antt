@@ -26,7 +26,7 @@ use Rattle.tip_machine.specs.declared.event.Change.{Change}
 use Rattle.tip_machine.specs.declared.event.Outcome.{Outcome}
 use Rattle.tip_machine.specs.declared.event.Outcome.TheVariants.{NoChange, Stored, Refused}
 use Rattle.tip_agreement.proofs.Runs.{led_on, run_on, run_one, shows_on, shows_one}
-use Rattle.tip_witness.proofs.Asked.{run_is_agreed}
+use Rattle.tip_agreement.proofs.Asked.{run_is_agreed}
 use Rattle.tip_crash.specs.Crashes.{HasEnded, IsLeft, IsUnder, Under, Happens, Returns, move_of}
 
 -- What a store leaves

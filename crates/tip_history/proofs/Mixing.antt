@@ -16,8 +16,8 @@ use Rattle.tip_machine.specs.Invariants.Links.{are_distinct}
 use Rattle.tip_machine.specs.Moves.{World, led_to}
 use Rattle.tip_machine.specs.Starting.{IsStart}
 use Rattle.tip_agreement.proofs.Kept.{reached_sound}
-use Rattle.tip_witness.proofs.Asked.{run_is_agreed}
-use Rattle.tip_witness.proofs.Naming.{named_so}
+use Rattle.tip_agreement.proofs.Asked.{run_is_agreed}
+use Rattle.tip_agreement.proofs.Naming.{named_so}
 use Rattle.tip_actor.specs.Acting.{Acting, Done}
 use Rattle.tip_scene.specs.Scenes.{Scene}
 use Rattle.tip_history.specs.Histories.{AreHistories, History, IsTold, IsUnknown, name_of}

@@ -16,7 +16,7 @@ use Rattle.tip_honest.specs.declared.entry.Entry.{Entry}
 
 -- Behind other journals
 
-last_behind : (change : Journal → Journal) (earlier later : List Journal) → 0 < length later → with_last change (earlier ++ later) ≡ earlier ++ with_last change later
+pub last_behind : (change : Journal → Journal) (earlier later : List Journal) → 0 < length later → with_last change (earlier ++ later) ≡ earlier ++ with_last change later
 last_behind change [] later some = refl
 last_behind change (j ∷ earlier) later some =
     let more : 0 < length (earlier ++ later) = omega (arith, length-append earlier later, some) in
@@ -27,7 +27,7 @@ entered_behind : (entry : Option Entry) (earlier later : List Journal) → 0 < l
 entered_behind None earlier later some = refl
 entered_behind (Some entry) earlier later some = last_behind (with_entry entry) earlier later some
 
-may_behind : (b : Bool) (entry : Option Entry) (earlier later : List Journal) → 0 < length later → cond b (entered_in entry (earlier ++ later)) (earlier ++ later) ≡ earlier ++ cond b (entered_in entry later) later
+pub may_behind : (b : Bool) (entry : Option Entry) (earlier later : List Journal) → 0 < length later → cond b (entered_in entry (earlier ++ later)) (earlier ++ later) ≡ earlier ++ cond b (entered_in entry later) later
 may_behind true entry earlier later some = entered_behind entry earlier later some
 may_behind false entry earlier later some = refl
 
@@ -56,6 +56,10 @@ noted_some (Move.Restart boxes) world journals some = omega (arith, length-appen
 noted_some (Move.Renew boxes Stored) world journals some = omega (arith, length-append journals (next_of boxes world ∷ []), some)
 noted_some (Move.Renew boxes Refused) world journals some = may_some (is_open world.state) None journals some
 noted_some (Move.Renew boxes NoChange) world journals some = may_some (is_open world.state) None journals some
+
+pub after_some : (world : World) (moves : List Move) (journals : List Journal) → 0 < length journals → 0 < length (journals_after world moves journals)
+after_some world [] journals some = some
+after_some world (move ∷ moves) journals some = after_some (moved move world).world moves (noted move world journals) (noted_some move world journals some)
 
 after_behind : (world : World) (moves : List Move) (earlier later : List Journal) → 0 < length later → journals_after world moves (earlier ++ later) ≡ earlier ++ journals_after world moves later
 after_behind world [] earlier later some = refl

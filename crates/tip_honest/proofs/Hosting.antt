@@ -32,16 +32,16 @@ use Rattle.tip_honest.specs.declared.entry.Entry.{Entry}
 
 -- THE MOVE that an event is
 
-abbrev entry_by : Event → Outcome → Entry
+abbrev pub entry_by : Event → Outcome → Entry
 entry_by event outcome = record { event = event; outcome = outcome }
 
-record IsMove (world : World) (event : Event) (outcome : Outcome) (left : List PartyNotes) : Type 0 where
-  move : Move
-  honest : is_honest move world ≡ true
-  goes : (moved move world).world ≡ (stepped event outcome (record world { errands = left })).world
-  notes : (journals : List Journal) → noted move world journals ≡ cond (is_open world.state) (entered_in (Some (entry_by event outcome)) journals) journals
+pub record IsMove (world : World) (event : Event) (outcome : Outcome) (left : List PartyNotes) : Type 0 where
+  pub move : Move
+  pub honest : is_honest move world ≡ true
+  pub goes : (moved move world).world ≡ (stepped event outcome (record world { errands = left })).world
+  pub notes : (journals : List Journal) → noted move world journals ≡ cond (is_open world.state) (entered_in (Some (entry_by event outcome)) journals) journals
 
-is_move : (world : World) (event : Event) (outcome : Outcome) (left : List PartyNotes) → Brings world.errands event left → fits (wants world.state event) outcome ≡ true → IsMove world event outcome left
+pub is_move : (world : World) (event : Event) (outcome : Outcome) (left : List PartyNotes) → Brings world.errands event left → fits (wants world.state event) outcome ≡ true → IsMove world event outcome left
 is_move world event outcome left (inl (none, same)) fit = record {
   move = Move.Step event outcome;
   honest = and_from (brings_no_party event) _ none fit;
@@ -55,7 +55,7 @@ is_move world event outcome left (inr (spot, party, back, out, can, is)) fit = r
   notes = λ journals. ap (λ es. cond (is_open world.state) (entered_in (came_back es back outcome) journals) journals) out ∙ ap (λ e. cond (is_open world.state) (entered_in (Some (entry_by e outcome)) journals) journals) (sym is);
 }
 
-world_is : (event : Event) (outcome : Outcome) (world : World) → (stepped event outcome world).world ≡ record { state = (step world.state event outcome).state; rows = rows_after (wants world.state event) outcome world.rows; errands = world.errands ++ option_to_list (step world.state event outcome).answer.work }
+pub world_is : (event : Event) (outcome : Outcome) (world : World) → (stepped event outcome world).world ≡ record { state = (step world.state event outcome).state; rows = rows_after (wants world.state event) outcome world.rows; errands = world.errands ++ option_to_list (step world.state event outcome).answer.work }
 unfolding stepped
 world_is event outcome world = refl
 
@@ -74,7 +74,7 @@ head_of [] = None
 head_of (party ∷ errands) = Some party
 
 -- journals of a place, changed or not
-taken : (b : Bool) (journals : List (List Journal)) (place : ℕ) (entry : Entry) (found : Option (List Journal)) → slice_get journals place ≡ found → slice_get (cond b (with_current place (with_entry entry) journals) journals) place ≡ option_map (λ js. cond b (entered_in (Some entry) js) js) found
+pub taken : (b : Bool) (journals : List (List Journal)) (place : ℕ) (entry : Entry) (found : Option (List Journal)) → slice_get journals place ≡ found → slice_get (cond b (with_current place (with_entry entry) journals) journals) place ≡ option_map (λ js. cond b (entered_in (Some entry) js) js) found
 taken true journals place entry found there = slice_get-changed_at journals place (with_last (with_entry entry)) ∙ ap (option_map (with_last (with_entry entry))) there
 taken false journals place entry None there = there
 taken false journals place entry (Some js) there = there

@@ -1,4 +1,5 @@
 pub mod More
+pub mod Onward
 pub mod Standing
 pub mod Chained
 pub mod Agreed

@@ -10,7 +10,7 @@ use Rattle.tip_rows.specs.Logs.{is_rising, last_epoch}
 use Rattle.tip_machine.specs.Agreement.{IsAgreed}
 use Rattle.tip_machine.specs.Agreement.Traces.{traced}
 use Rattle.tip_machine.specs.Honest.{brings_no_party}
-use Rattle.tip_machine.specs.Moves.{World, picked, risen, rows_after}
+use Rattle.tip_machine.specs.Moves.{Move, World, picked, risen, rows_after}
 use Rattle.tip_machine.specs.Recovery.{Loaded, restarted}
 use Rattle.tip_machine.specs.Returns.{Back, can_answer, event_of}
 use Rattle.tip_machine.specs.Starting.{IsStart}
@@ -44,6 +44,13 @@ AreAllHonest known = (place : ℕ) → IsHonestAt (known.realm place) (known.out
 pub record IsHonestRun (world : World) (journals : List Journal) : Type 0 where
   pub honest : AreHonest world journals
   pub agreed : IsStart honest.start → (id : List ℕ) → IsAgreed honest.start (traced honest.start honest.moves) id
+
+-- AN HONEST RUN GOES ON to another world, and leaves these journals: it begins where it began, and has made some moves more
+pub record GoesOn {world : World} {journals : List Journal} (before : AreHonest world journals) (now : World) (all : List Journal) : Type 0 where
+  pub run : IsHonestRun now all
+  pub from : run.honest.start ≡ before.start
+  pub more : List Move
+  pub moves : run.honest.moves ≡ before.moves ++ more
 
 -- So it is of a realm of a host. Where no realm is, no journal is, and nobody is out
 abbrev pub HasHonestRun : Option State → List PartyNotes → List (Key × Row) → Option (List Journal) → Type 0

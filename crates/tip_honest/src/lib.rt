@@ -6,4 +6,4 @@ mod entry;
 pub mod laws;
 
 pub use badges::Badges;
-pub use entry::{Entry, plain};
+pub use entry::{Entry, PlainEvent};

@@ -25,7 +25,7 @@ pub bare_opened : (realms : List Recovery) → bare (map opened realms) ≡ map 
 bare_opened [] = refl
 bare_opened (recovery ∷ realms) = ap (λ js. opened recovery ∷ js) (bare_opened realms)
 
-history_opened : (realms : List Recovery) (place : ℕ) → slice_get (map opened realms) place ≡ option_map opened (slice_get realms place)
+pub history_opened : (realms : List Recovery) (place : ℕ) → slice_get (map opened realms) place ≡ option_map opened (slice_get realms place)
 history_opened [] place = refl
 history_opened (recovery ∷ realms) zero = refl
 history_opened (recovery ∷ realms) (suc place) = history_opened realms place

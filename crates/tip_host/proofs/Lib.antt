@@ -1,4 +1,3 @@
-pub mod Batches
 pub mod Journals
 pub mod Entering
 pub mod Honestly
@@ -8,3 +7,4 @@ pub mod Beginning
 pub mod Renewals
 pub mod Served
 pub mod Dropping
+pub mod Answering

@@ -7,6 +7,7 @@ use Rattle.std.proofs.lemmas.Option.{none-some, same_Some}
 use Rattle.tip_core.specs.Hosted.{Hosted, realm}
 use Rattle.tip_honest.proofs.Hosting.{all_renewed}
 use Rattle.tip_honest.specs.Honesty.{Journal, StandsFor, are_boxed}
+use Rattle.tip_honest.specs.Hosts.{IsRenewed}
 use Rattle.tip_journal.proofs.HistoryLemmas.{length-changed_at}
 use Rattle.tip_journal.proofs.LawLemmas.{renewed-current, renewed-withdrawn}
 use Rattle.tip_journal.specs.Journal.{Written, begun, with_room}
@@ -97,20 +98,24 @@ module _ (core core' : Hosted) (old begun_now new : Books) (place : ℕ) (state 
   same_out : (other : ℕ) → out_of new other ≡ out_of old other
   same_out other = λ i. of (out i) other ++ of (work i) other
 
+  -- as far as the host knows it
+  pub renewed_known : IsRenewed (known_by core old) (known_by core' new) place state (map loaded rows)
+  renewed_known = record {
+    here = here;
+    of_rows = rows_again rows ∙ sym same;
+    rising = ap is_rising (rows_again rows) ∙ rising;
+    boxed = boxed;
+    rises = rises;
+    after = own;
+    out_is = same_out place;
+    rows_are = ap (λ k. rows_at k place) kept;
+    begun = begins_bare;
+    others = λ other differ. (others other differ, same_out other, ap (λ k. rows_at k other) kept);
+  }
+
   pub renewed_honest : IsHonest core' new
   renewed_honest = record {
-    all = all_renewed (known_by core old) (known_by core' new) place honest.all state (map loaded rows) (record {
-      here = here;
-      of_rows = rows_again rows ∙ sym same;
-      rising = ap is_rising (rows_again rows) ∙ rising;
-      boxed = boxed;
-      rises = rises;
-      after = own;
-      out_is = same_out place;
-      rows_are = ap (λ k. rows_at k place) kept;
-      begun = begins_bare;
-      others = λ other differ. (others other differ, same_out other, ap (λ k. rows_at k other) kept);
-    });
+    all = all_renewed (known_by core old) (known_by core' new) place honest.all state (map loaded rows) renewed_known;
     each = ap length kept ∙ honest.each ∙ sym (ap length (journals ∙ begins) ∙ length-changed_at old.journals place (λ history. history ++ begun epoch (map loaded rows) ∷ []));
   }
 

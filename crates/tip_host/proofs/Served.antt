@@ -2,7 +2,6 @@
 use Rattle.std.proofs.Common.{◌≡◌, ◌<◌, ◌∙◌, ◌++◌, ℕ, Bool, true, List, Option, None, Some, length, ap, arith, refl, subst, sym}
 use Rattle.std.specs.Prelude.{IfSome}
 use Rattle.std.proofs.lemmas.Option.{none-some}
-use Rattle.std.specs.List.{flat_map}
 use Rattle.std.specs.Option.{option_to_list}
 use Rattle.tip_core.specs.Hosted.{Hosted, realm}
 use Rattle.tip_honest.specs.Honesty.{Journal}
@@ -14,25 +13,20 @@ use Rattle.tip_stored.specs.declared.stored_core.StoredCore.{StoredCore}
 use Rattle.tip_machine.specs.States.{State}
 use Rattle.tip_machine.specs.Steps.{fits, wants}
 use Rattle.tip_machine.specs.Types.{Event}
-use Rattle.tip_machine.specs.declared.answer.Sent.{Sent}
 use Rattle.tip_machine.specs.declared.event.Change.{Change}
 use Rattle.tip_machine.specs.declared.event.Outcome.{Outcome}
 use Rattle.tip_rows.specs.Logs.{Keeping, Log}
-use Rattle.tip_table.specs.Kept.{Kept, of}
+use Rattle.tip_outbox.specs.Waiting.{sent_to}
+use Rattle.tip_table.specs.Kept.{of}
 use Rattle.tip_kept.specs.Keeping.{room_at}
 use Rattle.tip_host.proofs.Honestly.{comes_so, is_within, left_standing, left_there, others_kept, then_honest}
 use Rattle.tip_host.specs.Books.{Books, IsHonest, IsSeen, Writes, left_in}
 use Rattle.tip_host.specs.Hosts.{Host, IsOf, Reply, Serves, known}
 use Rattle.tip_host.specs.Entries.{Enters, Noted, bare, takes_entry}
-use Rattle.tip_host.specs.Outboxes.{waiting}
 use Rattle.tip_host.specs.Works.{BringsAt, standing_at}
 
 abbrev entry_of : Event → Outcome → Entry
 entry_of event outcome = record { event = event; outcome = outcome }
-
--- what waits is the same where the batches are
-pub same_waiting : (before after : Kept (List Sent)) (place : ℕ) → of after place ≡ of before place → waiting after place ≡ waiting before place
-same_waiting before after place same = ap (flat_map (λ batch. batch)) same
 
 -- what was entered in a pass was entered in the pass as it stood before room was made
 pub entered_from : (took : Bool) (journals journals' : List (List Journal)) (noted prepared noted' : List Noted) (place : ℕ) (entry : Entry) (number : Option ℕ) → prepared ≡ noted → Enters took journals journals' prepared noted' place entry number → Enters took journals journals' noted noted' place entry number
@@ -55,15 +49,15 @@ module _ {S : Type 0} (kept : Keeping S) (stored ready stored' : StoredCore S Ho
   fit_from state here = ap (λ c. fits c happened.outcome) (sym (happens_from.wanted state here)) ∙ happens_from.fits
 
   pub serves_so : IsSeen old between → BringsAt old.out place event back → Writes between new place change happened.outcome back happened.answer → change ≡ happened.change →
-      IsOf reply happened.answer → reply.change ≡ happened.change → reply.outcome ≡ happened.outcome →
+      IsOf place reply happened.answer → reply.change ≡ happened.change → reply.outcome ≡ happened.outcome →
       took ≡ takes_entry (realm stored.core place) → Enters took (bare between.journals) (bare new.journals) noted noted' place (entry_of event happened.outcome) reply.entry →
       Serves kept before then noted noted' place event (standing_at old.out back) reply
   serves_so seen brings writes wrote is change_is outcome took_is enters = record {
     answer = happened.answer;
     happens = subst (Happens kept stored stored' place event) (λ i. record { change = sym change_is i; outcome = sym outcome i; answer = happened.answer }) happens_from;
     is = is;
-    lines = writes.lines ∙ ap (λ l. l ++ happened.answer.sent) (same_waiting old.outboxes between.outboxes place (seen.lines place));
-    others = λ other differ. writes.other_lines other differ ∙ same_waiting old.outboxes between.outboxes other (seen.lines other);
+    lines = λ number. writes.lines number ∙ ap (λ l. l ++ sent_to number happened.answer.sent) (seen.lines place number);
+    others = λ other number differ. writes.other_lines other number differ ∙ seen.lines other number;
     enters = subst (λ js. Enters (takes_entry (realm stored.core place)) js (bare new.journals) noted noted' place (entry_of event reply.outcome) reply.entry) seen.journals (subst (λ b. Enters b (bare between.journals) (bare new.journals) noted noted' place (entry_of event reply.outcome) reply.entry) took_is (subst (λ o. Enters took (bare between.journals) (bare new.journals) noted noted' place (entry_of event o) reply.entry) (sym outcome) enters));
     waits = writes.work ∙ ap (λ xs. xs ++ option_to_list happened.answer.work) (seen.work place);
     out = writes.out place ∙ ap (λ o. left_in back o place) seen.out ∙ left_standing old.out place event back brings;

@@ -8,18 +8,18 @@ use Rattle.tip_honest.specs.Hosts.{AreAllHonest, Known}
 use Rattle.tip_kept.specs.Keeping.{RealmRows, room_at, rows_at}
 use Rattle.tip_machine.specs.Moves.{rows_after}
 use Rattle.tip_machine.specs.Types.{Answer}
-use Rattle.tip_machine.specs.declared.answer.Sent.{Sent}
 use Rattle.tip_machine.specs.declared.event.Change.{Change}
 use Rattle.tip_machine.specs.declared.event.Outcome.{Outcome}
+use Rattle.tip_outbox.specs.Waiting.{IsSettled, sent_to, waiting}
+use Rattle.tip_outbox.specs.declared.outboxes.Outboxes.{Outboxes}
 use Rattle.tip_table.specs.Kept.{Kept, of, places, taken_out}
 use Rattle.tip_host.specs.Entries.{bare}
-use Rattle.tip_host.specs.Outboxes.{waiting}
 
 -- journals, lines that wait to go out, stored rows as the store has answered, parties that wait to be taken out for their errand, and
 -- how those were sent that were taken
 pub record Books : Type 0 where
   pub journals : List (List Journal)
-  pub outboxes : Kept (List Sent)
+  pub outboxes : Outboxes
   pub rows : List RealmRows
   pub work : Kept PartyNotes
   pub out : Kept PartyNotes
@@ -53,7 +53,7 @@ left_in (Some place) out realm = taken_out (places out place) realm (of out real
 
 -- all is as it was, as far as it is seen
 pub record IsSeen (old new : Books) : Type 0 where
-  pub lines : (place : ℕ) → of new.outboxes place ≡ of old.outboxes place
+  pub lines : (place number : ℕ) → waiting new.outboxes place number ≡ waiting old.outboxes place number
   pub journals : bare new.journals ≡ bare old.journals
   pub rows : (place : ℕ) → rows_at new.rows place ≡ rows_at old.rows place
   pub count : length new.rows ≡ length old.rows
@@ -62,15 +62,15 @@ pub record IsSeen (old new : Books) : Type 0 where
 
 -- an event of a realm can be written down without memory
 pub record HasSpace (books : Books) (realm : ℕ) : Type 0 where
-  pub lines : 0 < books.outboxes.free
+  pub lines : IsSettled books.outboxes
   pub work : 0 < books.work.free
   pub rows : realm < length books.rows → 0 < room_at books.rows realm
 
 -- AN EVENT IS WRITTEN DOWN, but for its entry: its lines wait behind those that waited, its change is kept where the store has made
 -- it, who goes out waits to be taken, and who came back is out no more
 pub record Writes (old new : Books) (place : ℕ) (change : Option Change) (outcome : Outcome) (back : Option ℕ) (answer : Answer) : Type 0 where
-  pub lines : waiting new.outboxes place ≡ waiting old.outboxes place ++ answer.sent
-  pub other_lines : (other : ℕ) → other ≢ place → waiting new.outboxes other ≡ waiting old.outboxes other
+  pub lines : (number : ℕ) → waiting new.outboxes place number ≡ waiting old.outboxes place number ++ sent_to number answer.sent
+  pub other_lines : (other number : ℕ) → other ≢ place → waiting new.outboxes other number ≡ waiting old.outboxes other number
   pub rows : rows_at new.rows place ≡ rows_after change outcome (rows_at old.rows place)
   pub other_rows : (other : ℕ) → other ≢ place → rows_at new.rows other ≡ rows_at old.rows other
   pub count : length new.rows ≡ length old.rows

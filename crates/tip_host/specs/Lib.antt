@@ -1,8 +1,11 @@
-pub mod Outboxes
 pub mod Entries
 pub mod Works
+pub mod Seats
+pub mod HostEvents
+pub mod Speaking
 pub mod Books
 pub mod Openings
 pub mod Notings
 pub mod Hosts
+pub mod Served
 pub mod Renewals

@@ -6,6 +6,7 @@ use Rattle.tip_branch.specs.Notes.{PartyNotes}
 use Rattle.tip_machine.specs.Honest.{brings_no_party}
 use Rattle.tip_machine.specs.Returns.{Back, can_answer, event_of}
 use Rattle.tip_machine.specs.Types.{Event}
+use Rattle.tip_stored.specs.Errands.{was_done}
 use Rattle.tip_table.specs.Kept.{Kept, item_at, of, places}
 use Rattle.tip_table.specs.Lists.{IsFirst, without}
 
@@ -13,8 +14,13 @@ use Rattle.tip_table.specs.Lists.{IsFirst, without}
 abbrev pub ComesFrom : PartyNotes → Event → Type 0
 ComesFrom sent event = (back : Back) × (can_answer sent.errand back sent.members ≡ true) × (event ≡ event_of sent back)
 
--- one that comes back, and how it was sent
+-- and its calls were made
+abbrev pub IsDone : PartyNotes → Event → Type 0
+IsDone sent event = (back : Back) × (can_answer sent.errand back sent.members ≡ true) × (was_done sent.errand back ≡ true) × (event ≡ event_of sent back)
+
+-- one that comes back to a realm, and how it was sent
 pub record Came : Type 0 where
+  pub realm : ℕ
   pub event : Event
   pub sent : PartyNotes
 

@@ -1,12 +1,12 @@
 //! What a host keeps of its realms beside its stored core.
 
-use crate::batch::Batch;
 use crate::opening::Opening;
 use std::marker::Model;
 use tip_branch::{HeldParty, PartyNote};
 use tip_honest::Entry;
 use tip_journal::Journals;
 use tip_kept::KeptRows;
+use tip_outbox::Outboxes;
 use tip_table::Table;
 
 /// What a host keeps of its realms beside its stored core.
@@ -14,7 +14,7 @@ use tip_table::Table;
 pub(crate) struct Books {
     pub(crate) journals: Journals<Opening, Entry>,
     /// Lines and closings that wait to go out.
-    pub(crate) outboxes: Table<Batch>,
+    pub(crate) outboxes: Outboxes,
     /// The stored rows, as the store has answered.
     pub(crate) rows: KeptRows,
     /// Parties that wait to be taken out for their errand.
@@ -24,9 +24,13 @@ pub(crate) struct Books {
 }
 
 impl Model for Books {
+    ghost use Rattle.std.specs.Coded.{codes};
     ghost use Rattle.tip_host.specs.Books.{Books};
+    ghost use Rattle.tip_outbox.specs.contracts.outboxes.Outboxes as e;
 
     ghost Value = { Books };
+
+    ghost coded = { Prim.hlevel (codes, e.the_row.coded) };
 
     ghost view = { λ b. record {
       journals = b.journals;

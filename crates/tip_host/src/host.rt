@@ -1,42 +1,45 @@
 //! A stored core with what is kept of its realms beside it.
-ghost use Rattle.std.specs.Prelude.{◌≡◌, ◌≢◌, ◌↔◌, ℕ, [], None, true, false, find, if◌then◌else◌, map, slice_get, IfErr, IfOk, IfSome, OnErr, OnOk, IsTrue, Err, option_map};
+ghost use Rattle.std.specs.Prelude.{◌≡◌, ◌≢◌, ◌↔◌, ℕ, [], None, true, false, drop, length, map, slice_get, IfErr, IfOk, IfSome, OnErr, OnOk, IsTrue, Err, option_map};
 ghost use Rattle.std.specs.Option.{option_map_or};
 ghost use Rattle.tip_branch.specs.Always.{Always};
-ghost use Rattle.tip_core.specs.Hosted.{HaveNames, may_take_in, realm as realm_at};
+ghost use Rattle.tip_core.specs.Hosted.{HaveNames, may_take_in, realm as realm_at, standing_in};
 ghost use Rattle.tip_honest.specs.Hosts.{HasHonestRun};
-ghost use Rattle.tip_stored.specs.Recovering.{all_adopted, recovered};
+ghost use Rattle.tip_stored.specs.Loading.{spec_of};
+ghost use Rattle.tip_stored.specs.Recovering.{all_adopted};
 ghost use Rattle.tip_stored.specs.declared.stored_core.StepFault.TheVariants as StepFault;
 ghost use Rattle.tip_journal.specs.Audit.{AreAudited, report_of};
 ghost use Rattle.tip_journal.specs.Fits.{Fits};
 ghost use Rattle.tip_kept.specs.Keeping.{rows_at};
 ghost use Rattle.tip_machine.specs.Honest.{brings_no_party};
 ghost use Rattle.tip_machine.specs.States.{State};
-ghost use Rattle.tip_machine.specs.Steps.{is_for};
 ghost use Rattle.tip_recovery.specs.Adopting.{stored_of};
-ghost use Rattle.tip_table.specs.Lists.{without};
 ghost use Rattle.tip_host.specs.Books.{out_of};
-ghost use Rattle.tip_host.specs.Hosts.{Serves, Stays, is_now};
+ghost use Rattle.tip_host.specs.Hosts.{Serves, Stays, is_frozen, waiting_at};
 ghost use Rattle.tip_host.specs.Entries.{bare};
-ghost use Rattle.tip_host.specs.Openings.{opened};
-ghost use Rattle.tip_host.specs.Outboxes.{waiting};
+ghost use Rattle.tip_host.specs.Openings.{IsOpened};
+ghost use Rattle.tip_outbox.specs.Waiting.{waiting};
+ghost use Rattle.tip_host.specs.Seats.{is_now, within};
 ghost use Rattle.tip_host.specs.Works.{BringsAt, standing_at};
-ghost use Rattle.tip_host.specs.declared.host.HostFault.TheVariants.{NotOut, Party, Stopped};
+ghost use Rattle.tip_host.specs.declared.host.HostFault.TheVariants.{NotOut, PassMismatch, Stopped};
 ghost use Rattle.tip_host.specs.declared.host.OpenFault.TheVariants.{Unadopted};
 
 use crate::books::Books;
+use crate::host_event::HostEvent;
+use crate::noting::takes_entry;
 use crate::opening::{Opening, open_all};
-use crate::outboxes::take;
 use crate::reply::Reply;
+use crate::seat::Seat;
 use crate::serving::{finish, make_ready};
-use std::alloc::Global;
+use std::alloc::{AllocError, Global};
 use std::marker::Model;
 use thiserror::Error;
-use tip_core::Core;
+use tip_core::{Core, Standing};
 use tip_honest::Entry;
 use tip_journal::{AuditFault, Journals, Pass, Reported, audit, fits};
-use tip_machine::{Event, Seat, Sent};
+use tip_machine::{Event, Head, Item};
+use tip_outbox::Outboxes;
 use tip_rows::RowLog;
-use tip_stored::{Recovering, StepFault, StoredCore};
+use tip_stored::{RealmSpec, Recovering, StepFault, StoredCore};
 use tip_table::Table;
 
 /// Why a host is not opened.
@@ -53,8 +56,8 @@ pub enum OpenFault {
 pub enum HostFault {
     #[error("the host is stopped")]
     Stopped,
-    #[error("an event brings a party back by itself")]
-    Party,
+    #[error("the pass is not of this host")]
+    PassMismatch,
     #[error("the party is not out of this realm")]
     NotOut,
     #[error("out of memory")]
@@ -83,10 +86,14 @@ pub struct Host<S> {
 }
 
 impl<S> Model for Host<S> {
+    ghost use Rattle.std.specs.Coded.{codes};
     ghost use Rattle.tip_host.specs.Books.{IsHonest};
     ghost use Rattle.tip_host.specs.Hosts.{Host};
+    ghost use Rattle.tip_outbox.specs.contracts.outboxes.Outboxes as e;
 
     ghost Value = { Host S };
+
+    ghost coded = { Prim.hlevel (codes, e.the_row.coded) };
 
     ghost view = { λ d. record { stored = d.stored; books = d.books } };
 
@@ -101,21 +108,7 @@ impl<S: RowLog + Drop> Host<S> {
         recovering: Recovering<S>,
     ) -> Result<Host<S>, (OpenFault, Recovering<S>)>
         requires { Always }
-        ensures store { IfOk result (λ host. host.stored.store ≡ recovering.store) }
-        ensures realms { IfOk result (λ host. (place : ℕ) → realm_at host.stored.core place ≡
-            recovered (slice_get recovering.realms place)
-            (realm_at recovering.core place)) }
-        ensures names { IfOk result (λ host. HaveNames host.stored.core) }
-        ensures running { IfOk result (λ host. host.stored.is_stopped ≡ false) }
-        ensures journals { IfOk result
-            (λ host. host.books.journals ≡ map opened recovering.realms) }
-        ensures rows { IfOk result (λ host. (place : ℕ) → rows_at host.books.rows place
-            ≡ option_map_or (λ recovery. stored_of recovery.rows)
-            (slice_get recovering.realms place) []) }
-        ensures out { IfOk result (λ host. (place : ℕ) → out_of host.books place ≡ []) }
-        ensures lines { IfOk result
-            (λ host. (place : ℕ) → waiting host.books.outboxes place ≡ []) }
-        ensures adopted { OnOk result (all_adopted recovering.realms ≡ true) }
+        ensures opened { IfOk result (IsOpened recovering) }
         ensures unadopted { IfErr result
             (λ fault. fault.0 ≡ Unadopted → all_adopted recovering.realms ≡ false) }
         ensures back { IfErr result (λ fault. fault.1 ≡ recovering) }
@@ -125,7 +118,7 @@ impl<S: RowLog + Drop> Host<S> {
         };
         let books = Books {
             journals,
-            outboxes: Table::new(alloc),
+            outboxes: Outboxes::new(alloc),
             rows,
             work: Table::new(alloc),
             out: Table::new(alloc),
@@ -143,39 +136,34 @@ impl<S: RowLog + Drop> Host<S> {
         Pass::new(alloc)
     }
 
-    /// One event of a realm, which brings no party. Its lines wait in the outboxes, its entry stands in the realm's journal and in
-    /// this pass, and the party that goes out waits to be taken. A fault hands the event back, and nothing has happened.
+    /// One event of a realm. Its lines wait in the outboxes, its entry stands in the realm's journal and in this pass, and the party
+    /// that goes out waits to be taken. A fault hands the event back, and nothing has happened.
     pub fn step(
         &mut self,
         alloc: Global,
         pass: &mut Pass<Entry>,
-        realm: usize,
-        event: Event,
-    ) -> Result<Reply, (HostFault, Event)>
+        event: HostEvent,
+    ) -> Result<Reply, (HostFault, HostEvent)>
         requires { Always }
         ensures serves { IfOk result
-            (λ reply. Serves S.keeping self.old self.new pass.old.noted pass.new.noted realm event
-            None reply) }
-        ensures nobody { OnOk result (brings_no_party event ≡ true) }
+            (λ reply. Serves S.keeping self.old self.new pass.old.noted pass.new.noted event.realm
+            event.event None reply) }
+        ensures nobody { OnOk result (brings_no_party event.event ≡ true) }
         ensures stays { OnErr result (Stays self.old self.new) }
         ensures pass { OnErr result (pass.new.noted ≡ pass.old.noted) }
-        ensures back { IfErr result (λ fault. fault.1 ≡ event) }
+        ensures realm { IfErr result (λ fault. fault.1.realm ≡ event.realm) }
+        ensures back { IfErr result (λ fault. fault.1.event ≡ event.event) }
         ensures stopped { self.new.stored.is_stopped ≡ self.old.stored.is_stopped }
         ensures running { OnOk result (self.old.stored.is_stopped ≡ false) }
         ensures stopping { IfErr result
             (λ fault. (fault.0 ≡ Stopped) ↔ (self.old.stored.is_stopped ≡ true)) }
-        ensures party { IfErr result (λ fault. fault.0 ≡ Party → brings_no_party event ≡ false) }
         ensures sent { IfErr result (λ fault. fault.0 ≢ NotOut) }
+        ensures matching { IfErr result (λ fault. fault.0 ≢ PassMismatch) }
     {
-        if self.stored.is_stopped {
-            return Err((HostFault::Stopped, event));
-        }
-        if !brings_no_party(&event) {
-            return Err((HostFault::Party, event));
-        }
+        let (realm, event) = event.into_parts();
         match self.happen(alloc, pass, realm, event, None) {
             Ok(reply) => Ok(reply),
-            Err((fault, event)) => Err((fault.into(), event)),
+            Err((fault, event)) => Err((fault.into(), HostEvent::of_parts(realm, event))),
         }
     }
 
@@ -215,29 +203,85 @@ impl<S: RowLog + Drop> Host<S> {
     }
 
     /// The oldest line or closing that waits for a connection is taken out. None waits for a connection of an earlier start.
-    pub fn take_out(&mut self, realm: usize, seat: Seat) -> Option<Sent>
-        ensures taken { result ≡ (if is_now seat (realm_at self.old.stored.core realm)
-            then find (is_for seat.number) (waiting self.old.books.outboxes realm) else None) }
-        ensures left { waiting self.new.books.outboxes realm ≡ (if is_now seat
-            (realm_at self.old.stored.core realm)
-            then without (is_for seat.number) (waiting self.old.books.outboxes realm)
-            else waiting self.old.books.outboxes realm) }
-        ensures others { (other : ℕ) → other ≢ realm →
-            waiting self.new.books.outboxes other ≡ waiting self.old.books.outboxes other }
+    pub fn take_out(&mut self, seat: Seat) -> Option<Item>
+        ensures taken { result ≡ slice_get (waiting_at seat self.old) 0 }
+        ensures left { waiting_at seat self.new ≡ drop 1 (waiting_at seat self.old) }
+        ensures others { (place other : ℕ) → (place ≡ seat.realm → other ≢ seat.number) →
+            waiting self.new.books.outboxes place other
+            ≡ waiting self.old.books.outboxes place other }
+        ensures stale { is_now seat (realm_at self.old.stored.core seat.realm) ≡ false →
+            self.new ≡ self.old }
         ensures rest { self.new ≡ record self.old
             { books = record self.old.books { outboxes = self.new.books.outboxes } } }
     {
-        if self.epoch(realm) != Some(seat.epoch) {
+        if !self.is_now(seat) {
             return None;
         }
-        take(&mut self.books.outboxes, realm, seat.number)
+        self.books.outboxes.take(seat.realm, seat.number)
+    }
+
+    /// How a connection stands: whether it is there, and what becomes of a line that comes now.
+    pub fn standing(&self, seat: Seat) -> Standing
+        ensures { result
+            ≡ standing_in (within seat) (realm_at self.now.stored.core seat.realm) }
+    {
+        self.stored.core.standing(seat.realm, seat.within())
     }
 
     /// Whether a line may be taken on a connection now.
-    pub fn may_take(&self, realm: usize, seat: Seat) -> bool
-        ensures { result ≡ may_take_in seat (realm_at self.now.stored.core realm) }
+    pub fn may_take(&self, seat: Seat) -> bool
+        ensures { result ≡ may_take_in (within seat) (realm_at self.now.stored.core seat.realm) }
     {
-        self.stored.core.may_take(realm, seat)
+        self.stored.core.may_take(seat.realm, seat.within())
+    }
+
+    /// Whether a realm takes no entry more before it starts again; a realm that is not hosted is not frozen.
+    pub fn is_frozen(&self, realm: usize) -> bool
+        ensures { result ≡ is_frozen (realm_at self.now.stored.core realm) }
+    {
+        self.epoch(realm).is_some() && !takes_entry(&self.stored.core, realm)
+    }
+
+    /// How many lines and closings wait to go out on a connection.
+    pub fn waiting(&self, seat: Seat) -> usize
+        ensures { result ≡ length (waiting_at seat self.now) }
+    {
+        if !self.is_now(seat) {
+            return 0;
+        }
+        self.books.outboxes.count(seat.realm, seat.number)
+    }
+
+    /// Whether a seat is of its realm's present start.
+    fn is_now(&self, seat: Seat) -> bool
+        ensures { result ≡ is_now seat (realm_at self.now.stored.core seat.realm) }
+    {
+        self.epoch(seat.realm) == Some(seat.epoch)
+    }
+
+    /// What is known of each realm, in the order of declaration.
+    pub fn heads(&self) -> &[Head]
+        requires { Always }
+        ensures { (place : ℕ) → slice_get result.now place
+            ≡ option_map (λ state. state.head) (realm_at self.now.stored.core place) }
+    {
+        self.stored.core.heads()
+    }
+
+    /// Each realm as it was declared, to be loaded again.
+    pub fn declarations(&self, alloc: Global) -> Result<Vec<RealmSpec>, AllocError>
+        requires { Always }
+        ensures { IfOk result (λ specs. (place : ℕ) → slice_get specs.items place
+            ≡ option_map (λ state. spec_of state.head) (realm_at self.now.stored.core place)) }
+    {
+        self.stored.declarations(alloc)
+    }
+
+    /// Whether it was stopped.
+    pub fn is_stopped(&self) -> bool
+        ensures { result ≡ self.now.stored.is_stopped }
+    {
+        self.stored.is_stopped
     }
 
     /// The epoch of a realm; None where it is not hosted.
@@ -290,11 +334,4 @@ impl<S: RowLog + Drop> Host<S> {
         let Books { journals, .. } = books;
         (stored.shut(), journals)
     }
-}
-
-/// Whether an event brings no party back.
-fn brings_no_party(event: &Event) -> bool
-    ensures { result ≡ brings_no_party event.now }
-{
-    !matches!(event, Event::Voted(_) | Event::Settled(_))
 }

@@ -2,22 +2,29 @@
 //! connection. Whoever serves a connection makes its events here, and has a pass that tells which they were.
 #![tactic(auto)]
 
-mod batch;
 mod books;
 mod closing;
+mod fitting;
 mod host;
+mod host_event;
 mod leaving;
 mod noting;
 mod opening;
-mod outboxes;
 mod renewing;
 mod reply;
 mod returning;
+mod seat;
 mod serving;
+mod spoken;
 mod work;
 
 pub use closing::CloseFault;
+pub use fitting::Stepped;
 pub use host::{Host, HostFault, OpenFault};
+pub use host_event::HostEvent;
 pub use opening::{OpenedRow, Opening};
 pub use reply::Reply;
+pub use seat::Seat;
+pub use spoken::Spoken;
+pub use tip_core::Standing;
 pub use work::{Returned, Work};

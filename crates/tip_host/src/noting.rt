@@ -11,20 +11,19 @@ ghost use Rattle.tip_host.specs.Notings.{AreOf};
 
 use crate::opening::Opening;
 use std::alloc::{AllocError, Global};
-use tip_branch::PartyNote;
 use tip_core::Core;
-use tip_honest::{Badges, Entry, plain};
+use tip_honest::{Entry, PlainEvent};
 use tip_journal::{Journals, Noted, Pass};
 use tip_machine::{Event, Head, Outcome};
 
-/// An event twice, without boxes: for the journal, and for the pass.
+/// An event without boxes, which the journal and the pass will own together.
 #[derive(Drop)]
 pub(crate) struct Noting {
-    journal: Event<Badges, PartyNote>,
-    pass: Event<Badges, PartyNote>,
+    journal: PlainEvent,
+    pass: PlainEvent,
 }
 
-/// What an event needs for its entry, if it takes one: copies of it, and a place in the journal and in the pass.
+/// What an event needs for its entry, if it takes one: a copy of it, and a place in the journal and in the pass.
 pub(crate) fn prepare(
     alloc: Global,
     core: &Core,
@@ -52,14 +51,13 @@ pub(crate) fn prepare(
     Ok(Some(noting))
 }
 
-/// An event twice, without boxes.
+/// An event without boxes, with two owners.
 fn noted(alloc: Global, event: &Event) -> Result<Noting, AllocError>
     ensures { IfOk result (λ noting. AreOf event.now (Some noting)) }
 {
-    Ok(Noting {
-        journal: plain(alloc, event)?,
-        pass: plain(alloc, event)?,
-    })
+    let journal = PlainEvent::of(alloc, event)?;
+    let pass = journal.share()?;
+    Ok(Noting { journal, pass })
 }
 
 /// A place in the journal of a realm and in a pass.

@@ -4,6 +4,7 @@ ghost use Rattle.tip_branch.specs.Always.{Always};
 ghost use Rattle.tip_core.specs.Hosted.{HaveNames, realm as realm_at};
 ghost use Rattle.tip_stored.specs.Loading.{Goes, IsRead, Never, Stays as ReadsAlone};
 ghost use Rattle.tip_honest.specs.Honesty.{are_boxed};
+ghost use Rattle.tip_honest.specs.Hosts.{IsRenewed as KnowsRenewed};
 ghost use Rattle.tip_stored.specs.Renewing.{IsReasonToDoubt, IsRenewed, Rises, was_refused};
 ghost use Rattle.tip_stored.specs.declared.renewing.RenewFault.TheVariants.{NoRealm, Stopped};
 ghost use Rattle.tip_journal.specs.Journal.{begun};
@@ -14,31 +15,22 @@ ghost use Rattle.tip_kept.specs.Keeping.{rows_at};
 ghost use Rattle.tip_recovery.specs.Adopting.{are_adopted, loaded, stored_of};
 ghost use Rattle.std.specs.Option.{option_and_then};
 ghost use Rattle.tip_rows.specs.Logs.{Log, is_rising, last_epoch};
-ghost use Rattle.tip_table.specs.Kept.{capacity, of};
 ghost use Rattle.tip_host.specs.Entries.{bare};
 ghost use Rattle.tip_host.specs.Books.{out_of};
-ghost use Rattle.tip_host.specs.Renewals.{AreKeptBut, IsReady, IsReason, next_epoch};
-ghost use Rattle.tip_host.specs.Outboxes.{waiting};
+ghost use Rattle.tip_host.specs.Hosts.{known};
+ghost use Rattle.tip_host.specs.Renewals.{AreKeptBut, IsReason, next_epoch};
+ghost use Rattle.tip_outbox.specs.Waiting.{waiting};
+ghost use Rattle.tip_table.specs.Kept.{of};
 
-use crate::batch::Batch;
 use crate::books::Books;
 use crate::host::Host;
 use crate::opening::Opening;
 use std::alloc::{AllocError, Global};
-use std::mem::replace;
 use tip_core::Left;
 use tip_machine::next_epoch;
 use tip_recovery::Recovery;
 use tip_rows::RowLog;
 use tip_stored::RenewFault;
-use tip_table::Table;
-
-/// What it takes to clear a realm's outboxes: a table for the lines of the other realms, and room for those that are let go.
-#[derive(Drop)]
-struct Clearing {
-    spare: Table<Batch>,
-    left: Vec<Batch>,
-}
 
 impl<S: RowLog + Drop> Host<S> {
     /// What is stored of a realm: boxes are adopted for its rows, and it is renewed by it. Faults are NoRealm, NotRead, BadRow and
@@ -93,7 +85,8 @@ impl<S: RowLog + Drop> Host<S> {
             OnOk result (bare self.new.books.journals ≡ renewed realm
             (begun (state.head.epoch + 1) (map loaded recovery.rows))
             (bare self.old.books.journals)) }
-        ensures lines { OnOk result (waiting self.new.books.outboxes realm ≡ []) }
+        ensures lines { OnOk result
+            ((number : ℕ) → waiting self.new.books.outboxes realm number ≡ []) }
         ensures others { AreKeptBut realm self.old self.new }
         ensures same { IfErr result (λ fault. (place : ℕ) →
             realm_at self.new.stored.core place ≡ realm_at self.old.stored.core place) }
@@ -105,6 +98,11 @@ impl<S: RowLog + Drop> Host<S> {
         ensures kept { (place : ℕ) →
             rows_at self.new.books.rows place ≡ rows_at self.old.books.rows place }
         ensures out { (place : ℕ) → out_of self.new.books place ≡ out_of self.old.books place }
+        ensures taken { (place : ℕ) →
+            of self.new.books.out place ≡ of self.old.books.out place }
+        ensures known { (state : State) → realm_at self.old.stored.core realm ≡ Some state →
+            OnOk result (KnowsRenewed (known self.old) (known self.new) realm state
+            (map loaded recovery.rows)) }
         ensures reason { (log : Log) (state : State) → S.keeping.stands self.old.stored.store log →
             realm_at self.old.stored.core realm ≡ Some state →
             S.keeping.is_true self.new.stored.store →
@@ -124,12 +122,12 @@ impl<S: RowLog + Drop> Host<S> {
         if !are_stored(&self.books, realm, &recovery) {
             return Err((RenewFault::NotInDoubt, recovery));
         }
-        let Ok(clearing) = begin(alloc, &mut self.books, realm, epoch, &recovery) else {
+        let Ok(()) = begin(alloc, &mut self.books, realm, epoch, &recovery) else {
             return Err((RenewFault::Memory, recovery));
         };
         match self.stored.renew(alloc, realm, recovery) {
             Ok(left) => {
-                clear(alloc, &mut self.books, realm, clearing);
+                clear(&mut self.books, realm);
                 Ok(left)
             }
             Err(fault) => {
@@ -161,14 +159,14 @@ pub(crate) fn are_stored(books: &Books, realm: usize, recovery: &Recovery) -> bo
     books.rows.are(realm, recovery.rows())
 }
 
-/// A realm's next journal begins, and its outboxes can be cleared. Without memory all is as before.
+/// A realm's next journal begins. Without memory all is as before.
 fn begin(
     alloc: Global,
     books: &mut Books,
     realm: usize,
     epoch: u32,
     recovery: &Recovery,
-) -> Result<Clearing, AllocError>
+) -> Result<(), AllocError>
     requires always { Always }
     requires later { IsSomeAnd (current books.old.journals realm)
         (λ journal. journal.epoch < epoch) }
@@ -178,27 +176,20 @@ fn begin(
         OnOk result (are_boxed (map loaded recovery.now.rows) ≡ true) }
     ensures same { OnErr result (books.new.journals ≡ books.old.journals) }
     ensures rest { books.new ≡ record books.old { journals = books.new.journals } }
-    ensures ready { IfOk result (IsReady books.old.outboxes realm) }
 {
-    let clearing = Clearing {
-        spare: books.outboxes.with_room(alloc, 0)?,
-        left: Vec::with_capacity(alloc, books.outboxes.count(realm))?,
-    };
     let opening = Opening::of(alloc, recovery.rows())?;
-    books.journals.renew(alloc, realm, epoch, opening)?;
-    Ok(clearing)
+    books.journals.renew(alloc, realm, epoch, opening)
 }
 
 /// What waits in a realm is gone.
-fn clear(alloc: Global, books: &mut Books, realm: usize, clearing: Clearing)
+fn clear(books: &mut Books, realm: usize)
     requires always { Always }
-    requires ready { IsReady books.old.outboxes realm clearing }
-    ensures own { of books.new.outboxes realm ≡ [] }
-    ensures others { (other : ℕ) → other ≢ realm →
-        of books.new.outboxes other ≡ of books.old.outboxes other }
+    ensures own { (number : ℕ) → waiting books.new.outboxes realm number ≡ [] }
+    ensures others { (other number : ℕ) → other ≢ realm →
+        waiting books.new.outboxes other number ≡ waiting books.old.outboxes other number }
     ensures rest { books.new ≡ record books.old { outboxes = books.new.outboxes } }
 {
-    clear_lines(alloc, &mut books.outboxes, realm, clearing);
+    books.outboxes.clear(realm);
 }
 
 /// A realm's last journal, which has no entry, is gone.
@@ -209,15 +200,4 @@ fn withdraw(books: &mut Books, realm: usize)
         { journals = changed_at realm without_last books.old.journals } }
 {
     books.journals.withdraw(realm);
-}
-
-/// The lines of a realm are gone.
-fn clear_lines(alloc: Global, outboxes: &mut Table<Batch>, realm: usize, clearing: Clearing)
-    requires { IsReady outboxes.old realm clearing }
-    ensures own { of outboxes.new realm ≡ [] }
-    ensures others { (other : ℕ) → other ≢ realm → of outboxes.new other ≡ of outboxes.old other }
-{
-    let Clearing { spare, mut left } = clearing;
-    let waiting = replace(outboxes, Table::new(alloc));
-    *outboxes = waiting.part(realm, spare, &mut left);
 }

@@ -7,7 +7,7 @@ ghost use Rattle.tip_table.specs.Kept.{of};
 ghost use Rattle.tip_host.specs.Books.{left_in, out_of};
 ghost use Rattle.tip_host.specs.Hosts.{IsOut, Serves, Stays};
 ghost use Rattle.tip_host.specs.Works.{Takes, WasSent, is_errand_of, left_out};
-ghost use Rattle.tip_host.specs.declared.host.HostFault.TheVariants.{NotOut, Party, Stopped};
+ghost use Rattle.tip_host.specs.declared.host.HostFault.TheVariants.{NotOut, PassMismatch, Stopped};
 
 use crate::books::Books;
 use crate::host::{Host, HostFault};
@@ -55,6 +55,7 @@ impl<S: RowLog + Drop> Host<S> {
         requires { Always }
         ensures takes { IfOk result (λ work. Takes realm (option_map (λ party. party.sent) work)
             self.old.books.work self.new.books.work self.old.books.out self.new.books.out) }
+        ensures realm { IfOk result (λ work. IfSome work (λ work. work.realm ≡ realm)) }
         ensures out { (place : ℕ) → out_of self.new.books place ≡ out_of self.old.books place }
         ensures stays { OnErr result ((place : ℕ) →
             (of self.new.books.work place ≡ of self.old.books.work place)
@@ -75,15 +76,13 @@ impl<S: RowLog + Drop> Host<S> {
         &mut self,
         alloc: Global,
         pass: &mut Pass<Entry>,
-        realm: usize,
         returned: Returned,
     ) -> Result<Reply, (HostFault, Returned)>
         requires { Always }
         ensures serves { IfOk result
-            (λ reply. Serves S.keeping self.old self.new pass.old.noted pass.new.noted realm
-            returned.event
-            (Some returned.sent) reply) }
-        ensures out { OnOk result (IsOut self.old realm returned.sent) }
+            (λ reply. Serves S.keeping self.old self.new pass.old.noted pass.new.noted
+            returned.realm returned.event (Some returned.sent) reply) }
+        ensures out { OnOk result (IsOut self.old returned.realm returned.sent) }
         ensures stays { OnErr result (Stays self.old self.new) }
         ensures pass { OnErr result (pass.new.noted ≡ pass.old.noted) }
         ensures back { IfErr result (λ fault. fault.1 ≡ returned) }
@@ -92,38 +91,41 @@ impl<S: RowLog + Drop> Host<S> {
         ensures stopping { IfErr result
             (λ fault. (fault.0 ≡ Stopped) ↔ (self.old.stored.is_stopped ≡ true)) }
         ensures not_out { IfErr result
-            (λ fault. fault.0 ≡ NotOut → ¬ IsOut self.old realm returned.sent) }
-        ensures party { IfErr result (λ fault. fault.0 ≢ Party) }
+            (λ fault. fault.0 ≡ NotOut → ¬ IsOut self.old returned.realm returned.sent) }
+        ensures matching { IfErr result (λ fault. fault.0 ≢ PassMismatch) }
     {
         if self.stored.is_stopped {
             return Err((HostFault::Stopped, returned));
         }
+        let realm = returned.realm();
         let Some(place) = place_of(&self.books.out, realm, returned.sent()) else {
             return Err((HostFault::NotOut, returned));
         };
         let (event, sent) = returned.into_parts();
         match self.happen(alloc, pass, realm, event, Some(place)) {
             Ok(reply) => Ok(reply),
-            Err((fault, event)) => Err((fault.into(), Returned::of_parts(event, sent))),
+            Err((fault, event)) => Err((fault.into(), Returned::of_parts(realm, event, sent))),
         }
     }
 
     /// A party that was taken out of a realm is given up, its errand undone: it is out no more, and is let go by whoever drops it,
     /// where nothing waits for the host. It is no event and has no entry. Who is not out is handed back.
-    pub fn lose(&mut self, realm: usize, work: Work) -> Result<HeldParty, Work>
+    pub fn lose(&mut self, work: Work) -> Result<HeldParty, Work>
         requires { Always }
         ensures party { IfOk result (λ party. party ≡ work.sent) }
-        ensures was { OnOk result (IsOut self.old realm work.sent) }
-        ensures lost { OnOk result (of self.new.books.out realm
-            ≡ left_out (Some work.sent) (of self.old.books.out realm)) }
-        ensures others { (other : ℕ) → other ≢ realm →
+        ensures was { OnOk result (IsOut self.old work.realm work.sent) }
+        ensures lost { OnOk result (of self.new.books.out work.realm
+            ≡ left_out (Some work.sent) (of self.old.books.out work.realm)) }
+        ensures others { (other : ℕ) → other ≢ work.realm →
             of self.new.books.out other ≡ of self.old.books.out other }
         ensures rest { self.new
             ≡ record self.old { books = record self.old.books { out = self.new.books.out } } }
         ensures same { OnErr result (self.new ≡ self.old) }
-        ensures not_out { OnErr result (¬ IsOut self.old realm work.sent) }
+        ensures not_out { OnErr result (¬ IsOut self.old work.realm work.sent) }
+        ensures realm { IfErr result (λ back. back.realm ≡ work.realm) }
         ensures back { IfErr result (λ back. back.sent ≡ work.sent) }
     {
+        let realm = work.realm();
         if !give_up(&mut self.books, realm, work.sent()) {
             return Err(work);
         }
@@ -156,6 +158,7 @@ fn take_from(alloc: Global, books: &mut Books, realm: usize) -> Result<Option<Wo
     requires untold { list_all is_uncalled (of books.old.work realm) ≡ true }
     ensures takes { IfOk result (λ found. Takes realm (option_map (λ party. party.sent) found)
         books.old.work books.new.work books.old.out books.new.out) }
+    ensures realm { IfOk result (λ found. IfSome found (λ work. work.realm ≡ realm)) }
     ensures out { (place : ℕ) → out_of books.new place ≡ out_of books.old place }
     ensures stays { OnErr result ((place : ℕ) →
         (of books.new.work place ≡ of books.old.work place)
@@ -176,6 +179,7 @@ fn take_oldest(
     requires untold { list_all is_uncalled (of work.old realm) ≡ true }
     ensures takes { IfOk result (λ found. Takes realm (option_map (λ party. party.sent) found)
         work.old work.new out.old out.new) }
+    ensures realm { IfOk result (λ found. IfSome found (λ work. work.realm ≡ realm)) }
     ensures out { (place : ℕ) → of out.new place ++ of work.new place
         ≡ of out.old place ++ of work.old place }
     ensures stays { OnErr result ((place : ℕ) →
@@ -188,7 +192,7 @@ fn take_oldest(
     let sent = PartyNote::of(alloc, work.item(place))?;
     out.reserve()?;
     out.add(realm, noted);
-    Ok(Some(Work::new(work.remove(place), sent)))
+    Ok(Some(Work::new(realm, work.remove(place), sent)))
 }
 
 /// At which place a party stands that was taken out and was sent so.

@@ -8,6 +8,7 @@ ghost use Rattle.tip_kept.specs.Keeping.{room_at, rows_at};
 ghost use Rattle.tip_machine.specs.Moves.{rows_after};
 ghost use Rattle.tip_machine.specs.States.{State};
 ghost use Rattle.tip_machine.specs.Types.{Event as AnEvent};
+ghost use Rattle.tip_outbox.specs.Waiting.{IsSettled};
 ghost use Rattle.tip_table.specs.Kept.{of, places};
 ghost use Rattle.tip_host.specs.Books.{HasSpace, IsSeen, Writes, left_in};
 ghost use Rattle.tip_host.specs.Hosts.{IsOf};
@@ -16,7 +17,6 @@ ghost use Rattle.tip_host.specs.Notings.{AreOf, IsReadyFor};
 
 use crate::books::Books;
 use crate::noting::{Noting, enter, prepare};
-use crate::outboxes::send;
 use crate::reply::Reply;
 use std::alloc::{AllocError, Global};
 use tip_branch::{HeldParty, PartyNote};
@@ -53,7 +53,7 @@ pub(crate) fn make_ready(
     ensures seen { IsSeen books.old books.new }
     ensures pass { pass.new.noted ≡ pass.old.noted }
 {
-    books.outboxes.reserve()?;
+    books.outboxes.settle()?;
     books.work.reserve()?;
     books.rows.reserve(realm)?;
     let change = wanted(alloc, room)?;
@@ -90,11 +90,11 @@ pub(crate) fn finish(
         (0 < room books.old.journals realm) × (0 < pass.old.free) }
     requires few { is_some ready.noting ≡ true →
         last_number books.old.journals realm + 1 < 2 ^ 32 }
-    requires lines { 0 < books.old.outboxes.free }
+    requires lines { IsSettled books.old.outboxes }
     requires work { 0 < books.old.work.free }
     requires rows { IfSome ready.change (λ _. 0 < room_at books.old.rows realm) }
     requires back { IfSome back (λ place. IsSome (places books.old.out place)) }
-    ensures is { IsOf result happened.answer }
+    ensures is { IsOf realm result happened.answer }
     ensures change { result.change ≡ happened.change }
     ensures outcome { result.outcome ≡ happened.outcome }
     ensures writes { Writes books.old books.new realm ready.change happened.outcome back
@@ -109,8 +109,8 @@ pub(crate) fn finish(
     let entry = enter(&mut books.journals, pass, realm, noting, outcome);
     keep(&mut books.rows, realm, change, outcome);
     take_back(&mut books.out, back);
-    let (reply, lines, work) = Reply::of(happened, entry);
-    send(&mut books.outboxes, realm, lines);
+    let (reply, lines, work) = Reply::of(realm, happened, entry);
+    books.outboxes.send(realm, lines);
     go_out(&mut books.work, realm, work);
     reply
 }

@@ -1,9 +1,10 @@
 //! Parties that are out for their errand, and that come back from it.
-ghost use Rattle.std.specs.Prelude.{◌≡◌, true};
+ghost use Rattle.std.specs.Prelude.{◌≡◌, true, IfOk};
 ghost use Rattle.tip_branch.specs.Always.{Always};
-ghost use Rattle.tip_host.specs.Works.{ComesFrom};
+ghost use Rattle.tip_host.specs.Works.{ComesFrom, IsDone};
 ghost use Rattle.tip_stored.specs.Errands.{are_untold};
 
+use std::alloc::{AllocError, Global};
 use std::marker::Model;
 use tip_branch::{HeldParty, PartyNote};
 use tip_machine::Event;
@@ -13,6 +14,8 @@ use tip_stored::done;
 /// branches are rolled back.
 #[derive(Drop)]
 pub struct Work {
+    /// The place of its realm in the order of declaration.
+    realm: usize,
     party: HeldParty,
     sent: PartyNote,
     ghost as_sent: { party ≡ sent },
@@ -22,6 +25,7 @@ pub struct Work {
 /// A party that comes back as its errand leaves it, and how it was sent. Only `Work::done` gives it out.
 #[derive(Drop)]
 pub struct Returned {
+    realm: usize,
     event: Event,
     sent: PartyNote,
 }
@@ -31,19 +35,27 @@ impl Model for Returned {
 
     ghost Value = { Came };
 
-    ghost view = { λ r. record { event = r.event; sent = r.sent } };
+    ghost view = { λ r. record { realm = r.realm; event = r.event; sent = r.sent } };
 
     ghost invariant = { λ r. ComesFrom r.sent r.event };
 }
 
 impl Work {
-    /// A party goes out that was sent so. It takes no memory.
-    pub(crate) fn new(party: HeldParty, sent: PartyNote) -> Work
+    /// A party of a realm goes out that was sent so. It takes no memory.
+    pub(crate) fn new(realm: usize, party: HeldParty, sent: PartyNote) -> Work
         requires as_sent { party ≡ sent }
         requires untold { are_untold party.members ≡ true }
-        ensures { result.sent ≡ sent }
+        ensures realm { result.realm ≡ realm }
+        ensures sent { result.sent ≡ sent }
     {
-        Work { party, sent }
+        Work { realm, party, sent }
+    }
+
+    /// The place of its realm in the order of declaration, from 0.
+    pub fn realm(&self) -> usize
+        ensures { result ≡ self.now.realm }
+    {
+        self.realm
     }
 
     /// How it was sent.
@@ -53,14 +65,23 @@ impl Work {
         &self.sent
     }
 
+    /// How it was sent, copied.
+    pub fn noted(&self, alloc: Global) -> Result<PartyNote, AllocError>
+        ensures { IfOk result (λ note. note ≡ self.now.sent) }
+    {
+        PartyNote::of(alloc, &self.party)
+    }
+
     /// Does the errand: its branches are asked, or told. This calls the branches, and is called where nothing waits for the host.
     pub fn done(self) -> Returned
         requires { Always }
-        ensures { result.sent ≡ self.sent }
+        ensures realm { result.realm ≡ self.realm }
+        ensures sent { result.sent ≡ self.sent }
+        ensures came { IsDone self.sent result.event }
     {
-        let Work { party, sent } = self;
+        let Work { realm, party, sent } = self;
         let event = done(party);
-        Returned { event, sent }
+        Returned { realm, event, sent }
     }
 
     /// The party, its errand undone.
@@ -80,23 +101,31 @@ impl Returned {
         &self.sent
     }
 
-    /// The event that it is, and how it was sent.
+    /// The place of its realm in the order of declaration, from 0.
+    pub fn realm(&self) -> usize
+        ensures { result ≡ self.now.realm }
+    {
+        self.realm
+    }
+
+    /// The event that it is in its realm, and how it was sent.
     pub(crate) fn into_parts(self) -> (Event, PartyNote)
         requires { Always }
         ensures came { ComesFrom self.sent self.event }
         ensures event { result.0 ≡ self.event }
         ensures sent { result.1 ≡ self.sent }
     {
-        let Returned { event, sent } = self;
+        let Returned { event, sent, .. } = self;
         (event, sent)
     }
 
     /// The same again, where nothing has happened.
-    pub(crate) fn of_parts(event: Event, sent: PartyNote) -> Returned
+    pub(crate) fn of_parts(realm: usize, event: Event, sent: PartyNote) -> Returned
         requires { ComesFrom sent event }
+        ensures realm { result.realm ≡ realm }
         ensures event { result.event ≡ event }
         ensures sent { result.sent ≡ sent }
     {
-        Returned { event, sent }
+        Returned { realm, event, sent }
     }
 }

@@ -1,6 +1,10 @@
-pub mod AllLeave
-pub mod Calling
-pub mod Happening
-pub mod Leaving
-pub mod Queues
-pub mod Starts
+pub mod Given
+pub mod Begun
+pub mod Growing
+pub mod Taking
+pub mod MoveKinds
+pub mod Resting
+pub mod Storing
+pub mod Going
+pub mod Noting
+pub mod Made

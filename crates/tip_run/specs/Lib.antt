@@ -1,3 +1,6 @@
-pub mod Halts
+pub mod Giving
+pub mod Running
+pub mod Starts
+pub mod Moves
 pub mod Runs
-pub mod Showing
+pub mod Halts

@@ -1,142 +1,77 @@
--- A STORED CORE THAT IS RUN by a list of moves (ours): what each move does, and what it shows.
-use Rattle.std.specs.Prelude.{◌≡◌, ◌≢◌, ℕ, Bool, true, List, [], ◌∷◌, ◌++◌, map, Option, Some, None}
-use Rattle.std.specs.List.{flat_map}
-use Rattle.std.specs.Option.{option_to_list}
-use Rattle.tip_branch.specs.Notes.{PartyNotes}
-use Rattle.tip_branch.specs.declared.branch.Badge.{Badge}
-use Rattle.tip_calls.specs.Calls.{AreRun, Around, Came, IsHosted, IsLetGo, IsRestarted, IsRisen, IsStepped, drops_in}
-use Rattle.tip_core.specs.Hosted.{HaveNames, Hosted, Steps, realm}
-use Rattle.tip_stored.specs.Errands.{was_done}
-use Rattle.tip_stored.specs.Keeping.{Keeps}
-use Rattle.tip_stored.specs.Recovering.{adopted_each}
-use Rattle.tip_stored.specs.declared.stored_core.StoredCore.{StoredCore}
-use Rattle.tip_machine.specs.Honest.{brings_no_party, is_run}
-use Rattle.tip_machine.specs.Moves as Moves
-use Rattle.tip_machine.specs.Moves.{World, drops_here, led_to}
-use Rattle.tip_machine.specs.Outputs.{drops_of, outputs}
-use Rattle.tip_machine.specs.Returns.{Back, event_of}
+-- WHAT BECOMES OF EACH REALM in a run (ours): its own honest run goes on, and the pass has noted its entries.
+use Rattle.std.specs.Prelude.{◌≡◌, ◌==◌, ℕ, Bool, true, false, List, [], ◌++◌, map, filter, Option, Some}
+use Rattle.std.specs.List.{enumerate_from, flat_map, list_any}
+use Rattle.std.specs.Option.{option_map_or}
+use Rattle.tip_agreement.specs.Telling.{is_told_of}
+use Rattle.tip_core.specs.Hosted.{realm}
+use Rattle.tip_honest.specs.Honesty.{AreHonest, Journal}
+use Rattle.tip_honest.specs.Hosts as Honest
+use Rattle.tip_host.specs.Entries.{Noted}
 use Rattle.tip_machine.specs.Starting.{IsStart}
 use Rattle.tip_machine.specs.States.{State}
-use Rattle.tip_machine.specs.Steps.{fits, wants}
-use Rattle.tip_machine.specs.Types.{Answer, Event}
-use Rattle.tip_machine.specs.declared.event.Change.{Change}
-use Rattle.tip_machine.specs.declared.event.Outcome.{Outcome}
-use Rattle.tip_recovery.specs.Adopting.{adopted_all}
-use Rattle.tip_rows.specs.Logs.{Keeping, Log}
-use Rattle.tip_table.specs.Kept.{Kept, of}
-use Rattle.tip_witness.specs.Telling.{is_told}
-use Rattle.tip_run.specs.Showing.{shown_at, outputs_of}
-use Rattle.tip_run.specs.declared.moves.Move as moves
+use Rattle.tip_rows.specs.Logs.{Keeping}
+use Rattle.tip_run.specs.Moves.{AreMade, Move}
+use Rattle.tip_run.specs.Running.{Running, journals_of, world_at}
+use Rattle.tip_run.specs.Starts.{StoresAt}
 use Rattle.tip_run.specs.declared.moves.Move.TheVariants as move
 use Rattle.tip_run.specs.declared.shown.Shown.{Shown}
 
-abbrev pub Move : Type 0
-Move = moves.Move Event (List Badge)
+-- The store
 
--- a stored core at work, and the parties that are out of each realm, the oldest first
-pub record Running (S : Type 0) : Type 0 where
-  pub stored : StoredCore S Hosted
-  pub out : Kept PartyNotes
+-- the store has the rows of the realm at a place, if it is there
+abbrev pub Stores : {S : Type 0} → Keeping S → Running S → ℕ → Type 0
+Stores kept running place = (state : State) → realm running.host.stored.core place ≡ Some state → StoresAt kept running.host place state
 
--- what its calls are calls of
-abbrev pub around : {S : Type 0} → Running S → Around S
-around running = record { core = running.stored.core; store = running.stored.store; out = of running.out }
+abbrev pub is_restart : Move → Bool
+is_restart (move.Restart boxes) = true
+is_restart other = false
 
--- parties are out of realms that are there
-abbrev pub AreOfRealms : {S : Type 0} → Running S → Type 0
-AreOfRealms running = (place : ℕ) → realm running.stored.core place ≡ None → of running.out place ≡ []
+-- THE STORE MAY BE RELIED ON, where a restart is among the moves: what is read then is what it has answered
+abbrev pub IsRelied : {S : Type 0} → Keeping S → Running S → List Move → Running S → ℕ → Type 0
+IsRelied kept old moves new place = list_any is_restart moves ≡ true → kept.is_true new.host.stored.store × Stores kept old place
 
--- One event
+-- Honest runs
 
--- AN EVENT of the realm at a place has come, with all that it shows; the party that it sends out is out
-pub record Happens {S : Type 0} (kept : Keeping S) (old new : Around S) (place : ℕ) (event : Event) (shown : Shown) : Type 0 where
-  pub change : Option Change
-  pub outcome : Outcome
-  pub answer : Answer
-  pub steps : Steps old.core new.core place event outcome answer
-  pub wanted : (state : State) → realm old.core place ≡ Some state → change ≡ wants state event
-  pub fits : fits change outcome ≡ true
-  pub keeps : (state : State) → realm old.core place ≡ Some state → Keeps kept state.head.name change outcome old.store new.store
-  pub absent : realm old.core place ≡ None → new.store ≡ old.store
-  pub names : HaveNames new.core
-  pub out : new.out place ≡ old.out place ++ option_to_list answer.work
-  pub others : (other : ℕ) → other ≢ place → new.out other ≡ old.out other
-  pub realm_is : shown.realm ≡ place
-  pub shows : outputs_of shown ≡ outputs event change outcome answer
-
--- the same, seen as one call of a stored core
-pub record Comes {S : Type 0} (kept : Keeping S) (old new : Around S) (place : ℕ) (event : Event) (shown : Shown) : Type 0 where
-  pub came : Came
-  pub is : IsStepped kept old new came
-  pub place_is : came.place ≡ place
-  pub event_is : came.event ≡ event
-  pub realm_is : shown.realm ≡ place
-  pub shows : outputs_of shown ≡ outputs event came.change came.outcome came.answer
-
--- Errands
-
--- the oldest party that is out does its errand and comes back, and the others stay out; where none is out, nothing happens
-abbrev pub Goes : {S : Type 0} → Keeping S → Around S → Around S → ℕ → List PartyNotes → Option Shown → Type 0
-Goes kept old new place [] shown = (shown ≡ None) × (new ≡ old)
-Goes kept old new place (party ∷ left) None = ⊥
-Goes kept old new place (party ∷ left) (Some shown) =
-    (back : Back) × (was_done party.errand back ≡ true) × (comes : Comes kept old new place (event_of party back) shown) × (comes.is.left ≡ left)
-
--- it is let go, its errand undone, and the others stay out
-abbrev pub Loses : {S : Type 0} → Around S → Around S → ℕ → List PartyNotes → Option Shown → Type 0
-Loses old new place [] shown = (shown ≡ None) × (new ≡ old)
-Loses old new place (party ∷ left) None = ⊥
-Loses old new place (party ∷ left) (Some shown) = IsLetGo old new place party × (new.out place ≡ left) × (shown.realm ≡ place) × (outputs_of shown ≡ drops_of party)
-
--- Starts
-
--- all realms start again from their rows, with these boxes
-pub record Restarts {S : Type 0} (kept : Keeping S) (old new : Around S) (boxes : List (List (List Badge))) (shown : List Shown) : Type 0 where
-  pub is : IsRestarted kept old new
-  pub boxes_are : is.begins.realms ≡ adopted_each boxes is.begins.loaded.realms
-  pub shows : (place : ℕ) → shown_at place shown ≡ flat_map drops_of (old.out place) ++ drops_in (realm old.core place)
-
--- one realm does, while the others run
-pub record Renews {S : Type 0} (kept : Keeping S) (old new : Around S) (place : ℕ) (boxes : List (List Badge)) (shown : Shown) : Type 0 where
+-- THE HONEST RUN OF THE REALM AT A PLACE GOES ON to where the realm is now, and leaves all its journals
+pub record GoesOn {S : Type 0} (new : Running S) (place : ℕ) {world : _} {journals : List Journal} (before : AreHonest world journals) : Type 0 where
   pub state : State
-  pub is : IsRisen kept old new place state
-  pub boxes_are : is.recovery.rows ≡ adopted_all boxes is.read
-  pub realm_is : shown.realm ≡ place
-  pub shows : outputs_of shown ≡ drops_here state
+  pub here : realm new.host.stored.core place ≡ Some state
+  pub all : List Journal
+  pub journals_are : journals_of new place ≡ Some all
+  pub goes : Honest.GoesOn before (world_at new place state) all
 
--- Moves
+-- ISOLATION AND AGREEMENT: so it is with each realm, whatever moves of others are between its own
+abbrev pub AreHonestRuns : {S : Type 0} → Keeping S → Running S → List Move → Running S → Type 0
+AreHonestRuns kept old moves new =
+    (place : ℕ) (state : State) (journals : List Journal) → realm old.host.stored.core place ≡ Some state → journals_of old place ≡ Some journals → (before : AreHonest (world_at old place state) journals) → IsRelied kept old moves new place → GoesOn new place before
 
--- ONE MOVE, and what it shows
-abbrev pub IsMade : {S : Type 0} → Keeping S → Around S → Move → List Shown → Around S → Type 0
-IsMade kept old (move.Step place event) shown new = (one : Shown) × (shown ≡ one ∷ []) × (brings_no_party event ≡ true) × Comes kept old new place event one
-IsMade kept old (move.Go place) shown new = (one : Option Shown) × (shown ≡ option_to_list one) × Goes kept old new place (old.out place) one
-IsMade kept old (move.Lose place) shown new = (one : Option Shown) × (shown ≡ option_to_list one) × Loses old new place (old.out place) one
-IsMade kept old (move.Restart boxes) shown new = Restarts kept old new (map (λ lots. lots.items) boxes.items) shown
-IsMade kept old (move.Renew place boxes) shown new = (one : Shown) × (shown ≡ one ∷ []) × Renews kept old new place boxes.items one
+-- OF AN IDENTIFIER ONE REALM ALONE TELLS its branches: two whose runs both do are one
+abbrev pub AreApart : {S : Type 0} → Running S → Type 0
+AreApart running =
+    (id : List ℕ) (one other : ℕ) (this that : State) (journals others : List Journal) (is : AreHonest (world_at running one this) journals) (are : AreHonest (world_at running other that) others) →
+    realm running.host.stored.core one ≡ Some this → realm running.host.stored.core other ≡ Some that → IsStart is.start → IsStart are.start →
+    is_told_of id is.start is.moves ≡ true → is_told_of id are.start are.moves ≡ true → one ≡ other
 
--- ONE AFTER ANOTHER
-abbrev pub AreMade : {S : Type 0} → Keeping S → Around S → List Move → List Shown → Around S → Type 0
-AreMade kept old [] shown new = (shown ≡ []) × (new ≡ old)
-AreMade kept old (move ∷ moves) shown new =
-    (between : Around _) × (first later : List Shown) × (shown ≡ first ++ later) × IsMade kept old move first between × AreMade kept between moves later new
+-- Entries
 
--- Agreement
+-- what a pass notes of a journal's entries, each with its number
+abbrev pub notes_in : ℕ → Journal → List Noted
+notes_in place journal = map (λ numbered. record { realm = place; epoch = journal.epoch; number = numbered.0; entry = numbered.1 }) (enumerate_from 1 journal.entries)
 
--- WHAT IS SHOWN IS A RUN OF EACH REALM'S OWN MACHINE, behind the moves that it had made: its state and its stored rows are where that
--- run leads, and none of its transactions is half committed
-abbrev pub AreAgreed : {S : Type 0} → Keeping S → Around S → List Shown → Around S → Type 0
-AreAgreed kept old shown new =
-    (place : ℕ) (start : World) (before : List Moves.Move) → IsStart start → is_run start before ≡ true → HaveNames old.core → IsHosted kept old place (led_to start before) → kept.is_true new.store → AreRun kept start before (shown_at place shown) new place
+-- and of those of all journals of the realm at a place
+abbrev pub notes_of : ℕ → Option (List Journal) → List Noted
+notes_of place journals = option_map_or (flat_map (notes_in place)) journals []
 
--- OF AN IDENTIFIER ONE REALM ALONE SHOWS that a branch was told
-abbrev pub AreApart : {S : Type 0} → Keeping S → Around S → List Shown → Around S → Type 0
-AreApart kept old shown new =
-    (id : List ℕ) (one other : ℕ) (start starts : World) (before befores : List Moves.Move) → IsStart start → is_run start before ≡ true → IsStart starts → is_run starts befores ≡ true → HaveNames old.core → IsHosted kept old one (led_to start before) → IsHosted kept old other (led_to starts befores) → kept.is_true new.store →
-    is_told start.state.head.name id (shown_at one shown) ≡ true → is_told starts.state.head.name id (shown_at other shown) ≡ true → one ≡ other
+-- THE PASS HAS GAINED the entries that the journals have more, in order, each realm's own, and no others
+pub record HasNoted {S : Type 0} (old new : Running S) : Type 0 where
+  pub gained : List Noted
+  pub pass : new.noted ≡ old.noted ++ gained
+  pub own : (place : ℕ) → notes_of place (journals_of new place) ≡ notes_of place (journals_of old place) ++ filter (λ noted. noted.realm == place) gained
 
--- A RUN: its moves were made, it is agreed, and another may follow
-pub record HasRun {S : Type 0} (kept : Keeping S) (old : Around S) (moves : List Move) (shown : List Shown) (new : Around S) : Type 0 where
+-- A RUN: its moves were made, in order, and of what has become of each realm this holds
+pub record HasRun {S : Type 0} (kept : Keeping S) (old : Running S) (moves : List Move) (shown : List Shown) (new : Running S) : Type 0 where
   pub made : AreMade kept old moves shown new
-  pub agreed : AreAgreed kept old shown new
-  pub apart : AreApart kept old shown new
-  pub names : HaveNames old.core → HaveNames new.core
+  pub honest : AreHonestRuns kept old moves new
+  pub noted : HasNoted old new
+  pub stored : (place : ℕ) → kept.is_true new.host.stored.store → Stores kept old place → Stores kept new place
+  pub apart : AreApart new

@@ -1,15 +1,16 @@
-//! A stored core that is run by a list of moves: each realm makes an honest run of its own machine, and agreement holds of it.
+//! A host that is run by a list of moves: each realm's journals, over restarts too, are those of one honest run of its own machine.
 #![tactic(auto)]
 
-mod copies;
+mod errands;
 mod halt;
+pub mod laws;
 mod moves;
-mod restarting;
 mod run;
 mod running;
 mod shown;
+mod starting;
 
 pub use halt::{Halt, RunFault};
 pub use moves::Move;
 pub use running::Running;
-pub use shown::Shown;
+pub use shown::{Said, Shown};

@@ -1,159 +1,75 @@
-//! A stored core at work, by a caller that brings parties back as their errands leave them.
-ghost use Rattle.std.specs.Prelude.{◌≡◌, ◌≢◌, ◌++◌, ℕ, [], ◌∷◌, true, IfErr, IfOk, IfSome, IfNone, OnOk, map};
+//! A host at work by a list of moves.
+ghost use Rattle.std.specs.Prelude.{◌≡◌, [], false, IfErr, IfOk};
 ghost use Rattle.tip_branch.specs.Always.{Always};
-ghost use Rattle.tip_machine.specs.Honest.{brings_no_party};
-ghost use Rattle.tip_table.specs.Kept.{of};
-ghost use Rattle.tip_run.specs.Halts.{IsWhyNotBack, IsWhyNotHappened, IsWhyNotLost, IsWhyNotStepped};
-ghost use Rattle.tip_run.specs.Runs.{Comes, Goes, Happens, Loses, around};
+ghost use Rattle.tip_host.specs.Openings.{IsOpened};
+ghost use Rattle.tip_host.specs.declared.host.OpenFault.TheVariants.{Unadopted};
+ghost use Rattle.tip_stored.specs.Recovering.{all_adopted};
 
-use crate::copies::{brought, copies_of};
-use crate::halt::RunFault;
-use crate::shown::Shown;
 use std::alloc::Global;
 use std::marker::Model;
-use tip_branch::HeldParty;
-use tip_core::Core;
-use tip_machine::Event;
+use tip_honest::Entry;
+use tip_host::{Host, OpenFault, Opening};
+use tip_journal::{Journals, Pass};
 use tip_rows::RowLog;
-use tip_stored::{StoredCore, are_untold, done};
-use tip_table::{Table, Test};
+use tip_stored::Recovering;
 
-/// A stored core, and the parties of its realms that are out. Its events come, its errands are done, and its realms start again by
-/// what it is shown to do alone.
+/// A host that moves alone bring forward, with a pass of its own, and the journals of the processes before, the oldest first.
 #[derive(Drop)]
 pub struct Running<S> {
-    pub(crate) stored: StoredCore<S, Core>,
-    /// By realm, the oldest first.
-    pub(crate) out: Table<HeldParty>,
+    pub(crate) host: Host<S>,
+    pub(crate) pass: Pass<Entry>,
+    pub(crate) earlier: Vec<Journals<Opening, Entry>>,
 }
 
 impl<S> Model for Running<S> {
-    ghost use Rattle.tip_run.specs.Runs.{AreOfRealms, Running};
+    ghost use Rattle.std.specs.Coded.{codes};
+    ghost use Rattle.tip_outbox.specs.contracts.outboxes.Outboxes as e;
+    ghost use Rattle.tip_run.specs.Running.{IsAtRest, Running};
 
     ghost Value = { Running S };
 
-    ghost view = { λ r. record { stored = r.stored; out = r.out } };
+    ghost coded = { Prim.hlevel (codes, e.the_row.coded) };
 
-    ghost invariant = { λ r. AreOfRealms (record { stored = r.stored; out = r.out }) };
-}
+    ghost view = { λ r. record { host = r.host; noted = r.pass.noted; earlier = r.earlier.items } };
 
-/// Any party.
-struct Any;
-
-impl Test<HeldParty> for Any {
-    ghost use Rattle.std.specs.Prelude.{true};
-
-    ghost passes = { λ _ party. true };
-
-    fn passes(&self, _: &HeldParty) -> bool {
-        true
-    }
+    ghost invariant = { λ r. IsAtRest r.host };
 }
 
 impl<S: RowLog + Drop> Running<S> {
-    /// This stored core, with no party out.
-    pub fn new(alloc: Global, stored: StoredCore<S, Core>) -> Running<S>
-        requires { Always }
-        ensures stored { result.stored ≡ stored }
-        ensures out { (place : ℕ) → of result.out place ≡ [] }
-    {
-        Running {
-            stored,
-            out: Table::new(alloc),
-        }
-    }
-
-    /// An event of a realm. One that brings a party back does not happen, and its party is let go.
-    pub(crate) fn step(
-        &mut self,
+    /// A run begins with a host that is opened: no move was made. At a fault all is handed back.
+    pub fn open(
         alloc: Global,
-        realm: usize,
-        event: Event,
-    ) -> Result<Shown, RunFault>
+        recovering: Recovering<S>,
+    ) -> Result<Running<S>, (OpenFault, Recovering<S>)>
         requires { Always }
-        ensures nobody { OnOk result (brings_no_party event ≡ true) }
-        ensures comes { IfOk result (λ shown. Comes S.keeping
-            (around self.old) (around self.new) realm event shown) }
-        ensures why { IfErr result (IsWhyNotStepped self.old.stored.is_stopped event) }
-        ensures stopped { self.new.stored.is_stopped ≡ self.old.stored.is_stopped }
+        ensures opened { IfOk result (λ running. IsOpened recovering running.host) }
+        ensures noted { IfOk result (λ running. running.noted ≡ []) }
+        ensures earlier { IfOk result (λ running. running.earlier ≡ []) }
+        ensures unadopted { IfErr result
+            (λ fault. fault.0 ≡ Unadopted → all_adopted recovering.realms ≡ false) }
+        ensures back { IfErr result (λ fault. fault.1 ≡ recovering) }
     {
-        if !brings_no_party(&event) {
-            return Err(RunFault::Party);
-        }
-        self.happen(alloc, realm, event)
+        let host = Host::open(alloc, recovering)?;
+        let pass = host.pass(alloc);
+        Ok(Running {
+            host,
+            pass,
+            earlier: Vec::new(alloc),
+        })
     }
 
-    /// The oldest party that is out of a realm does its errand and comes back. Where none is out, nothing happens.
-    pub(crate) fn go(&mut self, alloc: Global, realm: usize) -> Result<Option<Shown>, RunFault>
+    /// The run ends: its host, which goes on, its pass, and the journals of the processes before, the oldest first.
+    pub fn into_parts(self) -> (Host<S>, Pass<Entry>, Vec<Journals<Opening, Entry>>)
         requires { Always }
-        ensures goes { IfOk result (λ shown. Goes S.keeping
-            (around self.old) (around self.new) realm (of self.old.out realm) shown) }
-        ensures why { IfErr result
-            (IsWhyNotBack self.old.stored.is_stopped (of self.old.out realm)) }
-        ensures stopped { self.new.stored.is_stopped ≡ self.old.stored.is_stopped }
+        ensures host { result.0 ≡ self.host }
+        ensures pass { result.1.noted ≡ self.noted }
+        ensures earlier { result.2.items ≡ self.earlier }
     {
-        let Some(party) = self.take_oldest(realm) else {
-            return Ok(None);
-        };
-        if !are_untold(party.party().members()) {
-            return Err(RunFault::Called);
-        }
-        Ok(Some(self.happen(alloc, realm, done(party))?))
+        let Running {
+            host,
+            pass,
+            earlier,
+        } = self;
+        (host, pass, earlier)
     }
-
-    /// The oldest party that is out of a realm is let go. Where none is out, nothing happens.
-    pub(crate) fn lose(&mut self, alloc: Global, realm: usize) -> Result<Option<Shown>, RunFault>
-        requires { Always }
-        ensures loses { IfOk result (λ shown. Loses (around self.old) (around self.new) realm
-            (of self.old.out realm) shown) }
-        ensures why { IfErr result IsWhyNotLost }
-        ensures stopped { self.new.stored.is_stopped ≡ self.old.stored.is_stopped }
-    {
-        let party = self.take_oldest(realm);
-        if party.is_none() {
-            return Ok(None);
-        }
-        let left = copies_of(alloc, &party)?;
-        Ok(Some(Shown::leaving(alloc, realm, left)))
-    }
-
-    /// An event of a realm; the party that it sends out is out.
-    fn happen(&mut self, alloc: Global, realm: usize, event: Event) -> Result<Shown, RunFault>
-        ensures happens { IfOk result
-            (λ shown. Happens S.keeping (around self.old) (around self.new) realm event shown) }
-        ensures why { IfErr result (IsWhyNotHappened self.old.stored.is_stopped) }
-        ensures stopped { self.new.stored.is_stopped ≡ self.old.stored.is_stopped }
-    {
-        let back = brought(alloc, &event)?;
-        self.out.reserve()?;
-        let happened = match self.stored.step(alloc, realm, event) {
-            Ok(happened) => happened,
-            Err((fault, _)) => return Err(RunFault::Step(fault)),
-        };
-        let (shown, work) = Shown::of(alloc, realm, back, happened)?;
-        if let Some(party) = work {
-            self.out.add(realm, party);
-        }
-        Ok(shown)
-    }
-
-    /// The oldest party that is out of a realm is out no more.
-    fn take_oldest(&mut self, realm: usize) -> Option<HeldParty>
-        ensures stored { self.new.stored ≡ self.old.stored }
-        ensures none { IfNone result ((of self.old.out realm ≡ []) × (self.new ≡ self.old)) }
-        ensures some { IfSome result
-            (λ party. of self.old.out realm ≡ party ∷ of self.new.out realm) }
-        ensures others { (other : ℕ) → other ≢ realm →
-            of self.new.out other ≡ of self.old.out other }
-    {
-        let place = self.out.find(realm, &Any)?;
-        Some(self.out.remove(place))
-    }
-}
-
-/// Whether an event brings no party back.
-fn brings_no_party(event: &Event) -> bool
-    ensures { result ≡ brings_no_party event.now }
-{
-    !matches!(event, Event::Voted(_) | Event::Settled(_))
 }

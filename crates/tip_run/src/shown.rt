@@ -1,99 +1,66 @@
-//! What a realm shows in one move.
-ghost use Rattle.std.specs.Prelude.{◌≡◌, [], IfOk};
-ghost use Rattle.std.specs.List.{flat_map};
-ghost use Rattle.std.specs.Option.{option_map_or};
-ghost use Rattle.tip_machine.specs.Outputs.{brought, calls_of, drops_of, outputs};
-ghost use Rattle.tip_machine.specs.Types.{Event};
-ghost use Rattle.tip_run.specs.Showing.{outputs_of};
+//! What a host shows of one move.
+ghost use Rattle.std.specs.Prelude.{◌≡◌};
+ghost use Rattle.tip_branch.specs.Always.{Always};
+ghost use Rattle.tip_run.specs.Moves.{said_of};
 
-use crate::copies::{copies_of, copy_of};
-use std::alloc::{AllocError, Global};
-use tip_branch::{HeldParty, PartyNote};
-use tip_core::Happened;
+use tip_branch::PartyNote;
+use tip_host::{Reply, Seat, Spoken};
 use tip_line::Refusal;
-use tip_machine::{Answer, Change, Outcome, Seat, SentLines};
+use tip_machine::{Change, Outcome};
 
-/// All that a realm shows in one move, in the order of the fields.
+/// What a host has shown of one move. Lines wait in its outboxes, and entries stand in the pass.
 #[derive(Drop)]
-pub struct Shown {
-    /// The realm's place in the order of declaration.
-    pub realm: usize,
+pub enum Shown {
+    /// An event happened, or a party came back.
+    Came(Said),
+    /// This party was lost: its active branches were rolled back.
+    Lost(PartyNote),
+    /// Nobody waits, and nothing has happened.
+    Nobody,
+    /// The realm has started again, or all realms have.
+    Started,
+}
+
+/// What a host has said of an event, but for the boxes that no transaction took and the party that it let go: both were dropped,
+/// which has rolled the party's active branches back.
+#[derive(Drop)]
+pub struct Said {
     /// Why nothing was done, if so.
     pub refusal: Option<Refusal>,
-    /// A connection that was made.
+    /// The seat of a connection that the event made.
     pub opened: Option<Seat>,
-    /// The party that came back, with the calls that were made on its branches.
-    pub back: Option<PartyNote>,
-    /// The change of the realm's stored rows that was wanted.
+    /// The change of the realm's stored rows that it wanted.
     pub change: Option<Change>,
     /// What became of the change.
     pub outcome: Outcome,
-    /// Lines and closings.
-    pub sent: SentLines,
-    /// The party that went out.
-    pub work: Option<PartyNote>,
-    /// Parties that were let go: their active branches were rolled back.
-    pub left: Vec<PartyNote>,
+    /// The connections for which lines or closings wait.
+    pub spoken: Spoken,
+    /// The number of the event's entry in the realm's journal, from 1.
+    pub entry: Option<u32>,
 }
 
-impl Shown {
-    /// What an event has come to, by the party that it brought back; and the party that goes out.
-    pub(crate) fn of(
-        alloc: Global,
-        realm: usize,
-        back: Option<PartyNote>,
-        happened: Happened,
-    ) -> Result<(Shown, Option<HeldParty>), AllocError>
-        ensures work { IfOk result (λ shown. shown.1 ≡ happened.answer.work) }
-        ensures realm { IfOk result (λ shown. shown.0.realm ≡ realm) }
-        ensures shows { (event : Event) →
-            option_map_or calls_of back [] ≡ brought event →
-            IfOk result (λ shown. outputs_of shown.0
-            ≡ outputs event happened.change happened.outcome happened.answer) }
+impl Said {
+    /// What a host has said of an event, whose boxes and party are dropped. It takes no memory.
+    pub(crate) fn of(reply: Reply) -> Said
+        requires { Always }
+        ensures { result ≡ said_of reply }
     {
-        let Happened {
-            change,
-            outcome,
-            answer,
-        } = happened;
-        let Answer {
+        let Reply {
             refusal,
             opened,
-            sent,
-            work,
-            spent,
+            change,
+            outcome,
+            spoken,
+            entry,
             ..
-        } = answer;
-        let shown = Shown {
-            realm,
+        } = reply;
+        Said {
             refusal,
             opened,
-            back,
             change,
             outcome,
-            sent,
-            work: copy_of(alloc, &work)?,
-            left: copies_of(alloc, &spent)?,
-        };
-        Ok((shown, work))
-    }
-
-    /// A party of a realm was let go, and nothing else is shown.
-    pub(crate) fn leaving(alloc: Global, realm: usize, left: Vec<PartyNote>) -> Shown
-        ensures realm { result.realm ≡ realm }
-        ensures shows { outputs_of result
-            ≡ flat_map drops_of left.items }
-    {
-        Shown {
-            realm,
-            refusal: None,
-            opened: None,
-            back: None,
-            change: None,
-            outcome: Outcome::NoChange,
-            sent: SentLines::new(Vec::new(alloc)),
-            work: None,
-            left,
+            spoken,
+            entry,
         }
     }
 }

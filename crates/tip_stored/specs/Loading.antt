@@ -166,6 +166,8 @@ pub record Loads {S : Type 0} (kept : Keeping S) (specs : List RealmSpec) (store
   pub risen : (log : Log) → kept.stands store log → IfOk result (λ loaded. kept.is_true loaded.store → (known : List ℕ) → ¬ IsAtEnd (known_all (names_of specs) log) known)
   -- and a stop leaves that log alone
   pub settled : IfOk result (λ loaded. kept.is_true loaded.store → IsSettled kept loaded.store)
+  -- and they are these realms
+  pub theirs : IfOk result (λ loaded. AreTheirs specs loaded.realms)
   pub hostable : OnOk result (are_hostable specs ≡ true)
   -- a refusal is counted, and no other fault is
   pub err : IfErr result (λ fault. Goes kept (is_refusal_to_load fault.0) (IsOnTheWay (names_of specs)) (IsOnTheWay (names_of specs)) store fault.1)

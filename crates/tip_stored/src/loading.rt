@@ -112,6 +112,7 @@ fn load<S: RowLog>(
     ensures risen { (log : Log) → S.keeping.stands store log →
         IfOk result (λ loaded. S.keeping.is_true loaded.store
         → (known : List ℕ) → ¬ IsAtEnd (known_all (names_of specs.items) log) known) }
+    ensures theirs { IfOk result (λ loaded. AreTheirs specs.items loaded.realms) }
     ensures hostable { OnOk result (are_hostable specs.items ≡ true) }
     ensures bad_realm { IfErr result
         (λ fault. is_bad_realm fault.0 ≡ not (are_hostable specs.items)) }

@@ -14,7 +14,7 @@ returns-in_default-clause-takes g c = record {
 
 pub returns-clause-takes : goal.returns-clause-takes
 returns-clause-takes g c =
-    let sent = c.new.ensures ∙ c.in_ok-sent.ensures in
+    let sent = c.new.ensures.sent ∙ c.in_ok-sent.ensures in
     let first = taken_first c.args.work.now c.args.realm c.in-Some.place c.item-2.result.now c.in-Some.ensures.some c.item-2.ensures in
     record {
       waited = first ∙ ap (λ xs. c.item-2.result.now ∷ xs) (sym (c.remove.ensures.left c.args.realm)) ∙ ap (λ p. p ∷ of c.remove.new.self c.args.realm) (sym sent);

@@ -1,5 +1,7 @@
-use Rattle.std.proofs.Common.{◌∙◌, ◌++◌, ap, length, map, subst}
+use Rattle.std.proofs.Common.{◌∙◌, ◌++◌, ap, length, map, refl, rules, subst}
+use Rattle.tip_honest.proofs.Hosting.{run_at}
 use Rattle.tip_host.proofs.Beginning.{opens_honest, rows_opened}
+use Rattle.tip_host.specs.Books.{Books, known_by}
 use Rattle.tip_host.specs.Openings.{AreTaken, opened}
 use Rattle.tip_host.proofs.host.Host.open.Goals as goal
 
@@ -10,7 +12,24 @@ invariant_of-result g c =
     (c.in-Ok.ensures.journals ∙ ap (map opened) same) (subst (λ rs. AreTaken (length rs) c.in-Ok.rows rs) same c.in-Ok.ensures.rows) (c.in-Ok.ensures.count ∙ ap length same)
     (λ place. (λ i. c.new-3.ensures place i ++ c.new-2.ensures place i)) c.in-Ok-begin.ensures.realms c.in-Ok-begin.ensures.anew c.in-Ok-begin.ensures.adopted
 
-pub returns-in-Ok-begin-clause-rows : goal.returns-in-Ok-begin-clause-rows
-returns-in-Ok-begin-clause-rows g c =
+pub returns-in-Ok-begin-clause-opened : goal.returns-in-Ok-begin-clause-opened
+returns-in-Ok-begin-clause-opened g c =
     let same = c.realms.ensures in
-    rows_opened c.in-Ok.rows c.args.recovering.realms (subst (λ rs. AreTaken (length rs) c.in-Ok.rows rs) same c.in-Ok.ensures.rows) (c.in-Ok.ensures.count ∙ ap length same)
+    let taken = subst (λ rs. AreTaken (length rs) c.in-Ok.rows rs) same c.in-Ok.ensures.rows in
+    let count = c.in-Ok.ensures.count ∙ ap length same in
+    let books : Books = record { journals = c.in-Ok.journals; outboxes = c.new.result; rows = c.in-Ok.rows; work = c.new-2.result; out = c.new-3.result } in
+    record {
+      store = c.in-Ok-begin.ensures.store;
+      realms = c.in-Ok-begin.ensures.realms;
+      names = c.in-Ok-begin.ensures.names;
+      running = c.in-Ok-begin.ensures.running;
+      adopted = c.in-Ok-begin.ensures.adopted;
+      journals = c.in-Ok.ensures.journals ∙ ap (map opened) same;
+      rows = rows_opened c.in-Ok.rows c.args.recovering.realms taken count;
+      out = λ place. (λ i. c.new-3.ensures place i ++ c.new-2.ensures place i);
+      lines = search rules;
+      honest = λ place. run_at (known_by c.in-Ok-begin.stored.core books)
+          (opens_honest c.args.recovering.core c.in-Ok-begin.stored.core c.args.recovering.realms books
+          (c.in-Ok.ensures.journals ∙ ap (map opened) same) taken count
+          (λ place. (λ i. c.new-3.ensures place i ++ c.new-2.ensures place i)) c.in-Ok-begin.ensures.realms c.in-Ok-begin.ensures.anew c.in-Ok-begin.ensures.adopted).all place;
+    }

@@ -1,5 +1,0 @@
-use Rattle.tip_calls.proofs.Running.{has_started}
-use Rattle.tip_calls.proofs.laws.a_host_that_begins_has_each_realm_at_its_start.Goals as goal
-
-pub returns : goal.returns
-returns g c = has_started g.S.RowLog.keeping

@@ -1,8 +1,0 @@
-use Rattle.tip_calls.proofs.Given.{given_all, given_for}
-use Rattle.tip_calls.proofs.laws.boxes_are_given_one_for_each_branch.Goals as goal
-
-pub returns-clause-one : goal.returns-clause-one
-returns-clause-one c = given_for
-
-pub returns-clause-all : goal.returns-clause-all
-returns-clause-all c = given_all

@@ -1,0 +1,16 @@
+-- The host is at rest again behind the move.
+use Rattle.tip_run.proofs.Made.{wants_memory}
+use Rattle.tip_run.proofs.MoveKinds.{kind}
+use Rattle.tip_run.proofs.Resting.{made_rests}
+use Rattle.tip_run.specs.Moves.{at_work}
+use Rattle.tip_run.proofs.running.Running.make.Goals as goal
+
+pub returns-then-is_err-clause-why : goal.returns-then-is_err-clause-why
+returns-then-is_err-clause-why g c = wants_memory g.S.RowLog.keeping c.args.self c.args.next
+
+pub invariant_of-result : goal.invariant_of-result
+invariant_of-result g c =
+    let kept = g.S.RowLog.keeping in
+    let old = at_work c.self.inside.host c.self.inside.pass.noted c.self.inside.earlier.items in
+    let new = at_work c.in-Ok.host c.made.new.pass.noted c.made.new.earlier.items in
+    made_rests kept old new c.args.next c.self.invariant (kind kept old new c.args.next c.in-Ok.one c.in-Ok.ensures.made)

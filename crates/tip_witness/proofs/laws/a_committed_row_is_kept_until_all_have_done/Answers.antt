@@ -1,5 +1,0 @@
-use Rattle.tip_witness.proofs.Keptness.{run_kept}
-use Rattle.tip_witness.proofs.laws.a_committed_row_is_kept_until_all_have_done.Goals as goal
-
-pub returns : goal.returns
-returns c = run_kept

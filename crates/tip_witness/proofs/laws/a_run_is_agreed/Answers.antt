@@ -1,5 +1,0 @@
-use Rattle.tip_witness.proofs.Asked.{run_is_agreed}
-use Rattle.tip_witness.proofs.laws.a_run_is_agreed.Goals as goal
-
-pub returns : goal.returns
-returns c = run_is_agreed

@@ -1,5 +1,0 @@
-use Rattle.tip_witness.proofs.Naming.{one_tells}
-use Rattle.tip_witness.proofs.laws.one_realm_tells_of_an_identifier.Goals as goal
-
-pub returns : goal.returns
-returns c = one_tells
