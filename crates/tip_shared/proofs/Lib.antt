@@ -1,0 +1,4 @@
+pub mod Stepping
+pub mod Errands
+pub mod Writings
+pub mod Closings
