@@ -1,0 +1,68 @@
+//! Two realms of one branch, north and south, at a host that is shared, over rows in memory; and their connections.
+ghost use Rattle.tip_branch.specs.Always.{Always};
+
+use std::alloc::Global;
+use std::sync::Wait;
+use tip_core::Core;
+use tip_honest::Entry;
+use tip_host::{Host, HostEvent, Seat};
+use tip_journal::Pass;
+use tip_line::{Address, Realm};
+use tip_machine::Limits;
+use tip_rows::{Branches, Label, MemRows};
+use tip_shared::Shared;
+use tip_stored::{RealmSpec, Recovering, StoredCore};
+
+/// A realm of one branch, with so many entries in one start.
+fn spec(alloc: Global, name: &str, entries: u32) -> Option<RealmSpec> {
+    let mut branches = Vec::new(alloc);
+    branches.push((1u8, Label::new(alloc, b"b1").ok()?)).ok()?;
+    let limits = Limits {
+        connections: 64,
+        transactions: 64,
+        boxes: 8,
+        entries,
+    };
+    let branches = Branches::new(branches).ok()?;
+    let name = Realm::new(alloc, name.as_bytes()).ok()?;
+    let address = Address::new(alloc, b"n.x").ok()?;
+    RealmSpec::new(name, address, limits, branches).ok()
+}
+
+/// Both realms are loaded from these rows; north takes so many entries.
+pub fn loaded(alloc: Global, rows: MemRows, entries: u32) -> Option<Recovering<MemRows>>
+    requires { Always }
+{
+    let mut specs = Vec::new(alloc);
+    specs.push(spec(alloc, "north", entries)?).ok()?;
+    specs.push(spec(alloc, "south", 1_000_000)?).ok()?;
+    StoredCore::load(alloc, rows, Core::new(alloc), specs).ok()
+}
+
+/// Both realms start without rows; north takes so many entries.
+pub fn shared(alloc: Global, entries: u32) -> Option<Shared<MemRows>>
+    requires { Always }
+{
+    shared_over(alloc, loaded(alloc, MemRows::new(alloc), entries)?)
+}
+
+/// A host of realms for whose rows boxes were adopted.
+pub fn shared_over(alloc: Global, recovering: Recovering<MemRows>) -> Option<Shared<MemRows>>
+    requires { Always }
+{
+    let host = Host::open(alloc, recovering).ok()?;
+    Shared::new(alloc, host).ok()
+}
+
+/// A connection is opened, by an event of this pass.
+pub fn opened<R: Wait>(
+    rt: &R,
+    alloc: Global,
+    shared: &Shared<MemRows>,
+    pass: &mut Pass<Entry>,
+    opening: HostEvent,
+) -> Option<Seat>
+    requires { Always }
+{
+    shared.step(rt, alloc, pass, opening).ok()?.reply.opened
+}

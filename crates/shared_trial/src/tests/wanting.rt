@@ -1,0 +1,122 @@
+//! Memory that is wanting once: the same call again, with what it handed back, does what it was to do. With memory no call is made
+//! twice; `rt try --test --fail-alloc N` lets the Nth allocation fail.
+ghost use Rattle.tip_branch.specs.Always.{Always};
+
+use super::boxes::opening;
+use super::realms::{opened, shared};
+use counting_branch::Counters;
+use std::alloc::Global;
+use std::sync::{Arc, Wait};
+use std::test::Fail;
+use tip_honest::Entry;
+use tip_host::{HostEvent, HostFault, Returned, Seat, Stepped, Work};
+use tip_journal::Pass;
+use tip_machine::Heard;
+use tip_rows::MemRows;
+use tip_shared::Shared;
+
+const NORTH: usize = 0;
+
+/// A line comes on a connection.
+fn line<R: Wait>(
+    rt: &R,
+    alloc: Global,
+    shared: &Shared<MemRows>,
+    pass: &mut Pass<Entry>,
+    seat: Seat,
+    text: &str,
+) -> Option<Stepped>
+    requires { Always }
+{
+    let heard = Heard::of(alloc, text.as_bytes()).ok()?;
+    match shared.step(rt, alloc, pass, HostEvent::line(seat, heard)) {
+        Ok(stepped) => Some(stepped),
+        Err((HostFault::Memory, event)) => shared.step(rt, alloc, pass, event).ok(),
+        Err(_) => None,
+    }
+}
+
+/// A party comes back.
+fn came_back<R: Wait>(
+    rt: &R,
+    alloc: Global,
+    shared: &Shared<MemRows>,
+    pass: &mut Pass<Entry>,
+    returned: Returned,
+) -> Option<Stepped>
+    requires { Always }
+{
+    match shared.come_back(rt, alloc, pass, returned) {
+        Ok(stepped) => Some(stepped),
+        Err((HostFault::Memory, returned)) => shared.come_back(rt, alloc, pass, returned).ok(),
+        Err(_) => None,
+    }
+}
+
+/// The errand of a step; one that waits still goes out with the next step of its realm, which is a line before its turn.
+fn errand<R: Wait>(
+    rt: &R,
+    alloc: Global,
+    shared: &Shared<MemRows>,
+    pass: &mut Pass<Entry>,
+    seat: Seat,
+    stepped: Stepped,
+) -> Option<Work>
+    requires { Always }
+{
+    let Stepped { work, .. } = stepped;
+    match work {
+        Ok(work) => work,
+        Err(_) => line(rt, alloc, shared, pass, seat, "QUERY x")?.work.ok()?,
+    }
+}
+
+/// A transaction is begun and asked to commit on a connection, votes, and is told.
+fn commit<R: Wait>(
+    rt: &R,
+    alloc: Global,
+    shared: &Shared<MemRows>,
+    pass: &mut Pass<Entry>,
+    seat: Seat,
+) -> Option<()>
+    requires { Always }
+{
+    line(rt, alloc, shared, pass, seat, "IDENTIFY 3 3 - -")?;
+    line(rt, alloc, shared, pass, seat, "BEGIN")?;
+    let mut stepped = line(rt, alloc, shared, pass, seat, "COMMIT")?;
+    for _ in 0..2 {
+        let work = errand(rt, alloc, shared, pass, seat, stepped)?;
+        stepped = came_back(rt, alloc, shared, pass, work.done())?;
+    }
+    Some(())
+}
+
+/// The host ends, and the pass has all entries.
+fn is_closed(alloc: Global, shared: Shared<MemRows>, pass: Pass<Entry>) -> Option<bool>
+    requires { Always }
+{
+    let mut passes = Vec::new(alloc);
+    passes.push(pass).ok()?;
+    let (host, passes) = match shared.close(alloc, passes) {
+        Ok(_) => return Some(true),
+        Err((_, host, passes)) => (host, passes),
+    };
+    let again = Shared::new(alloc, host).ok()?;
+    Some(again.close(alloc, passes).is_ok())
+}
+
+fn commits_all_the_same<R: Wait>(rt: &R, alloc: Global) -> Option<bool> {
+    let shared = shared(alloc, 100)?;
+    let mut pass = shared.pass(alloc);
+    let counters = Arc::new(alloc, Counters::new()).ok()?;
+    let event = opening(alloc, NORTH, 1, &counters)?;
+    let seat = opened(rt, alloc, &shared, &mut pass, event)?;
+    commit(rt, alloc, &shared, &mut pass, seat)?;
+    Some(counters.counted() == (1, 1, 0) && is_closed(alloc, shared, pass)?)
+}
+
+#[test]
+fn a_commit_stands_though_memory_was_wanting_once(rt: HostRuntime) -> Result<(), Fail> {
+    assert!(rt; commits_all_the_same(&rt, rt.alloc()) == Some(true));
+    Ok(())
+}
