@@ -2,39 +2,21 @@
 ghost use Rattle.tip_branch.specs.Always.{Always};
 
 use super::boxes::opening;
-use super::realms::{opened, shared};
+use super::realms::{is_closed, line, opened, shared};
 use counting_branch::Counters;
 use std::alloc::Global;
 use std::sync::{Arc, Wait};
 use std::test::Fail;
 use tip_honest::Entry;
-use tip_host::{HostEvent, Seat, Stepped, Work};
+use tip_host::{HostEvent, Work};
 use tip_journal::Pass;
 use tip_line::Refusal;
-use tip_machine::Heard;
 use tip_rows::MemRows;
 use tip_shared::{Shared, run_errand};
 
 const NORTH: usize = 0;
 
 const SOUTH: usize = 1;
-
-/// A line comes on a connection.
-fn line<R: Wait>(
-    rt: &R,
-    alloc: Global,
-    shared: &Shared<MemRows>,
-    pass: &mut Pass<Entry>,
-    seat: Seat,
-    text: &str,
-) -> Option<Stepped>
-    requires { Always }
-{
-    let heard = Heard::of(alloc, text.as_bytes()).ok()?;
-    shared
-        .step(rt, alloc, pass, HostEvent::line(seat, heard))
-        .ok()
-}
 
 /// A connection is opened, and a transaction begun and asked to commit on it; the errand that comes of it.
 fn asked<R: Wait>(
@@ -107,15 +89,6 @@ fn outlives_a_renewal<R: Wait>(rt: &R, alloc: Global) -> Option<bool> {
     let is_stranger = stepped.reply.refusal == Some(Refusal::Stranger);
     drop(stepped);
     Some(is_stranger && counters.counted() == (1, 0, 0) && is_closed(alloc, shared, pass)?)
-}
-
-/// The host ends, and the pass has all entries.
-fn is_closed(alloc: Global, shared: Shared<MemRows>, pass: Pass<Entry>) -> Option<bool>
-    requires { Always }
-{
-    let mut passes = Vec::new(alloc);
-    passes.push(pass).ok()?;
-    Some(shared.close(alloc, passes).is_ok())
 }
 
 #[test]

@@ -5,10 +5,10 @@ use std::alloc::Global;
 use std::sync::Wait;
 use tip_core::Core;
 use tip_honest::Entry;
-use tip_host::{Host, HostEvent, Seat};
+use tip_host::{Host, HostEvent, HostFault, Seat, Stepped};
 use tip_journal::Pass;
 use tip_line::{Address, Realm};
-use tip_machine::Limits;
+use tip_machine::{Heard, Limits};
 use tip_rows::{Branches, Label, MemRows};
 use tip_shared::Shared;
 use tip_stored::{RealmSpec, Recovering, StoredCore};
@@ -65,4 +65,37 @@ pub fn opened<R: Wait>(
     requires { Always }
 {
     shared.step(rt, alloc, pass, opening).ok()?.reply.opened
+}
+
+/// A line comes on a connection; once more where memory was wanting.
+pub fn line<R: Wait>(
+    rt: &R,
+    alloc: Global,
+    shared: &Shared<MemRows>,
+    pass: &mut Pass<Entry>,
+    seat: Seat,
+    text: &str,
+) -> Option<Stepped>
+    requires { Always }
+{
+    let heard = Heard::of(alloc, text.as_bytes()).ok()?;
+    match shared.step(rt, alloc, pass, HostEvent::line(seat, heard)) {
+        Ok(stepped) => Some(stepped),
+        Err((HostFault::Memory, event)) => shared.step(rt, alloc, pass, event).ok(),
+        Err(_) => None,
+    }
+}
+
+/// The host ends, and the pass has all entries; once more where it was refused.
+pub fn is_closed(alloc: Global, shared: Shared<MemRows>, pass: Pass<Entry>) -> Option<bool>
+    requires { Always }
+{
+    let mut passes = Vec::new(alloc);
+    passes.push(pass).ok()?;
+    let (host, passes) = match shared.close(alloc, passes) {
+        Ok(_) => return Some(true),
+        Err((_, host, passes)) => (host, passes),
+    };
+    let again = Shared::new(alloc, host).ok()?;
+    Some(again.close(alloc, passes).is_ok())
 }

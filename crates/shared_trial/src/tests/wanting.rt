@@ -3,38 +3,18 @@
 ghost use Rattle.tip_branch.specs.Always.{Always};
 
 use super::boxes::opening;
-use super::realms::{opened, shared};
+use super::realms::{is_closed, line, opened, shared};
 use counting_branch::Counters;
 use std::alloc::Global;
 use std::sync::{Arc, Wait};
 use std::test::Fail;
 use tip_honest::Entry;
-use tip_host::{HostEvent, HostFault, Returned, Seat, Stepped, Work};
+use tip_host::{HostFault, Returned, Seat, Stepped, Work};
 use tip_journal::Pass;
-use tip_machine::Heard;
 use tip_rows::MemRows;
 use tip_shared::Shared;
 
 const NORTH: usize = 0;
-
-/// A line comes on a connection.
-fn line<R: Wait>(
-    rt: &R,
-    alloc: Global,
-    shared: &Shared<MemRows>,
-    pass: &mut Pass<Entry>,
-    seat: Seat,
-    text: &str,
-) -> Option<Stepped>
-    requires { Always }
-{
-    let heard = Heard::of(alloc, text.as_bytes()).ok()?;
-    match shared.step(rt, alloc, pass, HostEvent::line(seat, heard)) {
-        Ok(stepped) => Some(stepped),
-        Err((HostFault::Memory, event)) => shared.step(rt, alloc, pass, event).ok(),
-        Err(_) => None,
-    }
-}
 
 /// A party comes back.
 fn came_back<R: Wait>(
@@ -89,20 +69,6 @@ fn commit<R: Wait>(
         stepped = came_back(rt, alloc, shared, pass, work.done())?;
     }
     Some(())
-}
-
-/// The host ends, and the pass has all entries.
-fn is_closed(alloc: Global, shared: Shared<MemRows>, pass: Pass<Entry>) -> Option<bool>
-    requires { Always }
-{
-    let mut passes = Vec::new(alloc);
-    passes.push(pass).ok()?;
-    let (host, passes) = match shared.close(alloc, passes) {
-        Ok(_) => return Some(true),
-        Err((_, host, passes)) => (host, passes),
-    };
-    let again = Shared::new(alloc, host).ok()?;
-    Some(again.close(alloc, passes).is_ok())
 }
 
 fn commits_all_the_same<R: Wait>(rt: &R, alloc: Global) -> Option<bool> {
