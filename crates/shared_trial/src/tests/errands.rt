@@ -76,6 +76,18 @@ fn is_dropped<R: Wait>(rt: &R, alloc: Global) -> Option<bool> {
     Some(counters.counted() == (0, 0, 1) && is_closed(alloc, shared, pass)?)
 }
 
+/// A host is closed while a transaction has not voted: its branch is rolled back.
+fn is_rolled_back<R: Wait>(rt: &R, alloc: Global) -> Option<bool> {
+    let shared = shared(alloc, 100)?;
+    let mut pass = shared.pass(alloc);
+    let counters = Arc::new(alloc, Counters::new()).ok()?;
+    let event = opening(alloc, NORTH, 1, &counters)?;
+    let seat = opened(rt, alloc, &shared, &mut pass, event)?;
+    line(rt, alloc, &shared, &mut pass, seat, "IDENTIFY 3 3 - -")?;
+    line(rt, alloc, &shared, &mut pass, seat, "BEGIN")?;
+    Some(is_closed(alloc, shared, pass)? && counters.counted() == (0, 0, 1))
+}
+
 /// A party of before a renewal comes back behind it: it is a stranger, and its vote stands.
 fn outlives_a_renewal<R: Wait>(rt: &R, alloc: Global) -> Option<bool> {
     let shared = shared(alloc, 100)?;
@@ -106,6 +118,12 @@ fn a_commit_of_south_waits_for_no_errand_of_north(rt: HostRuntime) -> Result<(),
 #[test]
 fn a_party_is_dropped_while_it_is_asked(rt: HostRuntime) -> Result<(), Fail> {
     assert!(rt; is_dropped(&rt, rt.alloc()) == Some(true));
+    Ok(())
+}
+
+#[test]
+fn a_host_that_is_closed_rolls_back_who_has_not_voted(rt: HostRuntime) -> Result<(), Fail> {
+    assert!(rt; is_rolled_back(&rt, rt.alloc()) == Some(true));
     Ok(())
 }
 
