@@ -1,6 +1,6 @@
 -- A realm's journals with one changed or one more, and the realms with one realm's journals changed.
 use Rattle.std.proofs.Common.{◌≡◌, ◌≢◌, ℕ, zero, suc, ◌+◌, ◌-◌, ◌^◌, ◌<◌, List, [], ◌∷◌, ◌++◌, length, get_or, Option, Some, None, Result, Ok, Err, refl, sym, ap, ◌∙◌, subst, arith, inl, inr, length-append}
-use Rattle.std.specs.Prelude.{slice_set, slice_get, map, take, All, OnOk, OnErr, IsSomeAnd}
+use Rattle.std.specs.Prelude.{slice_set, slice_get, map, take, drop, All, OnOk, OnErr, IsSomeAnd}
 use Rattle.std.specs.declared.alloc.AllocError.{AllocError}
 use Rattle.std.specs.List.Sorted.{IsStrictlyIncreasing}
 use Rattle.std.specs.Option.{option_map}
@@ -162,6 +162,18 @@ is_history-withdrawn history is earlier = record {
   some = omega (arith, length-take (length history - 1) history, earlier);
   rises = rw (map_take (λ (x : Written _ _). x.epoch) (length history - 1) history) (increasing-take (length history - 1) (map (λ (x : Written _ _). x.epoch) history) is.rises);
   numbered = All-take (λ x. length x.entries < 2 ^ 32) (length history - 1) history is.numbered;
+}
+
+-- without the oldest one it is a history still, where a later one is there
+pub is_history-rest : {S E : Type 0} (history : List (Written S E)) → IsHistory history → 1 < length history → IsHistory (drop 1 history)
+is_history-rest [] is later = absurd (omega arith)
+is_history-rest (oldest ∷ rest) is later = record {
+  some = omega (arith, later);
+  rises = λ k within.
+      let epochs = map (λ (x : Written _ _). x.epoch) rest in
+      let next : suc k + 1 ≡ suc (k + 1) = omega arith in
+      subst (λ n. get_or epochs k 0 < get_or (oldest.epoch ∷ epochs) n 0) next (is.rises (suc k) (omega (arith, within)));
+  numbered = All-tail (λ x. length x.entries < 2 ^ 32) oldest rest is.numbered;
 }
 
 pub within_some : {A : Type 0} (P : A → Type 0) (xs : List A) (i : ℕ) → IsSomeAnd (slice_get xs i) P → i < length xs

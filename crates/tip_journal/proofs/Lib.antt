@@ -5,3 +5,4 @@ pub mod Walk
 pub mod ReportLemmas
 pub mod LawLemmas
 pub mod Counting
+pub mod Retirings

@@ -1,6 +1,6 @@
 -- Elements of lists, and of lists of lists, by their places.
-use Rattle.std.proofs.Common.{◌≡◌, ℕ, zero, suc, ◌+◌, ◌<◌, List, [], ◌∷◌, ◌++◌, length, get_or, take, drop, Option, Some, None, refl, sym, ap, ◌∙◌, subst}
-use Rattle.std.specs.Prelude.{slice_get, map, All, IsSomeAnd}
+use Rattle.std.proofs.Common.{◌≡◌, ℕ, zero, suc, ◌+◌, ◌<◌, List, [], ◌∷◌, ◌++◌, length, get_or, take, drop, Option, Some, None, refl, sym, ap, ◌∙◌, subst, arith}
+use Rattle.std.specs.Prelude.{slice_get, slice_set, map, All, IsSomeAnd}
 use Rattle.std.specs.Option.{option_map}
 use Rattle.std.proofs.lemmas.List.{take_more, take-append-drop, drop_more, map-append}
 use Rattle.std.proofs.lemmas.List.Elements.{All-head, All-tail}
@@ -52,3 +52,15 @@ map_more f xs i x within is = ap (map f) (take_more xs i x within ∙ ap (λ y. 
 -- a list, cut round one of its elements
 pub cut-at : {A : Type 0} (xs : List A) (i : ℕ) (x : A) → i < length xs → x ≡ get_or xs i x → xs ≡ take i xs ++ x ∷ drop (i + 1) xs
 cut-at xs i x within is = sym (take-append-drop i xs) ∙ ap (λ ys. take i xs ++ ys) (drop_more xs i x within ∙ ap (λ y. y ∷ drop (i + 1) xs) (sym is))
+
+-- one element more is changed, where those behind it are as they were
+pub changed-more : {A B : Type 0} (f h : A → B) (now before : List A) (i : ℕ) (x y : A) → i < length now → map f (take i now) ≡ map h (take i before) → drop i now ≡ drop i before → x ≡ get_or now i x → f y ≡ h x → map f (take (i + 1) (slice_set now i y)) ≡ map h (take (i + 1) before)
+changed-more f h [] before i x y within done left read is = absurd (omega arith)
+changed-more f h (z ∷ now) [] zero x y within done left read is = absurd (cc)
+changed-more f h (z ∷ now) (w ∷ before) zero x y within done left read is = let same : z ≡ w = cc in ap (λ v. v ∷ []) (is ∙ ap h (read ∙ same))
+changed-more f h (z ∷ now) [] (suc i) x y within done left read is = absurd (cc)
+changed-more f h (z ∷ now) (w ∷ before) (suc i) x y within done left read is =
+    let first : f z ≡ h w = cc in
+    let rest : map f (take i now) ≡ map h (take i before) = cc in
+    let next : suc i + 1 ≡ suc (i + 1) = omega arith in
+    rw next (λ j. first j ∷ changed-more f h now before i x y (omega arith) rest left read is j)

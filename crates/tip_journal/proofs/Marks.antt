@@ -1,6 +1,7 @@
 -- The marks of one journal, and the entries of passes for which they stand.
-use Rattle.std.proofs.Common.{◌≡◌, ℕ, zero, suc, ◌+◌, ◌-◌, ◌<◌, ◌≤◌, List, [], ◌∷◌, ◌++◌, length, Some, Bool, true, false, refl, sym, ap, ◌∙◌, subst, arith, replicate, length-set}
-use Rattle.std.specs.Prelude.{◌==◌, slice_set, slice_get, if◌then◌else◌, All, cond}
+use Rattle.std.proofs.Common.{◌≡◌, ℕ, zero, suc, ◌+◌, ◌-◌, ◌<◌, ◌≤◌, List, [], ◌∷◌, ◌++◌, length, Some, Bool, true, false, refl, sym, ap, ◌∙◌, subst, arith, inl, inr, replicate, length-set}
+use Rattle.std.specs.Prelude.{◌==◌, ◌↔◌, IsTrue, slice_set, slice_get, if◌then◌else◌, All, cond}
+use Rattle.std.proofs.lemmas.Bool.{cases_Bool}
 use Rattle.std.proofs.lemmas.Bool.Decides.{nat_tests}
 use Rattle.std.proofs.lemmas.List.{append-nil, length-replicate}
 use Rattle.std.proofs.lemmas.List.Elements.{All-nil, All-push, filter-append}
@@ -194,3 +195,20 @@ full-audited realm epoch entries passes pass sheet is audited =
     let within = slice_get_within sheet.marks n b at in
     let one = audited.once (n + 1) (omega arith) (omega (arith, within, is.long)) in
     full-bit sheet.marks n b at (omega (arith, is.counted n, one)))
+
+-- An entry that is marked if it is this journal's
+
+module _ {E : Type 0} (realm epoch : ℕ) (entries : List E) (passes : List (Held E)) (pass : ℕ) (noted : List (Noted E)) (x : Noted E) (old new : Marked) (result : Bool) (stands : Stands realm epoch entries passes pass noted old)
+    (can : is_of realm epoch x ≡ true → IsTrue result ↔ CanMark entries pass x old) (now : is_of realm epoch x ≡ true → IsTrue result → new ≡ marked pass x old) (theirs : is_of realm epoch x ≡ false → (result ≡ true) × (new ≡ old)) where
+  pub stands-more : result ≡ true → Stands realm epoch entries passes pass (noted ++ x ∷ []) new
+  stands-more taken = elim (cases_Bool (is_of realm epoch x)) [
+    | inl mine ↦ subst (Stands realm epoch entries passes pass (noted ++ x ∷ [])) (sym (now mine taken)) (stands-own realm epoch entries passes pass noted x old stands mine ((can mine).0 taken))
+    | inr other ↦ subst (Stands realm epoch entries passes pass (noted ++ x ∷ [])) (sym (theirs other).1) (stands-other realm epoch entries passes pass noted x old stands other)
+  ]
+
+  -- where the journal is right, none is refused
+  pub never-refused : (held : Held E) (after : List (Noted E)) (rest : List (Held E)) → held.noted ≡ noted ++ x ∷ after → IsAudited realm epoch entries (passes ++ held ∷ rest) → result ≡ true
+  never-refused held after rest cut audited = elim (cases_Bool (is_of realm epoch x)) [
+    | inl mine ↦ (can mine).1 (can-mark realm epoch entries passes pass noted x old held after rest stands mine cut audited)
+    | inr other ↦ (theirs other).0
+  ]

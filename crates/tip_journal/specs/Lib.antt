@@ -3,4 +3,5 @@ pub mod Fits
 pub mod Journal
 pub mod Journals
 pub mod Pass
+pub mod Retiring
 pub mod Sheets

@@ -1,5 +1,5 @@
 -- A pass as contracts see it.
-use Rattle.std.specs.Prelude.{ℕ, ◌==◌, ◌&&◌, ◌-◌, Bool, List, [], ◌∷◌, ◌++◌, Option, filter, reverse}
+use Rattle.std.specs.Prelude.{ℕ, ◌==◌, ◌&&◌, ◌-◌, Bool, not, List, [], ◌∷◌, ◌++◌, Option, filter, reverse}
 use Rattle.std.specs.List.{find}
 use Rattle.tip_journal.specs.declared.pass.Noted.{Noted}
 
@@ -24,6 +24,10 @@ is_of realm epoch noted = (noted.realm == realm) && (noted.epoch == epoch)
 abbrev pub own : {E : Type 0} → ℕ → ℕ → List (Noted E) → List (Noted E)
 own realm epoch noted = filter (is_of realm epoch) noted
 
--- the last of them
+-- the entries of all other realms and epochs, in order
+abbrev pub others : {E : Type 0} → ℕ → ℕ → List (Noted E) → List (Noted E)
+others realm epoch noted = filter (λ one. not (is_of realm epoch one)) noted
+
+-- the last of a realm and epoch
 abbrev pub last_own : {E : Type 0} → ℕ → ℕ → List (Noted E) → Option (Noted E)
 last_own realm epoch noted = find (is_of realm epoch) (reverse noted)

@@ -1,11 +1,12 @@
 //! Whether the entries of all journals are those of the passes.
-ghost use Rattle.std.specs.Prelude.{◌≡◌, ◌↔◌, ℕ, true, map, All, IsTrue, IfOk, OnOk};
-ghost use Rattle.tip_journal.specs.Audit.{AreAudited, report_of};
+ghost use Rattle.std.specs.Prelude.{◌≡◌, ◌↔◌, ℕ, true, false, length, map, All, IsTrue, IfOk, OnOk};
+ghost use Rattle.tip_journal.specs.Audit.{AreAudited, IsAudited, report_of};
 ghost use Rattle.tip_journal.specs.Journals.{IsHistory, Names};
-ghost use Rattle.tip_journal.specs.Sheets.{CanMarkIn, HaveSheets, blank, marked_at};
+ghost use Rattle.tip_journal.specs.Pass.{is_of};
+ghost use Rattle.tip_journal.specs.Sheets.{CanMark, CanMarkIn, HaveSheets, blank, marked, marked_at};
 
-use crate::sheet::Sheets;
-use crate::{Journals, Noted, Pass, Plain};
+use crate::sheet::{Sheet, Sheets};
+use crate::{Journal, Journals, Noted, Pass, Plain};
 use std::alloc::{AllocError, Global};
 use thiserror::Error;
 
@@ -63,6 +64,56 @@ pub fn audit<S: Drop, E: Drop + Plain>(
         return Err(AuditFault::PassMismatch);
     }
     Ok(report(alloc, journals)?)
+}
+
+/// Whether the passes have the entries of one journal, each in one pass, once.
+///
+/// It walks once over all passes, and keeps a mark for each entry. Without memory for the marks it says `Memory`, whatever the passes have.
+pub(crate) fn audit_journal<S: Drop, E: Drop + Plain>(
+    alloc: Global,
+    realm: usize,
+    journal: &Journal<S, E>,
+    passes: &[Pass<E>],
+) -> Result<(), AuditFault>
+    ensures audited { OnOk result
+        (IsAudited realm journal.now.epoch journal.now.entries passes.now) }
+    ensures mismatch { result ≡ Err AuditFault.PassMismatch →
+        ¬ IsAudited realm journal.now.epoch journal.now.entries passes.now }
+{
+    let mut sheet = Sheet::blank(alloc, journal)?;
+    for (place, pass) in passes.iter().enumerate() {
+        for noted in pass.noted() {
+            if !mark_own(realm, journal, &mut sheet, place, noted) {
+                return Err(AuditFault::PassMismatch);
+            }
+        }
+    }
+    if !sheet.is_full() {
+        return Err(AuditFault::PassMismatch);
+    }
+    Ok(())
+}
+
+/// Marks an entry of a pass in a journal, if it is one of its epoch: whether it can be, then.
+fn mark_own<S: Drop, E: Drop + Plain>(
+    realm: usize,
+    journal: &Journal<S, E>,
+    sheet: &mut Sheet,
+    pass: usize,
+    noted: &Noted<E>,
+) -> bool
+    requires { length sheet.old.marks ≡ length journal.now.entries }
+    ensures can { is_of realm journal.now.epoch noted.now ≡ true →
+        IsTrue result ↔ CanMark journal.now.entries pass noted.now sheet.old }
+    ensures new { is_of realm journal.now.epoch noted.now ≡ true → IsTrue result →
+        sheet.new ≡ marked pass noted.now sheet.old }
+    ensures others { is_of realm journal.now.epoch noted.now ≡ false →
+        (result ≡ true) × (sheet.new ≡ sheet.old) }
+{
+    if !noted.is_of(realm, journal.epoch()) {
+        return true;
+    }
+    sheet.mark(journal, pass, noted)
 }
 
 /// A sheet for each journal, with no marks.

@@ -1,8 +1,9 @@
 //! The journals of one realm.
-ghost use Rattle.std.specs.Prelude.{◌≡◌, ℕ, ◌+◌, ◌^◌, ◌<◌, ◌≤◌, [], ◌∷◌, ◌++◌, length, IsOk, OnOk, OnErr, IfOk, MatchOption};
+ghost use Rattle.std.specs.Prelude.{◌≡◌, ℕ, ◌+◌, ◌^◌, ◌<◌, ◌≤◌, [], ◌∷◌, ◌++◌, drop, length, IsOk, OnOk, OnErr, IfOk, MatchOption};
 ghost use Rattle.std.specs.Option.{option_copied};
 ghost use Rattle.tip_journal.specs.Journal.{with_room, with_entry};
 ghost use Rattle.tip_journal.specs.Journals.{IsOfEpoch, entries_of, last_of, room_of, with_last, without_last};
+ghost use Rattle.tip_journal.specs.Retiring.{oldest_ended};
 
 use crate::Journal;
 use std::alloc::{AllocError, Global};
@@ -77,6 +78,24 @@ impl<S: Drop, E: Drop> History<S, E> {
         let journal = &mut self.journals[last];
         journal.add(entry);
         journal.entries().len() as u32
+    }
+
+    /// The oldest journal, if it has ended.
+    pub(crate) fn oldest_ended(&self) -> Option<&Journal<S, E>>
+        ensures { option_copied result ≡ oldest_ended self.now }
+    {
+        if self.journals.len() < 2 {
+            return None;
+        }
+        self.journals.first()
+    }
+
+    /// The oldest journal is let go.
+    pub(crate) fn drop_oldest(&mut self)
+        requires { 0 < length self.old }
+        ensures { self.new ≡ drop 1 self.old }
+    {
+        self.journals.remove(0);
     }
 
     /// The last journal is taken back.

@@ -1,8 +1,9 @@
 //! The journals of all realms.
-ghost use Rattle.std.specs.Prelude.{◌≡◌, ℕ, Some, ◌+◌, ◌^◌, ◌<◌, ◌≤◌, [], ◌∷◌, ◌++◌, length, All, IsOk, OnOk, OnErr, IsSome, IsSomeAnd, MatchOption, slice_get};
+ghost use Rattle.std.specs.Prelude.{◌≡◌, ℕ, Some, ◌+◌, ◌^◌, ◌<◌, ◌≤◌, [], ◌∷◌, ◌++◌, drop, length, All, IsOk, OnOk, OnErr, IfSome, IsSome, IsSomeAnd, MatchOption, slice_get};
 ghost use Rattle.std.specs.Option.{option_copied};
 ghost use Rattle.tip_journal.specs.Journal.{begun, with_room, with_entry};
 ghost use Rattle.tip_journal.specs.Journals.{IsHistory, IsWithdrawable, Names, at, changed_at, current, last_number, renewed, room, with_current, without_last};
+ghost use Rattle.tip_journal.specs.Retiring.{ended_at};
 
 use crate::history::History;
 use crate::{Journal, Noted};
@@ -105,6 +106,28 @@ impl<S: Drop, E: Drop> Journals<S, E> {
     {
         let history = &mut self.realms[realm];
         history.withdraw();
+    }
+
+    /// The journal of a realm and epoch, if it is the realm's oldest and has ended.
+    pub(crate) fn ended(&self, realm: usize, epoch: u32) -> Option<&Journal<S, E>>
+        ensures ended { option_copied result ≡ ended_at self.now realm epoch }
+        ensures numbered { IfSome result (λ journal. length journal.now.entries < 2 ^ 32) }
+    {
+        let history = self.realms.get(realm)?;
+        let oldest = history.oldest_ended()?;
+        if oldest.epoch() != epoch {
+            return None;
+        }
+        Some(oldest)
+    }
+
+    /// The oldest journal of a realm is let go. A later one is there.
+    pub(crate) fn drop_oldest(&mut self, realm: usize)
+        requires { IsSomeAnd (slice_get self.old realm) (λ history. 1 < length history) }
+        ensures { self.new ≡ changed_at realm (drop 1) self.old }
+    {
+        let history = &mut self.realms[realm];
+        history.drop_oldest();
     }
 
     /// The journal that a realm's entries are added to, if the realm is there.

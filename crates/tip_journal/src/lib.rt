@@ -11,6 +11,8 @@ mod journals;
 pub mod laws;
 mod pass;
 mod plain;
+mod retired;
+mod retiring;
 mod sheet;
 
 pub use auditing::{AuditFault, Reported, audit};
@@ -19,3 +21,5 @@ pub use journal::Journal;
 pub use journals::Journals;
 pub use pass::{Noted, Pass};
 pub use plain::Plain;
+pub use retired::Retired;
+pub use retiring::RetireFault;

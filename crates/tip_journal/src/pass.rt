@@ -1,6 +1,7 @@
 //! The entries that one caller made.
 ghost use Rattle.std.specs.Prelude.{◌≡◌, ◌<◌, ◌≤◌, [], IsOk, OnOk, OnErr};
 ghost use Rattle.std.specs.Option.{option_copied};
+ghost use Rattle.tip_journal.specs.Pass.{is_of};
 
 use std::alloc::{AllocError, Global};
 use std::marker::Model;
@@ -14,6 +15,15 @@ pub struct Noted<E> {
     /// The entry's number in its journal, from 1.
     pub number: u32,
     pub entry: E,
+}
+
+impl<E: Drop> Noted<E> {
+    /// Whether it stands for an entry of this realm and epoch.
+    pub(crate) fn is_of(&self, realm: usize, epoch: u32) -> bool
+        ensures { result ≡ is_of realm epoch self.now }
+    {
+        self.realm == realm && self.epoch == epoch
+    }
 }
 
 /// The entries that one caller made, of all realms, in the order made.
@@ -35,7 +45,7 @@ impl<E> Model for Pass<E> {
 }
 
 impl<E: Drop> Pass<E> {
-    ghost use Rattle.tip_journal.specs.Pass.{with_room, with_noted, last_own};
+    ghost use Rattle.tip_journal.specs.Pass.{with_room, with_noted, last_own, others};
 
     /// A pass with no entries. It takes no memory.
     pub fn new(alloc: Global) -> Self
@@ -79,6 +89,13 @@ impl<E: Drop> Pass<E> {
         self.noted
             .iter()
             .rev()
-            .find(|noted| noted.realm == realm && noted.epoch == epoch)
+            .find(|noted| noted.is_of(realm, epoch))
+    }
+
+    /// Lets go of the entries of a realm and epoch. The others stay, in order.
+    pub(crate) fn let_go(&mut self, realm: usize, epoch: u32)
+        ensures { self.new.noted ≡ others realm epoch self.old.noted }
+    {
+        self.noted.retain(|noted| !noted.is_of(realm, epoch));
     }
 }

@@ -25,7 +25,10 @@ impl Model for Sheet {
 }
 
 impl Sheet {
-    fn blank<S: Drop, E: Drop>(alloc: Global, journal: &Journal<S, E>) -> Result<Self, AllocError>
+    pub(crate) fn blank<S: Drop, E: Drop>(
+        alloc: Global,
+        journal: &Journal<S, E>,
+    ) -> Result<Self, AllocError>
         ensures { IfOk result (λ sheet. sheet ≡ blank journal.now) }
     {
         let marks = Vec::from_elem(alloc, false, journal.entries().len())?;
@@ -37,7 +40,7 @@ impl Sheet {
     }
 
     /// Marks an entry of a pass, unless it is not the pass's next one, does not stand in the journal, or was in a pass before.
-    fn mark<S: Drop, E: Drop + Plain>(
+    pub(crate) fn mark<S: Drop, E: Drop + Plain>(
         &mut self,
         journal: &Journal<S, E>,
         pass: usize,
@@ -62,7 +65,7 @@ impl Sheet {
     }
 
     /// Whether each entry is marked.
-    fn is_full(&self) -> bool
+    pub(crate) fn is_full(&self) -> bool
         ensures { IsTrue result ↔ All (λ mark. mark ≡ true) self.now.marks }
     {
         self.marks.iter().all(|mark| *mark)
