@@ -3,6 +3,7 @@ mod again;
 mod boxes;
 mod errands;
 mod realms;
+mod retirings;
 mod runs;
 mod single;
 mod wanting;

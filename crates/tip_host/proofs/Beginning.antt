@@ -3,21 +3,23 @@ use Rattle.std.proofs.Common.{◌≡◌, ◌≢◌, ◌∙◌, ◌+◌, ◌<◌,
 use Rattle.std.specs.Prelude.{IfSome, slice_get}
 use Rattle.std.specs.Option.{option_map, option_map_or}
 use Rattle.std.proofs.lemmas.Bool.{and_parts, cases_eq}
-use Rattle.std.proofs.lemmas.List.{length-map}
+use Rattle.std.proofs.lemmas.List.{length-map, map-append, take_more}
 use Rattle.std.proofs.lemmas.Option.{none-some, same_Some}
 use Rattle.tip_core.specs.Hosted.{Hosted, realm}
 use Rattle.tip_stored.specs.Recovering.{AreAnew, all_adopted, recovered}
 use Rattle.tip_honest.proofs.Boxes.{begins_honest}
 use Rattle.tip_honest.specs.Honesty.{AreHonest, Journal, rows_of}
-use Rattle.tip_honest.specs.Hosts.{IsHonestAt}
+use Rattle.tip_honest.specs.Hosts.{HasHonestRun, IsHonestAt}
 use Rattle.tip_journal.specs.Journal.{begun}
+use Rattle.tip_journal.specs.Retiring.{Retired, none_retired}
 use Rattle.tip_kept.specs.Keeping.{RealmRows, rows_at}
 use Rattle.tip_machine.specs.Recovery.{Loaded, restarted}
 use Rattle.tip_machine.specs.States.{State}
 use Rattle.tip_machine.specs.declared.head.Head.{Head}
 use Rattle.tip_recovery.specs.Adopting.{Recovery, Unfinished, are_adopted, loaded, stored_of}
 use Rattle.tip_rows.specs.Logs.{is_rising}
-use Rattle.tip_host.specs.Books.{Books, IsHonest, out_of}
+use Rattle.tip_host.proofs.Behind.{behind-none, run_behind, whole_run}
+use Rattle.tip_host.specs.Books.{AreCounted, Books, HasRunBehind, IsHonest, out_of, retired_at}
 use Rattle.tip_host.specs.Entries.{bare}
 use Rattle.tip_host.specs.Openings.{AreTaken, IsTaken, opened}
 
@@ -29,6 +31,12 @@ pub history_opened : (realms : List Recovery) (place : ℕ) → slice_get (map o
 history_opened [] place = refl
 history_opened (recovery ∷ realms) zero = refl
 history_opened (recovery ∷ realms) (suc place) = history_opened realms place
+
+-- no journal was let go
+none_opened : (realms : List Recovery) (place : ℕ) → retired_at (map (λ recovery. none_retired) realms) place ≡ none_retired
+none_opened [] place = refl
+none_opened (recovery ∷ realms) zero = refl
+none_opened (recovery ∷ realms) (suc place) = none_opened realms place
 
 -- the rows of what is loaded are the stored rows
 pub rows_again : (rows : List Unfinished) → rows_of (map loaded rows) ≡ stored_of rows
@@ -61,6 +69,13 @@ pub journals_more : (old new : List (List Journal)) (realms : List Recovery) (n 
 journals_more old new realms n item epoch start before within at epoch_is start_is is =
     is ∙ (λ i. before i ++ (begun (epoch_is i) (start_is i) ∷ []) ∷ []) ∙ ap (λ (r : Recovery). map opened (take n realms) ++ opened r ∷ []) at ∙ taken_one realms n item within
 
+pub retired_more : (old new : List Retired) (realms : List Recovery) (n : ℕ) (one : Retired) → old ≡ map (λ recovery. none_retired) (take n realms) → n < length realms → one ≡ none_retired → new ≡ old ++ one ∷ [] → new ≡ map (λ recovery. none_retired) (take (n + 1) realms)
+retired_more old new realms n one before within none is =
+    is ∙ (λ i. before i ++ none i ∷ []) ∙ sym (map-append (λ recovery. none_retired) (take n realms) (get_or realms n (first realms n within) ∷ [])) ∙ ap (map (λ recovery. none_retired)) (sym (take_more realms n (first realms n within) within)) where
+    first : (rs : List Recovery) (k : ℕ) → k < length rs → Recovery
+    first [] k inside = absurd (omega (arith, inside))
+    first (r ∷ rs) k inside = r
+
 at_get : (realms : List Recovery) (n : ℕ) (d : Recovery) → n < length realms → slice_get realms n ≡ Some (get_or realms n d)
 at_get [] n d within = absurd (omega (arith, within))
 at_get (recovery ∷ realms) zero d within = refl
@@ -76,7 +91,7 @@ taken_more old new realms n item before count within at own others place less = 
   | inr differ ↦ taken_before old new place (others place (λ e. differ (e ∙ count))) (slice_get realms place) (before place (let apart : place ≢ n = differ in omega (arith, less, apart)))
 ]
 
-module _ (core now : Hosted) (realms : List Recovery) (books : Books) (begins : books.journals ≡ map opened realms) (taken : AreTaken (length realms) books.rows realms) (count : length books.rows ≡ length realms) (nobody : (place : ℕ) → out_of books place ≡ [])
+module _ (core now : Hosted) (realms : List Recovery) (books : Books) (begins : books.journals ≡ map opened realms) (none : books.retired ≡ map (λ recovery. none_retired) realms) (taken : AreTaken (length realms) books.rows realms) (count : length books.rows ≡ length realms) (nobody : (place : ℕ) → out_of books place ≡ [])
     (made : (place : ℕ) → realm now place ≡ recovered (slice_get realms place) (realm core place)) (anew : AreAnew realms now) (adopted : all_adopted realms ≡ true) where
   history : (place : ℕ) → slice_get (bare books.journals) place ≡ option_map opened (slice_get realms place)
   history place = ap (λ js. slice_get (bare js) place) begins ∙ ap (λ js. slice_get js place) (bare_opened realms) ∙ history_opened realms place
@@ -105,9 +120,25 @@ module _ (core now : Hosted) (realms : List Recovery) (books : Books) (begins : 
   -- A HOST THAT OPENS
   pub opens_honest : IsHonest now books
   opens_honest = record {
-    all = λ place. subst (λ js. IsHonestAt (realm now place) (out_of books place) (rows_at books.rows place) js) (sym (history place)) (subst (λ es. IsHonestAt (realm now place) es (rows_at books.rows place) (option_map opened (slice_get realms place))) (sym (nobody place)) (honest_at place (slice_get realms place) refl (realm now place) refl));
-    each = count ∙ sym (ap length begins ∙ length-map realms opened);
-  }
+    gone = λ place. [];
+    all = λ place. subst (λ js. IsHonestAt (realm now place) (out_of books place) (rows_at books.rows place) js) (sym (ap (λ js. slice_get js place) (behind-none (bare books.journals)) ∙ history place)) (subst (λ es. IsHonestAt (realm now place) es (rows_at books.rows place) (option_map opened (slice_get realms place))) (sym (nobody place)) (honest_at place (slice_get realms place) refl (realm now place) refl));
+    counted = λ place. subst (λ r. AreCounted r []) (sym (ap (λ rs. retired_at rs place) none ∙ none_opened realms place)) (record { starts = refl; entries = refl });
+    some = λ place. subst (λ o. IfSome o (λ own. 0 < length own)) (sym (history place)) (some_opened (slice_get realms place));
+    each = count ∙ sym journals_count;
+    counts = ap length none ∙ length-map realms (λ recovery. none_retired) ∙ sym journals_count;
+  } where
+    journals_count : length books.journals ≡ length realms
+    journals_count = ap length begins ∙ length-map realms opened
+
+    some_opened : (found : Option Recovery) → IfSome (option_map opened found) (λ own. 0 < length own)
+    some_opened None = tt
+    some_opened (Some recovery) = omega arith
+
+  -- and each realm's journal is of a run
+  pub opened_run : (place : ℕ) → HasHonestRun (realm now place) (out_of books place) (rows_at books.rows place) (slice_get (bare books.journals) place)
+  opened_run place =
+      whole_run (realm now place) (out_of books place) (rows_at books.rows place) (slice_get (bare books.journals) place)
+      (subst (λ r. HasRunBehind r (realm now place) (out_of books place) (rows_at books.rows place) (slice_get (bare books.journals) place)) (ap (λ rs. retired_at rs place) none ∙ none_opened realms place) (run_behind now books opens_honest place))
 
 -- its kept rows are those that were read
 pub rows_opened : (rows : List RealmRows) (realms : List Recovery) → AreTaken (length realms) rows realms → length rows ≡ length realms → (place : ℕ) → rows_at rows place ≡ option_map_or (λ recovery. stored_of recovery.rows) (slice_get realms place) []

@@ -1,8 +1,8 @@
 -- What happens at a host leaves its realms honest.
 use Rattle.std.proofs.Common.{◌≡◌, ◌≢◌, ◌∙◌, ◌==◌, ◌+◌, ◌^◌, ◌<◌, ◌++◌, ◌∷◌, [], ℕ, zero, suc, Bool, true, false, cond, List, Option, Some, None, append_assoc, append-nil, arith, length, refl, ap, sym, subst, inl, inr}
-use Rattle.std.specs.Prelude.{IsSomeAnd, remove, slice_get}
+use Rattle.std.specs.Prelude.{IfSome, IsSomeAnd, remove, slice_get}
 use Rattle.std.specs.List.{list_all}
-use Rattle.std.specs.Option.{option_and_then, option_to_list}
+use Rattle.std.specs.Option.{option_and_then, option_map, option_to_list}
 use Rattle.std.proofs.lemmas.Bool.{and_parts}
 use Rattle.std.proofs.lemmas.Bool.Decides.{nat_tests}
 use Rattle.std.proofs.lemmas.Option.{none-some, same_Some}
@@ -28,26 +28,27 @@ use Rattle.tip_machine.specs.declared.event.Change.{Change}
 use Rattle.tip_machine.specs.declared.event.Outcome.{Outcome}
 use Rattle.tip_table.proofs.Standing.{take_out}
 use Rattle.tip_table.specs.Kept.{Kept, of}
+use Rattle.tip_host.proofs.Behind.{come_over, last_of-behind, lost_over, same_over, slice_get-behind, some_entered}
 use Rattle.tip_host.proofs.Journals.{length_bare, number_bare}
-use Rattle.tip_host.specs.Books.{Books, IsHonest, IsSeen, Writes, known_by, left_in, out_of}
+use Rattle.tip_host.specs.Books.{AreCounted, Books, IsHonest, IsSeen, Writes, behind, known_by, known_over, left_in, out_of, retired_at}
 use Rattle.tip_host.specs.Works.{BringsAt, WasSent, is_errand_of, left_out, standing_at}
 use Rattle.tip_host.specs.Entries.{Enters, Noted, bare, takes_entry}
 
 -- WHAT IS KNOWN of a realm that is there
 
 module _ (core : Hosted) (books : Books) (honest : IsHonest core books) (place : ℕ) (state : State) (here : realm core place ≡ Some state) where
-  -- its own journals are honest
-  own_honest : (found : Option (List Journal)) → slice_get (bare books.journals) place ≡ found → (js : List Journal) × (slice_get (bare books.journals) place ≡ Some js) × AreHonest (record { state = state; rows = rows_at books.rows place; errands = out_of books place }) js
-  own_honest found there = by found there (subst (IsHonestAt (Some state) (out_of books place) (rows_at books.rows place)) there (subst (λ s. IsHonestAt s (out_of books place) (rows_at books.rows place) (slice_get (bare books.journals) place)) here (honest.all place))) where
-    by : (found : Option (List Journal)) → slice_get (bare books.journals) place ≡ found → IsHonestAt (Some state) (out_of books place) (rows_at books.rows place) found → (js : List Journal) × (slice_get (bare books.journals) place ≡ Some js) × AreHonest (record { state = state; rows = rows_at books.rows place; errands = out_of books place }) js
-    by None there is = absurd is
-    by (Some js) there is = (js, there, is)
+  -- its own journals are honest, behind those that were let go
+  own_honest : (own : List Journal) × (slice_get (bare books.journals) place ≡ Some own) × (0 < length own) × AreHonest (record { state = state; rows = rows_at books.rows place; errands = out_of books place }) (honest.gone place ++ own)
+  own_honest = by (slice_get (bare books.journals) place) refl (honest.some place) (subst (IsHonestAt (Some state) (out_of books place) (rows_at books.rows place)) (slice_get-behind honest.gone (bare books.journals) place) (subst (λ s. IsHonestAt s (out_of books place) (rows_at books.rows place) (slice_get (behind honest.gone (bare books.journals)) place)) here (honest.all place))) where
+    by : (found : Option (List Journal)) → slice_get (bare books.journals) place ≡ found → IfSome found (λ own. 0 < length own) → IsHonestAt (Some state) (out_of books place) (rows_at books.rows place) (option_map (λ own. honest.gone place ++ own) found) → (own : List Journal) × (slice_get (bare books.journals) place ≡ Some own) × (0 < length own) × AreHonest (record { state = state; rows = rows_at books.rows place; errands = out_of books place }) (honest.gone place ++ own)
+    by None there some is = absurd is
+    by (Some own) there some is = (own, there, some, is)
 
   -- it stands where its current journal leads
   pub stands_here : IsSomeAnd (current (bare books.journals) place) (StandsFor state)
   stands_here =
-      let own = own_honest (slice_get (bare books.journals) place) refl in
-      subst (λ found. IsSomeAnd (option_and_then last_of found) (StandsFor state)) (sym own.1) (stands_for_last _ own.0 own.2)
+      let (own, there, some, are) = own_honest in
+      subst (λ found. IsSomeAnd (option_and_then last_of found) (StandsFor state)) (sym there) (subst (λ j. IsSomeAnd j (StandsFor state)) (last_of-behind (honest.gone place) own some) (stands_for_last _ (honest.gone place ++ own) are))
 
   counted : (j : Option Journal) → IsSomeAnd j (StandsFor state) → entries_of j ≡ state.head.entries
   counted None is = absurd is
@@ -158,7 +159,7 @@ module _ (core core' : Hosted) (old between new : Books) (place : ℕ) (event : 
   -- a realm that is not there
   absent_out : (honest : IsHonest core old) → realm core place ≡ None → out_of new place ≡ out_of old place
   absent_out honest absent =
-      let none : out_of old place ≡ [] = nobody (slice_get (bare old.journals) place) (subst (λ s. IsHonestAt s (out_of old place) (rows_at old.rows place) (slice_get (bare old.journals) place)) absent (honest.all place)) in
+      let none : out_of old place ≡ [] = nobody (slice_get (behind honest.gone (bare old.journals)) place) (subst (λ s. IsHonestAt s (out_of old place) (rows_at old.rows place) (slice_get (behind honest.gone (bare old.journals)) place)) absent (honest.all place)) in
       let silent : option_to_list answer.work ≡ [] = ap (λ (a : Answer). option_to_list a.work) (steps.absent absent).0 ∙ ap option_to_list (returned-silent NoRealm event).1 in
       (λ i. ((out_at place ∙ nobody_back old.out place event back brings (no_front (of old.out place) (of old.work place) none) ∙ sym (no_front (of old.out place) (of old.work place) none)) i) ++ ((writes.work ∙ ap (λ xs. of between.work place ++ xs) silent ∙ append-nil (of between.work place) ∙ seen.work place) i)) where
         nobody : (found : Option (List Journal)) → IsHonestAt None (out_of old place) (rows_at old.rows place) found → out_of old place ≡ []
@@ -177,12 +178,20 @@ module _ (core core' : Hosted) (old between new : Books) (place : ℕ) (event : 
   -- IT LEAVES ALL REALMS HONEST
   pub then_honest : IsHonest core old → ((state : State) → realm core place ≡ Some state → fits (wants state event) outcome ≡ true) → ((state : State) → realm core place ≡ Some state → change ≡ wants state event) → IsHonest core' new
   then_honest honest fit wanted = record {
+    gone = honest.gone;
     all = by (realm core place) refl;
+    counted = λ other. subst (λ rs. AreCounted (retired_at rs other) (honest.gone other)) (sym (writes.retired ∙ seen.retired)) (honest.counted other);
+    some = some_now took refl;
     each = writes.count ∙ seen.count ∙ honest.each ∙ sym (journals_count took refl);
+    counts = ap length (writes.retired ∙ seen.retired) ∙ honest.counts ∙ sym (journals_count took refl);
   } where
-    by : (s : Option State) → realm core place ≡ s → AreAllHonest (known_by core' new)
-    by (Some state) here = all_stepped (known_by core old) (known_by core' new) place honest.all event outcome state (comes_so state here (fit state here) (wanted state here))
-    by None absent = all_elsewhere (known_by core old) (known_by core' new) place honest.all absent (steps.absent absent).1 (absent_out honest absent) (entered_as took refl false (took_is ∙ ap takes_entry absent)) others_kept
+    some_now : (b : Bool) → took ≡ b → (other : ℕ) → IfSome (slice_get (bare new.journals) other) (λ own. 0 < length own)
+    some_now true is = subst (λ js. (other : ℕ) → IfSome (slice_get js other) (λ own. 0 < length own)) (sym (entered_as true is true refl)) (some_entered (bare old.journals) place (with_entry (record { event = event; outcome = outcome })) honest.some)
+    some_now false is = subst (λ js. (other : ℕ) → IfSome (slice_get js other) (λ own. 0 < length own)) (sym (entered_as false is false refl)) honest.some
+
+    by : (s : Option State) → realm core place ≡ s → AreAllHonest (known_over honest.gone core' new)
+    by (Some state) here = all_stepped (known_over honest.gone core old) (known_over honest.gone core' new) place honest.all event outcome state (come_over honest.gone core core' old new place event outcome state (honest.some place) (comes_so state here (fit state here) (wanted state here)))
+    by None absent = all_elsewhere (known_over honest.gone core old) (known_over honest.gone core' new) place honest.all absent (steps.absent absent).1 (absent_out honest absent) (ap (behind honest.gone) (entered_as took refl false (took_is ∙ ap takes_entry absent))) others_kept
 
 -- NOTHING HAS HAPPENED
 
@@ -194,11 +203,17 @@ seen_same core core' old new realms seen = record {
   journals = seen.journals;
 }
 
-pub still_honest : (core core' : Hosted) (old new : Books) → IsSame (known_by core old) (known_by core' new) → length new.rows ≡ length old.rows → IsHonest core old → IsHonest core' new
-still_honest core core' old new same count honest = record {
-  all = all_same (known_by core old) (known_by core' new) same honest.all;
-  each = count ∙ honest.each ∙ sym (length_bare old.journals) ∙ sym (ap length same.journals) ∙ length_bare new.journals;
-}
+pub still_honest : (core core' : Hosted) (old new : Books) → IsSame (known_by core old) (known_by core' new) → length new.rows ≡ length old.rows → new.retired ≡ old.retired → IsHonest core old → IsHonest core' new
+still_honest core core' old new same count retired honest = record {
+  gone = honest.gone;
+  all = all_same (known_over honest.gone core old) (known_over honest.gone core' new) (same_over honest.gone core core' old new same) honest.all;
+  counted = λ place. subst (λ rs. AreCounted (retired_at rs place) (honest.gone place)) (sym retired) (honest.counted place);
+  some = subst (λ js. (place : ℕ) → IfSome (slice_get js place) (λ own. 0 < length own)) (sym same.journals) honest.some;
+  each = count ∙ honest.each ∙ journals_count;
+  counts = ap length retired ∙ honest.counts ∙ journals_count;
+} where
+  journals_count : length old.journals ≡ length new.journals
+  journals_count = sym (length_bare old.journals) ∙ sym (ap length same.journals) ∙ length_bare new.journals
 
 -- WHO WAITS was told nothing since the errand was given
 
@@ -209,8 +224,8 @@ untold_work core books honest place = by (realm core place) refl where
   back (x ∷ xs) ys all = back xs ys (and_parts (is_uncalled x) (list_all is_uncalled (xs ++ ys)) all).1
 
   by : (s : Option State) → realm core place ≡ s → list_all is_uncalled (of books.work place) ≡ true
-  by (Some state) here = let own = own_honest core books honest place state here (slice_get (bare books.journals) place) refl in back (of books.out place) (of books.work place) (all_untold _ own.0 own.2)
-  by None absent = back (of books.out place) (of books.work place) (ap (list_all is_uncalled) (nobody (slice_get (bare books.journals) place) (subst (λ s. IsHonestAt s (out_of books place) (rows_at books.rows place) (slice_get (bare books.journals) place)) absent (honest.all place)))) where
+  by (Some state) here = let own = own_honest core books honest place state here in back (of books.out place) (of books.work place) (all_untold _ (honest.gone place ++ own.0) own.3)
+  by None absent = back (of books.out place) (of books.work place) (ap (list_all is_uncalled) (nobody (slice_get (behind honest.gone (bare books.journals)) place) (subst (λ s. IsHonestAt s (out_of books place) (rows_at books.rows place) (slice_get (behind honest.gone (bare books.journals)) place)) absent (honest.all place)))) where
     nobody : (found : Option (List Journal)) → IsHonestAt None (out_of books place) (rows_at books.rows place) found → out_of books place ≡ []
     nobody None is = is
     nobody (Some js) is = absurd is
@@ -221,7 +236,8 @@ left_apart out' out place spot at sent was left other differ = left other ∙ (l
 
 pub lost_honest : (core : Hosted) (books : Books) (out' : Kept PartyNotes) (place spot at : ℕ) (sent : PartyNotes) → IsHonest core books → WasSent books.out place sent spot at → ((realm : ℕ) → of out' realm ≡ left_in (Some spot) books.out realm) → IsHonest core (record books { out = out' })
 lost_honest core books out' place spot at sent honest was left = record {
-  all = all_lost (known_by core books) (known_by core (record books { out = out' })) place honest.all (record {
+  gone = honest.gone;
+  all = all_lost (known_over honest.gone core books) (known_over honest.gone core (record books { out = out' })) place honest.all (lost_over honest.gone core core books (record books { out = out' }) place (record {
     spot = at;
     party = sent;
     was = picked_front at (of books.out place) (of books.work place) sent was.1 ∙ ap (λ xs. sent ∷ (xs ++ of books.work place)) (sym (left place ∙ left_here books.out place spot at sent was));
@@ -229,8 +245,11 @@ lost_honest core books out' place spot at sent honest was left = record {
     rows_are = refl;
     same = refl;
     others = λ other differ. (refl, ap (λ xs. xs ++ of books.work other) (left_apart out' books.out place spot at sent was left other differ), refl);
-  });
+  }));
+  counted = honest.counted;
+  some = honest.some;
   each = honest.each;
+  counts = honest.counts;
 }
 
 -- so all realms are honest, whether it was out or not

@@ -1,3 +1,4 @@
+pub mod Behind
 pub mod Journals
 pub mod Entering
 pub mod Honestly
@@ -8,3 +9,5 @@ pub mod Renewals
 pub mod Served
 pub mod Dropping
 pub mod Answering
+pub mod Starts
+pub mod Retires

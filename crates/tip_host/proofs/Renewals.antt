@@ -1,6 +1,6 @@
 -- A realm that starts again at a host.
 use Rattle.std.proofs.Common.{◌≡◌, ◌≢◌, ◌<◌, ◌+◌, ◌==◌, ◌++◌, ◌∷◌, ◌∙◌, if◌then◌else◌, ℕ, zero, suc, Bool, false, true, List, [], Option, None, Some, Result, Ok, Err, length, length-append, map, ap, arith, refl, subst, sym, inl}
-use Rattle.std.specs.Prelude.{IfErr, IfOk, IsSomeAnd, OnOk, slice_get}
+use Rattle.std.specs.Prelude.{IfErr, IfOk, IfSome, IsSomeAnd, OnOk, slice_get}
 use Rattle.std.specs.Option.{option_and_then, option_map}
 use Rattle.std.proofs.lemmas.Bool.Decides.{nat_tests}
 use Rattle.std.proofs.lemmas.Option.{none-some, same_Some}
@@ -24,10 +24,11 @@ use Rattle.tip_rows.specs.Keys.{Key}
 use Rattle.tip_rows.specs.declared.row.Row.{Row}
 use Rattle.tip_rows.specs.Logs.{Log, is_rising, last_epoch}
 use Rattle.tip_table.specs.Kept.{of}
+use Rattle.tip_host.proofs.Behind.{renewed_over, some_renewed}
 use Rattle.tip_host.proofs.Journals.{bare_renewed, current_bare}
 use Rattle.tip_host.proofs.Honestly.{stands_here}
 use Rattle.tip_host.proofs.Beginning.{rows_again}
-use Rattle.tip_host.specs.Books.{Books, IsHonest, known_by, out_of}
+use Rattle.tip_host.specs.Books.{AreCounted, Books, IsHonest, known_by, known_over, out_of, retired_at}
 use Rattle.tip_host.specs.Entries.{bare}
 use Rattle.tip_host.specs.Renewals.{IsReason, next_epoch}
 
@@ -91,7 +92,7 @@ withdrawable P (history ∷ journals) (suc place) epoch start some = withdrawabl
 module _ (core core' : Hosted) (old begun_now new : Books) (place : ℕ) (state : State) (epoch : ℕ) (rows : List Unfinished) (honest : IsHonest core old) (here : realm core place ≡ Some state) (later : epoch ≡ state.head.epoch + 1)
     (same : rows_at old.rows place ≡ stored_of rows) (rising : is_rising (stored_of rows) ≡ true) (boxed : are_boxed (map loaded rows) ≡ true) (rises : state.head.epoch < last_epoch)
     (own : realm core' place ≡ Some (restarted (risen state.head) (map loaded rows))) (others : (other : ℕ) → other ≢ place → realm core' other ≡ realm core other)
-    (begins : begun_now.journals ≡ renewed place (begun epoch (map loaded rows)) old.journals) (journals : new.journals ≡ begun_now.journals) (kept : new.rows ≡ old.rows) (work : new.work ≡ old.work) (out : new.out ≡ old.out) where
+    (begins : begun_now.journals ≡ renewed place (begun epoch (map loaded rows)) old.journals) (journals : new.journals ≡ begun_now.journals) (retired : new.retired ≡ old.retired) (kept : new.rows ≡ old.rows) (work : new.work ≡ old.work) (out : new.out ≡ old.out) where
   begins_bare : bare new.journals ≡ renewed place (begun (state.head.epoch + 1) (map loaded rows)) (bare old.journals)
   begins_bare = ap bare (journals ∙ begins) ∙ bare_renewed old.journals place (begun epoch (map loaded rows)) ∙ ap (λ e. renewed place (begun e (map loaded rows)) (bare old.journals)) later
 
@@ -115,9 +116,15 @@ module _ (core core' : Hosted) (old begun_now new : Books) (place : ℕ) (state 
 
   pub renewed_honest : IsHonest core' new
   renewed_honest = record {
-    all = all_renewed (known_by core old) (known_by core' new) place honest.all state (map loaded rows) renewed_known;
-    each = ap length kept ∙ honest.each ∙ sym (ap length (journals ∙ begins) ∙ length-changed_at old.journals place (λ history. history ++ begun epoch (map loaded rows) ∷ []));
-  }
+    gone = honest.gone;
+    all = all_renewed (known_over honest.gone core old) (known_over honest.gone core' new) place honest.all state (map loaded rows) (renewed_over honest.gone core core' old new place state (map loaded rows) renewed_known);
+    counted = λ other. subst (λ rs. AreCounted (retired_at rs other) (honest.gone other)) (sym retired) (honest.counted other);
+    some = subst (λ js. (other : ℕ) → IfSome (slice_get js other) (λ own. 0 < length own)) (sym begins_bare) (some_renewed (bare old.journals) place (begun (state.head.epoch + 1) (map loaded rows)) honest.some);
+    each = ap length kept ∙ honest.each ∙ sym journals_count;
+    counts = ap length retired ∙ honest.counts ∙ sym journals_count;
+  } where
+    journals_count : length new.journals ≡ length old.journals
+    journals_count = ap length (journals ∙ begins) ∙ length-changed_at old.journals place (λ history. history ++ begun epoch (map loaded rows) ∷ [])
 
 -- what the stored core says of a fault
 pub as_core_says : {T : Type 0} (result : Result T (RenewFault × Recovery)) (log : Log) (state : State) (rows : List (Key × Row)) (recovery : Recovery) → IfErr result (λ fault. IsReasonToRenew log state recovery fault.0) → IfErr result (λ fault. IsReason log state rows recovery fault.0)

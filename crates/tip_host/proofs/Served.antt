@@ -59,6 +59,7 @@ module _ {S : Type 0} (kept : Keeping S) (stored ready stored' : StoredCore S Ho
     lines = λ number. writes.lines number ∙ ap (λ l. l ++ sent_to number happened.answer.sent) (seen.lines place number);
     others = λ other number differ. writes.other_lines other number differ ∙ seen.lines other number;
     enters = subst (λ js. Enters (takes_entry (realm stored.core place)) js (bare new.journals) noted noted' place (entry_of event reply.outcome) reply.entry) seen.journals (subst (λ b. Enters b (bare between.journals) (bare new.journals) noted noted' place (entry_of event reply.outcome) reply.entry) took_is (subst (λ o. Enters took (bare between.journals) (bare new.journals) noted noted' place (entry_of event o) reply.entry) (sym outcome) enters));
+    retired = writes.retired ∙ seen.retired;
     waits = writes.work ∙ ap (λ xs. xs ++ option_to_list happened.answer.work) (seen.work place);
     out = writes.out place ∙ ap (λ o. left_in back o place) seen.out ∙ left_standing old.out place event back brings;
     others_out = λ other differ. (writes.other_work other differ ∙ seen.work other, writes.out other ∙ ap (λ o. left_in back o other) seen.out ∙ left_there old.out place event back brings other differ);

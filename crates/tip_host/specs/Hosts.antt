@@ -72,6 +72,7 @@ pub record Serves {S : Type 0} (kept : Keeping S) (old new : Host S) (noted note
   pub lines : (number : ℕ) → waiting new.books.outboxes place number ≡ waiting old.books.outboxes place number ++ sent_to number answer.sent
   pub others : (other number : ℕ) → other ≢ place → waiting new.books.outboxes other number ≡ waiting old.books.outboxes other number
   pub enters : Enters (takes_entry (realm old.stored.core place)) (bare old.books.journals) (bare new.books.journals) noted noted' place (record { event = event; outcome = reply.outcome }) reply.entry
+  pub retired : new.books.retired ≡ old.books.retired
   pub waits : of new.books.work place ≡ of old.books.work place ++ option_to_list answer.work
   pub out : of new.books.out place ≡ left_out back (of old.books.out place)
   pub others_out : (other : ℕ) → other ≢ place → (of new.books.work other ≡ of old.books.work other) × (of new.books.out other ≡ of old.books.out other)
@@ -82,6 +83,7 @@ pub record Serves {S : Type 0} (kept : Keeping S) (old new : Host S) (noted note
 pub record Stays {S : Type 0} (old new : Host S) : Type 0 where
   pub store : new.stored.store ≡ old.stored.store
   pub same : IsSame (known old) (known new)
+  pub retired : new.books.retired ≡ old.books.retired
   pub stopped : new.stored.is_stopped ≡ old.stored.is_stopped
   pub lines : (place number : ℕ) → waiting new.books.outboxes place number ≡ waiting old.books.outboxes place number
   pub waits : (place : ℕ) → of new.books.work place ≡ of old.books.work place

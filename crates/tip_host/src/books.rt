@@ -4,7 +4,7 @@ use crate::opening::Opening;
 use std::marker::Model;
 use tip_branch::{HeldParty, PartyNote};
 use tip_honest::Entry;
-use tip_journal::Journals;
+use tip_journal::{Journals, Retired};
 use tip_kept::KeptRows;
 use tip_outbox::Outboxes;
 use tip_table::Table;
@@ -13,6 +13,8 @@ use tip_table::Table;
 #[derive(Drop)]
 pub(crate) struct Books {
     pub(crate) journals: Journals<Opening, Entry>,
+    /// How many journals of each realm were let go.
+    pub(crate) retired: Vec<Retired>,
     /// Lines and closings that wait to go out.
     pub(crate) outboxes: Outboxes,
     /// The stored rows, as the store has answered.
@@ -34,6 +36,7 @@ impl Model for Books {
 
     ghost view = { λ b. record {
       journals = b.journals;
+      retired = b.retired.items;
       outboxes = b.outboxes;
       rows = b.rows;
       work = b.work;

@@ -2,21 +2,17 @@
 ghost use Rattle.std.specs.Prelude.{◌≡◌, ◌<◌, ℕ, Some, true, false, slice_get, IfErr, IfOk, IfSome};
 ghost use Rattle.tip_branch.specs.Always.{Always};
 ghost use Rattle.tip_core.specs.Hosted.{realm as realm_at};
-ghost use Rattle.tip_honest.specs.Hosts.{HasHonestRun};
 ghost use Rattle.tip_kept.specs.Keeping.{rows_at};
 ghost use Rattle.tip_machine.specs.States.{State};
 ghost use Rattle.tip_rows.specs.Logs.{IsPart, Log};
 ghost use Rattle.tip_host.specs.Hosts.{IsShown};
-ghost use Rattle.tip_host.specs.Books.{out_of};
+ghost use Rattle.tip_host.specs.Books.{HasRunBehind, out_of, retired_at};
 ghost use Rattle.tip_host.specs.Entries.{bare};
 
-use crate::host::Host;
-use crate::opening::Opening;
+use crate::host::{Ended, Host};
 use crate::renewing::are_stored;
 use std::alloc::Global;
 use thiserror::Error;
-use tip_honest::Entry;
-use tip_journal::Journals;
 use tip_rows::RowLog;
 use tip_stored::RenewFault;
 
@@ -46,19 +42,21 @@ impl<S: RowLog + Drop> Host<S> {
     pub fn close(
         self,
         alloc: Global,
-    ) -> Result<(S, Journals<Opening, Entry>), (CloseFault, Host<S>)>
+    ) -> Result<Ended<S>, (CloseFault, Host<S>)>
         requires { Always }
         ensures stands { (log : Log) → S.keeping.stands self.stored.store log →
-            IfOk result (λ closed. S.keeping.stands closed.0 log) }
+            IfOk result (λ ended. S.keeping.stands ended.store log) }
         ensures stored { (log : Log) (place : ℕ) (state : State) →
             S.keeping.stands self.stored.store log →
             realm_at self.stored.core place ≡ Some state →
-            IfOk result (λ closed. S.keeping.is_true closed.0 →
+            IfOk result (λ ended. S.keeping.is_true ended.store →
             IsPart log state.head.name state.head.epoch (rows_at self.books.rows place)) }
-        ensures journals { IfOk result (λ closed. closed.1 ≡ self.books.journals) }
-        ensures honest { IfOk result (λ closed. (place : ℕ) →
-            HasHonestRun (realm_at self.stored.core place) (out_of self.books place)
-            (rows_at self.books.rows place) (slice_get (bare closed.1) place)) }
+        ensures journals { IfOk result (λ ended. ended.journals ≡ self.books.journals) }
+        ensures retired { IfOk result (λ ended. ended.retired.items ≡ self.books.retired) }
+        ensures honest { IfOk result (λ ended. (place : ℕ) →
+            HasRunBehind (retired_at ended.retired.items place)
+            (realm_at self.stored.core place) (out_of self.books place)
+            (rows_at self.books.rows place) (slice_get (bare ended.journals) place)) }
         ensures rest { IfErr result (λ fault. fault.1
             ≡ record self { stored = record self.stored { store = fault.1.stored.store } }) }
     {

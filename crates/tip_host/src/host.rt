@@ -3,7 +3,6 @@ ghost use Rattle.std.specs.Prelude.{◌≡◌, ◌≢◌, ◌↔◌, ℕ, [], No
 ghost use Rattle.std.specs.Option.{option_map_or};
 ghost use Rattle.tip_branch.specs.Always.{Always};
 ghost use Rattle.tip_core.specs.Hosted.{HaveNames, may_take_in, realm as realm_at, standing_in};
-ghost use Rattle.tip_honest.specs.Hosts.{HasHonestRun};
 ghost use Rattle.tip_stored.specs.Loading.{spec_of};
 ghost use Rattle.tip_stored.specs.Recovering.{all_adopted};
 ghost use Rattle.tip_stored.specs.declared.stored_core.StepFault.TheVariants as StepFault;
@@ -13,7 +12,7 @@ ghost use Rattle.tip_kept.specs.Keeping.{rows_at};
 ghost use Rattle.tip_machine.specs.Honest.{brings_no_party};
 ghost use Rattle.tip_machine.specs.States.{State};
 ghost use Rattle.tip_recovery.specs.Adopting.{stored_of};
-ghost use Rattle.tip_host.specs.Books.{out_of};
+ghost use Rattle.tip_host.specs.Books.{HasRunBehind, out_of, retired_at};
 ghost use Rattle.tip_host.specs.Hosts.{Serves, Stays, is_frozen, waiting_at};
 ghost use Rattle.tip_host.specs.Entries.{bare};
 ghost use Rattle.tip_host.specs.Openings.{IsOpened};
@@ -35,7 +34,7 @@ use std::marker::Model;
 use thiserror::Error;
 use tip_core::{Core, Standing};
 use tip_honest::Entry;
-use tip_journal::{AuditFault, Journals, Pass, Reported, audit, fits};
+use tip_journal::{AuditFault, Journals, Pass, Reported, Retired, audit, fits};
 use tip_machine::{Event, Head, Item};
 use tip_outbox::Outboxes;
 use tip_rows::RowLog;
@@ -77,6 +76,16 @@ impl From<StepFault> for HostFault {
     }
 }
 
+/// What a host leaves that has ended.
+#[derive(Drop)]
+pub struct Ended<S> {
+    pub store: S,
+    /// Of each realm, one for each of its starts, but for those that were let go.
+    pub journals: Journals<Opening, Entry>,
+    /// Of each realm, how many were let go.
+    pub retired: Vec<Retired>,
+}
+
 /// A stored core, and what is kept of its realms beside it: their journals, how their rows are stored, who is out, and what waits
 /// to go out on each connection.
 #[derive(Drop)]
@@ -113,11 +122,12 @@ impl<S: RowLog + Drop> Host<S> {
             (λ fault. fault.0 ≡ Unadopted → all_adopted recovering.realms ≡ false) }
         ensures back { IfErr result (λ fault. fault.1 ≡ recovering) }
     {
-        let Ok((journals, rows)) = open_all(alloc, recovering.realms()) else {
+        let Ok((journals, rows, retired)) = open_all(alloc, recovering.realms()) else {
             return Err((OpenFault::Memory, recovering));
         };
         let books = Books {
             journals,
+            retired,
             outboxes: Outboxes::new(alloc),
             rows,
             work: Table::new(alloc),
@@ -318,20 +328,28 @@ impl<S: RowLog + Drop> Host<S> {
         self.stored.is_stopped = true;
     }
 
-    /// HONEST RUNS of a host that ends, stopped or not, whoever came back in whatever order: the journals of each realm are what
-    /// one honest run of its own machine leaves, which leads to its state, to its stored rows, as the store has answered, and to
-    /// its parties that are out; so no transaction of it is half committed. All connections, boxes and parties are dropped, which
-    /// calls their branches, and the store comes back with its rows and epochs as they are, and the journals.
-    pub fn shut(self) -> (S, Journals<Opening, Entry>)
+    /// HONEST RUNS of a host that ends, stopped or not, whoever came back in whatever order: the journals of each realm, those that
+    /// were let go before and those that are kept, are what one honest run of its own machine leaves, which leads to its state, to
+    /// its stored rows, as the store has answered, and to its parties that are out; so no transaction of it is half committed. All
+    /// connections, boxes and parties are dropped, which calls their branches, and the store comes back with its rows and epochs as
+    /// they are, and the journals.
+    pub fn shut(self) -> Ended<S>
         requires { Always }
-        ensures store { result.0 ≡ self.stored.store }
-        ensures journals { result.1 ≡ self.books.journals }
-        ensures honest { (place : ℕ) → HasHonestRun (realm_at self.stored.core place)
-            (out_of self.books place) (rows_at self.books.rows place)
-            (slice_get (bare result.1) place) }
+        ensures store { result.store ≡ self.stored.store }
+        ensures journals { result.journals ≡ self.books.journals }
+        ensures retired { result.retired.items ≡ self.books.retired }
+        ensures honest { (place : ℕ) → HasRunBehind (retired_at result.retired.items place)
+            (realm_at self.stored.core place) (out_of self.books place)
+            (rows_at self.books.rows place) (slice_get (bare result.journals) place) }
     {
         let Host { stored, books } = self;
-        let Books { journals, .. } = books;
-        (stored.shut(), journals)
+        let Books {
+            journals, retired, ..
+        } = books;
+        Ended {
+            store: stored.shut(),
+            journals,
+            retired,
+        }
     }
 }

@@ -2,6 +2,7 @@
 ghost use Rattle.std.specs.Prelude.{◌≡◌, length, map, true, false, IfOk};
 ghost use Rattle.tip_branch.specs.Always.{Always};
 ghost use Rattle.tip_honest.specs.Honesty.{are_boxed};
+ghost use Rattle.tip_journal.specs.Retiring.{none_retired};
 ghost use Rattle.tip_recovery.specs.Adopting.{are_adopted, loaded, waits};
 ghost use Rattle.tip_rows.specs.Rows.{branches_of};
 ghost use Rattle.tip_host.specs.Openings.{AreTaken, opened};
@@ -9,7 +10,7 @@ ghost use Rattle.tip_host.specs.Openings.{AreTaken, opened};
 use std::alloc::{AllocError, Global};
 use std::marker::Model;
 use tip_honest::{Badges, Entry};
-use tip_journal::Journals;
+use tip_journal::{Journals, Retired};
 use tip_kept::KeptRows;
 use tip_recovery::{Recovery, Unfinished};
 use tip_rows::{Key, Row};
@@ -82,22 +83,26 @@ impl Opening {
     }
 }
 
-/// A journal for each realm, which begins with the realm's rows and boxes, and how the rows are stored.
+/// A journal for each realm, which begins with the realm's rows and boxes, how the rows are stored, and that no journal was let go.
 pub(crate) fn open_all(
     alloc: Global,
     realms: &[Recovery],
-) -> Result<(Journals<Opening, Entry>, KeptRows), AllocError>
+) -> Result<(Journals<Opening, Entry>, KeptRows, Vec<Retired>), AllocError>
     requires { Always }
     ensures journals { IfOk result (λ books. books.0 ≡ map opened realms.now) }
     ensures rows { IfOk result (λ books. AreTaken (length realms.now) books.1 realms.now) }
     ensures count { IfOk result (λ books. length books.1 ≡ length realms.now) }
+    ensures retired { IfOk result
+        (λ books. books.2.items ≡ map (λ recovery. none_retired) realms.now) }
 {
     let mut journals = Journals::new(alloc);
     let mut rows = KeptRows::new(alloc);
+    let mut retired = Vec::new(alloc);
     for recovery in realms {
         let opening = Opening::of(alloc, recovery.rows())?;
         journals.declare(alloc, recovery.epoch(), opening)?;
         rows.declare(alloc, recovery.rows())?;
+        retired.push(Retired::none())?;
     }
-    Ok((journals, rows))
+    Ok((journals, rows, retired))
 }

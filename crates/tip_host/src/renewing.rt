@@ -90,6 +90,7 @@ impl<S: RowLog + Drop> Host<S> {
         ensures others { AreKeptBut realm self.old self.new }
         ensures same { IfErr result (λ fault. (place : ℕ) →
             realm_at self.new.stored.core place ≡ realm_at self.old.stored.core place) }
+        ensures retired { self.new.books.retired ≡ self.old.books.retired }
         ensures still { OnErr result ((bare self.new.books.journals ≡ bare self.old.books.journals)
             × (self.new.books.outboxes ≡ self.old.books.outboxes)) }
         ensures back { IfErr result (λ fault. fault.1 ≡ recovery) }

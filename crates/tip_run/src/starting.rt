@@ -13,7 +13,7 @@ use std::alloc::Global;
 use tip_branch::HeldPrepared;
 use tip_core::Core;
 use tip_honest::Entry;
-use tip_host::{Host, OpenFault, Opening};
+use tip_host::{Ended, Host, OpenFault, Opening};
 use tip_journal::Journals;
 use tip_rows::RowLog;
 use tip_stored::{RealmSpec, StoredCore};
@@ -36,7 +36,9 @@ pub(crate) fn restart<S: RowLog + Drop>(
 {
     earlier.reserve(1)?;
     let specs = host.declarations(alloc)?;
-    let (store, journals) = host.shut();
+    let Ended {
+        store, journals, ..
+    } = host.shut();
     earlier.push_reserved(journals);
     begin(alloc, store, specs, boxes)
 }

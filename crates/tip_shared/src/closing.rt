@@ -10,8 +10,8 @@ use crate::shared::Shared;
 use std::alloc::Global;
 use thiserror::Error;
 use tip_honest::Entry;
-use tip_host::{CloseFault as HostCloseFault, Host, Opening};
-use tip_journal::{AuditFault, Journals, Pass, Reported};
+use tip_host::{CloseFault as HostCloseFault, Ended, Host, Opening};
+use tip_journal::{AuditFault, Journals, Pass, Reported, Retired};
 use tip_rows::RowLog;
 
 /// Why a host that was shared is not closed.
@@ -29,8 +29,10 @@ pub enum CloseFault {
 #[derive(Drop)]
 pub struct Closed<S> {
     pub store: S,
-    /// Of each realm, one for each of its starts.
+    /// Of each realm, one for each of its starts, but for those that were let go.
     pub journals: Journals<Opening, Entry>,
+    /// Of each realm, how many were let go, and how many entries they had.
+    pub retired: Vec<Retired>,
     /// How many entries each journal has, by declaration, then by epoch.
     pub report: Vec<Reported>,
 }
@@ -49,9 +51,10 @@ impl From<AuditFault> for CloseFault {
 }
 
 impl<S: RowLog + Drop> Shared<S> {
-    /// THE END of a host that was shared, once no thread shares it any more: these passes have the entries of all its journals, each
-    /// in one pass, once; each realm's journals are those of one honest run of its own machine; and the store has shown the rows to
-    /// which that leads, word for word. A fault hands the host back, which goes on, and the passes.
+    /// THE END of a host that was shared, once no thread shares it any more: these passes have the entries of all journals that it
+    /// keeps, each in one pass, once; each realm's journals, with those that were let go, are those of one honest run of its own
+    /// machine; and the store has shown the rows to which that leads, word for word. A fault hands the host back, which goes on, and
+    /// the passes.
     pub fn close(
         self,
         alloc: Global,
@@ -61,7 +64,8 @@ impl<S: RowLog + Drop> Shared<S> {
         ensures audited { IfOk result (λ closed. AreAudited closed.journals passes.items) }
         ensures report { IfOk result (λ closed. closed.report.items ≡ report_of closed.journals) }
         ensures closed { IfOk result
-            (λ closed. (host : AHost S) × IsClosed S.keeping host closed.store closed.journals) }
+            (λ closed. (host : AHost S)
+            × IsClosed S.keeping host closed.store closed.journals closed.retired.items) }
         ensures mismatch { IfErr result (λ fault. fault.0 ≡ PassMismatch →
             ¬ AreAudited fault.1.books.journals passes.items) }
         ensures back { IfErr result (λ fault. fault.2 ≡ passes) }
@@ -81,7 +85,7 @@ fn close_host<S: RowLog + Drop>(
     ensures audited { IfOk result (λ closed. AreAudited closed.journals passes.items) }
     ensures report { IfOk result (λ closed. closed.report.items ≡ report_of closed.journals) }
     ensures closed { IfOk result
-        (λ closed. IsClosed S.keeping host closed.store closed.journals) }
+        (λ closed. IsClosed S.keeping host closed.store closed.journals closed.retired.items) }
     ensures mismatch { IfErr result (λ fault. fault.0 ≡ PassMismatch →
         ¬ AreAudited fault.1.books.journals passes.items) }
     ensures back { IfErr result (λ fault. fault.2 ≡ passes) }
@@ -91,9 +95,14 @@ fn close_host<S: RowLog + Drop>(
         Err(fault) => return Err((fault.into(), host, passes)),
     };
     match host.close(alloc) {
-        Ok((store, journals)) => Ok(Closed {
+        Ok(Ended {
             store,
             journals,
+            retired,
+        }) => Ok(Closed {
+            store,
+            journals,
+            retired,
             report,
         }),
         Err((fault, host)) => Err((CloseFault::Host(fault), host, passes)),

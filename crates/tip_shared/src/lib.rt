@@ -4,6 +4,7 @@
 mod closing;
 mod conditions;
 mod entering;
+mod retiring;
 mod sessions;
 mod shared;
 mod shared_desk;

@@ -17,7 +17,7 @@ use tip_stored::Recovering;
 const NORTH: usize = 0;
 
 /// A connection is opened, and these lines come on it. The pass has its entries.
-fn served<R: Wait>(
+pub fn served<R: Wait>(
     rt: &R,
     alloc: Global,
     shared: &Shared<MemRows>,

@@ -1,9 +1,17 @@
 use Rattle.std.proofs.Common.{◌∙◌, ap, sym}
 use Rattle.std.specs.Prelude.{is_some}
-use Rattle.tip_host.proofs.Honestly.{few_so}
+use Rattle.tip_host.proofs.Honestly.{few_so, is_within, seen_same, still_honest}
 use Rattle.tip_host.proofs.Served.{entered_from, honest_so, rows_ready, serves_so}
 use Rattle.tip_host.specs.Entries.{takes_entry}
 use Rattle.tip_host.proofs.host.Host.happen.Goals as goal
+
+pub make_ready-requires : goal.make_ready-requires
+make_ready-requires g c = record { here = λ state here. is_within c.self.inside.stored.core c.self.inside.books c.self.invariant c.args.realm state (sym (c.room.ensures.realms c.args.realm) ∙ here) }
+
+pub invariant_of-self-in_default : goal.invariant_of-self-in_default
+invariant_of-self-in_default g c =
+    let seen = c.make_ready.ensures.seen in
+    still_honest c.self.inside.stored.core c.room.new.self.core c.self.inside.books c.make_ready.new.books (seen_same c.self.inside.stored.core c.room.new.self.core c.self.inside.books c.make_ready.new.books c.room.ensures.realms seen) seen.count seen.retired c.self.invariant
 
 pub finish-requires-clause-few : goal.finish-requires-clause-few
 finish-requires-clause-few g c = λ yes.

@@ -40,7 +40,7 @@ invariant_of-self-in-Ok-renew g c =
     let rest : c.clear.new.books ≡ record c.self.inside.books { journals = c.begin.new.books.journals; outboxes = c.clear.new.books.outboxes } = c.clear.ensures.rest ∙ ap (λ (b : Books). record b { outboxes = c.clear.new.books.outboxes }) c.begin.ensures.rest in
     renewed_honest c.self.inside.stored.core c.renew-2.new.self.core c.self.inside.books c.begin.new.books c.clear.new.books c.args.realm found.0 c.in-Some.epoch c.args.recovery.rows c.self.invariant found.1 found.2
     (c.are_stored.ensures.same.0 c.if-not-are_stored.false) c.are_stored.ensures.rising (c.in-Ok.ensures.boxed again.adopted) again.rises again.state_is c.in-Ok-renew.ensures.others
-    c.in-Ok.ensures.begun (ap (λ (b : Books). b.journals) rest) (ap (λ (b : Books). b.rows) rest) (ap (λ (b : Books). b.work) rest) (ap (λ (b : Books). b.out) rest)
+    c.in-Ok.ensures.begun (ap (λ (b : Books). b.journals) rest) (ap (λ (b : Books). b.retired) rest) (ap (λ (b : Books). b.rows) rest) (ap (λ (b : Books). b.work) rest) (ap (λ (b : Books). b.out) rest)
 
 pub withdraw-requires-clause-last : goal.withdraw-requires-clause-last
 withdraw-requires-clause-last g c =
@@ -51,7 +51,7 @@ pub invariant_of-self-in-Err : goal.invariant_of-self-in-Err
 invariant_of-self-in-Err g c =
     let old = c.self.inside.books in
     let back : c.withdraw.new.books ≡ old = withdrawn old c.begin.new.books c.withdraw.new.books c.args.realm c.in-Some.epoch c.args.recovery.rows c.in-Ok.ensures.begun c.begin.ensures.rest c.withdraw.ensures in
-    subst (IsHonest c.renew-2.new.self.core) (sym back) (still_honest c.self.inside.stored.core c.renew-2.new.self.core old old (record { realms = c.in-Err.ensures.same; out = λ place. refl; rows = λ place. refl; journals = refl }) refl c.self.invariant)
+    subst (IsHonest c.renew-2.new.self.core) (sym back) (still_honest c.self.inside.stored.core c.renew-2.new.self.core old old (record { realms = c.in-Err.ensures.same; out = λ place. refl; rows = λ place. refl; journals = refl }) refl refl c.self.invariant)
 
 pub returns-in-Ok-renew-clause-journal : goal.returns-in-Ok-renew-clause-journal
 returns-in-Ok-renew-clause-journal g c = rw (← c.self.view_is) (λ state here.
@@ -108,7 +108,7 @@ returns-in-Ok-renew-clause-known g c = rw (← c.self.view_is) (λ state here.
     let rest : c.clear.new.books ≡ record c.self.inside.books { journals = c.begin.new.books.journals; outboxes = c.clear.new.books.outboxes } = c.clear.ensures.rest ∙ ap (λ (b : Books). record b { outboxes = c.clear.new.books.outboxes }) c.begin.ensures.rest in
     renewed_known c.self.inside.stored.core c.renew-2.new.self.core c.self.inside.books c.begin.new.books c.clear.new.books c.args.realm state c.in-Some.epoch c.args.recovery.rows c.self.invariant here (found.2 ∙ ap (λ (s : State). s.head.epoch + 1) same)
     (c.are_stored.ensures.same.0 c.if-not-are_stored.false) c.are_stored.ensures.rising (c.in-Ok.ensures.boxed again.adopted) again.rises again.state_is c.in-Ok-renew.ensures.others
-    c.in-Ok.ensures.begun (ap (λ (b : Books). b.journals) rest) (ap (λ (b : Books). b.rows) rest) (ap (λ (b : Books). b.work) rest) (ap (λ (b : Books). b.out) rest))
+    c.in-Ok.ensures.begun (ap (λ (b : Books). b.journals) rest) (ap (λ (b : Books). b.retired) rest) (ap (λ (b : Books). b.rows) rest) (ap (λ (b : Books). b.work) rest) (ap (λ (b : Books). b.out) rest))
 
 pub returns-in-Err-clause-taken : goal.returns-in-Err-clause-taken
 returns-in-Err-clause-taken g c =
