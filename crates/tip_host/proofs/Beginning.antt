@@ -72,9 +72,9 @@ journals_more old new realms n item epoch start before within at epoch_is start_
 pub retired_more : (old new : List Retired) (realms : List Recovery) (n : ℕ) (one : Retired) → old ≡ map (λ recovery. none_retired) (take n realms) → n < length realms → one ≡ none_retired → new ≡ old ++ one ∷ [] → new ≡ map (λ recovery. none_retired) (take (n + 1) realms)
 retired_more old new realms n one before within none is =
     is ∙ (λ i. before i ++ none i ∷ []) ∙ sym (map-append (λ recovery. none_retired) (take n realms) (get_or realms n (first realms n within) ∷ [])) ∙ ap (map (λ recovery. none_retired)) (sym (take_more realms n (first realms n within) within)) where
-    first : (rs : List Recovery) (k : ℕ) → k < length rs → Recovery
-    first [] k inside = absurd (omega (arith, inside))
-    first (r ∷ rs) k inside = r
+      first : (rs : List Recovery) (k : ℕ) → k < length rs → Recovery
+      first [] k inside = absurd (omega (arith, inside))
+      first (r ∷ rs) k inside = r
 
 at_get : (realms : List Recovery) (n : ℕ) (d : Recovery) → n < length realms → slice_get realms n ≡ Some (get_or realms n d)
 at_get [] n d within = absurd (omega (arith, within))

@@ -1,10 +1,9 @@
 -- A host that lets go of a journal.
-use Rattle.std.proofs.Common.{◌≡◌, ◌≢◌, ◌<◌, ◌≤◌, ◌+◌, ◌^◌, ◌++◌, ◌∷◌, ◌∙◌, ◌==◌, ◌⊎◌, ℕ, zero, suc, true, false, cond, List, [], Option, Some, None, Result, Ok, Err, append_assoc, arith, get_or, length, length-append, map, refl, ap, sym, subst, inl, inr}
+use Rattle.std.proofs.Common.{◌≡◌, ◌≢◌, ◌<◌, ◌+◌, ◌^◌, ◌++◌, ◌∷◌, ◌∙◌, ◌==◌, ◌⊎◌, ℕ, zero, suc, true, false, cond, List, [], Option, Some, None, Result, Ok, Err, append_assoc, arith, get_or, length, length-append, map, refl, ap, sym, subst, inl, inr}
 use Rattle.std.specs.Prelude.{IfSome, OnErr, OnOk, drop, slice_get, unwrap_or}
 use Rattle.std.specs.Option.{option_map}
 use Rattle.std.proofs.lemmas.Bool.{cases_eq}
 use Rattle.std.proofs.lemmas.Bool.Decides.{nat_tests}
-use Rattle.std.proofs.lemmas.List.{length-map}
 use Rattle.std.proofs.lemmas.List.Sums.{sum_by_push}
 use Rattle.std.proofs.lemmas.Option.{slice_get-map, slice_get_read, slice_get_within}
 use Rattle.tip_core.specs.Hosted.{Hosted, realm}
@@ -21,7 +20,6 @@ use Rattle.tip_kept.specs.Keeping.{rows_at}
 use Rattle.tip_machine.specs.States.{State}
 use Rattle.tip_honest.specs.declared.entry.Entry.{Entry}
 use Rattle.tip_host.proofs.Behind.{slice_get-behind}
-use Rattle.tip_host.proofs.Journals.{length_bare}
 use Rattle.tip_host.proofs.Starts.{few_starts}
 use Rattle.tip_host.specs.Books.{AreCounted, Books, CanCount, IsHonest, LetsGo, behind, out_of, retired_at}
 use Rattle.tip_host.specs.Entries.{bare}

@@ -39,10 +39,7 @@ impl<S: RowLog + Drop> Host<S> {
     /// HONEST RUNS, AND WHAT THEY HAVE STORED: the host ends as by `shut`, once each realm was read once more and the store has
     /// shown its rows, word for word. So they are the realm's part of any log that the store stands for, as long as it may be
     /// relied on. A fault hands the host back, which goes on.
-    pub fn close(
-        self,
-        alloc: Global,
-    ) -> Result<Ended<S>, (CloseFault, Host<S>)>
+    pub fn close(self, alloc: Global) -> Result<Ended<S>, (CloseFault, Host<S>)>
         requires { Always }
         ensures stands { (log : Log) → S.keeping.stands self.stored.store log →
             IfOk result (λ ended. S.keeping.stands ended.store log) }

@@ -344,7 +344,9 @@ impl<S: RowLog + Drop> Host<S> {
     {
         let Host { stored, books } = self;
         let Books {
-            journals, retired, ..
+            journals,
+            retired,
+            ..
         } = books;
         Ended {
             store: stored.shut(),

@@ -37,7 +37,9 @@ pub(crate) fn restart<S: RowLog + Drop>(
     earlier.reserve(1)?;
     let specs = host.declarations(alloc)?;
     let Ended {
-        store, journals, ..
+        store,
+        journals,
+        ..
     } = host.shut();
     earlier.push_reserved(journals);
     begin(alloc, store, specs, boxes)

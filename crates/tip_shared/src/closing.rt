@@ -95,11 +95,13 @@ fn close_host<S: RowLog + Drop>(
         Err(fault) => return Err((fault.into(), host, passes)),
     };
     match host.close(alloc) {
-        Ok(Ended {
-            store,
-            journals,
-            retired,
-        }) => Ok(Closed {
+        Ok(
+            Ended {
+                store,
+                journals,
+                retired,
+            },
+        ) => Ok(Closed {
             store,
             journals,
             retired,

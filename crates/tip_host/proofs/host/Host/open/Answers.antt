@@ -1,4 +1,4 @@
-use Rattle.std.proofs.Common.{◌∙◌, ◌++◌, ap, length, map, refl, rules, subst}
+use Rattle.std.proofs.Common.{◌∙◌, ◌++◌, ap, length, map, rules, subst}
 use Rattle.tip_host.proofs.Beginning.{opened_run, opens_honest, rows_opened}
 use Rattle.tip_journal.specs.Retiring.{none_retired}
 use Rattle.tip_host.specs.Books.{Books}

@@ -1,4 +1,4 @@
-use Rattle.std.proofs.Common.{◌∙◌, ap, subst, sym}
+use Rattle.std.proofs.Common.{subst, sym}
 use Rattle.std.specs.Prelude.{slice_get}
 use Rattle.tip_core.specs.Hosted.{realm}
 use Rattle.tip_kept.specs.Keeping.{rows_at}
