@@ -14,13 +14,8 @@ use tip_shared::{Closed, Shared};
 
 const NORTH: usize = 0;
 
-/// A connection is opened, two lines come on it, and it is lost: four entries.
-fn four_entries<R: Wait>(rt: &R, alloc: Global, shared: &Shared<MemRows>) -> Option<Pass<Entry>>
-    requires { Always }
-{
-    let lines = "IDENTIFY 3 3 - -\nBEGIN\n";
-    served(rt, alloc, shared, north(alloc)?, lines)
-}
+/// A connection on which these come has four entries: it is opened, and lost behind them.
+const LINES: &str = "IDENTIFY 3 3 - -\nBEGIN\n";
 
 /// North starts again.
 fn renewed<R: Wait>(rt: &R, alloc: Global, shared: &Shared<MemRows>) -> Option<()>
@@ -56,26 +51,36 @@ fn entries_of_north(closed: &Closed<MemRows>) -> Option<(u64, u64)> {
     Some((retired.entries(), u64::from(kept)))
 }
 
-/// The journal of a start is let go once it has ended, by the pass that has its entries, and by no other; the passes keep the entries
-/// of the next start, with which the host is closed.
+/// How many entries a pass has.
+fn entries_in(passes: &[Pass<Entry>], place: usize) -> Option<usize> {
+    Some(passes.get(place)?.noted().len())
+}
+
+/// The journal of a start is let go once it has ended and the pass that has its entries is there; the passes keep the entries of the
+/// next start, with which the host is closed.
 fn lets_go<R: Wait>(rt: &R, alloc: Global) -> Option<bool> {
     let shared = shared(alloc, 100)?;
     let mut passes = Vec::new(alloc);
-    let mut others = Vec::new(alloc);
-    passes.push(four_entries(rt, alloc, &shared)?).ok()?;
+    let first = served(rt, alloc, &shared, north(alloc)?, LINES)?;
     let early = refused(rt, alloc, &shared, 1, &mut passes);
     renewed(rt, alloc, &shared)?;
-    passes.push(four_entries(rt, alloc, &shared)?).ok()?;
-    others.push(shared.pass(alloc)).ok()?;
-    let wrong = refused(rt, alloc, &shared, 1, &mut others);
+    let second = served(rt, alloc, &shared, north(alloc)?, LINES)?;
+    passes.push(second).ok()?;
+    let wrong = refused(rt, alloc, &shared, 1, &mut passes);
+    passes.push(first).ok()?;
     let right = refused(rt, alloc, &shared, 1, &mut passes);
     let twice = refused(rt, alloc, &shared, 1, &mut passes);
-    let left: usize = passes.iter().map(|pass| pass.noted().len()).sum();
+    let left = (entries_in(&passes, 0), entries_in(&passes, 1));
     let closed = shared.close(alloc, passes).ok()?;
     let is_refused = early == Some(RetireFault::NotEnded)
         && wrong == Some(RetireFault::PassMismatch)
         && twice == Some(RetireFault::NotEnded);
-    Some(is_refused && right.is_none() && left == 4 && entries_of_north(&closed)? == (4, 4))
+    Some(
+        is_refused
+            && right.is_none()
+            && left == (Some(4), Some(0))
+            && entries_of_north(&closed)? == (4, 4),
+    )
 }
 
 #[test]
