@@ -1,3 +1,4 @@
+pub mod Crossing
 pub mod Stepping
 pub mod Errands
 pub mod Writings
