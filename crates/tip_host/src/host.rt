@@ -309,8 +309,8 @@ impl<S: RowLog + Drop> Host<S> {
         fits(&self.books.journals, pass, realm)
     }
 
-    /// Whether these passes have the entries of all journals, each in one pass, once; and then how many each journal has, by
-    /// declaration, then by epoch.
+    /// Whether these passes have the entries of all journals that are kept, each in one pass, once; and then how many each journal
+    /// has, by declaration, then by epoch.
     pub fn audit(&self, alloc: Global, passes: &[Pass<Entry>]) -> Result<Vec<Reported>, AuditFault>
         ensures audited { OnOk result (AreAudited self.now.books.journals passes.now) }
         ensures report { IfOk result (λ report. report.items ≡ report_of self.now.books.journals) }

@@ -6,3 +6,4 @@ pub mod ReportLemmas
 pub mod LawLemmas
 pub mod Counting
 pub mod Retirings
+pub mod StillAudited

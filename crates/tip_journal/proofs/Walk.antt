@@ -18,14 +18,14 @@ use Rattle.tip_journal.proofs.HistoryLemmas.{slice_get-changed_at, slice_get-cha
 use Rattle.tip_journal.proofs.Lists.{All-at, All-from_at, All-middle, All-at_all, All-from_at_all, at-join, at-map, at-parts, some-of}
 use Rattle.tip_journal.proofs.Marks.{Stands, stands-blank, stands-next, stands-own, stands-other, can-mark, audited-full, full-audited}
 
-is_of-yes : {E : Type 0} (realm epoch : ℕ) (x : Noted E) → is_of realm epoch x ≡ true → (x.realm ≡ realm) × (x.epoch ≡ epoch)
+pub is_of-yes : {E : Type 0} (realm epoch : ℕ) (x : Noted E) → is_of realm epoch x ≡ true → (x.realm ≡ realm) × (x.epoch ≡ epoch)
 is_of-yes realm epoch x mine = (grind (arith, nat_tests, mine), grind (arith, nat_tests, mine))
 
 is_of-no : {E : Type 0} (realm epoch : ℕ) (x : Noted E) → is_of realm epoch x ≡ false → x.realm ≡ realm → x.epoch ≡ epoch → ⊥
 is_of-no realm epoch x theirs same epochs = grind (arith, nat_tests, theirs, same, epochs)
 
 -- no two journals of a realm are of one epoch
-place-before : {S E : Type 0} (history : List (Written S E)) (k m : ℕ) (a b : Written S E) → IsHistory history → slice_get history k ≡ Some a → slice_get history m ≡ Some b → k < m → a.epoch < b.epoch
+pub place-before : {S E : Type 0} (history : List (Written S E)) (k m : ℕ) (a b : Written S E) → IsHistory history → slice_get history k ≡ Some a → slice_get history m ≡ Some b → k < m → a.epoch < b.epoch
 place-before history k m a b is here there less =
     let epoch : Written _ _ → ℕ = λ x. x.epoch in
     let within : m < length (map epoch history) = omega (arith, length-map history epoch, slice_get_within history m b there) in
@@ -122,13 +122,13 @@ walked-next journals passes pass held sheets is = record {
 }
 
 -- what an entry names has a journal
-hosted-named : {S E : Type 0} (journals : List (List (Written S E))) (x : Noted E) (place : ℕ) → Names journals x place → IsHosted journals x
+pub hosted-named : {S E : Type 0} (journals : List (List (Written S E))) (x : Noted E) (place : ℕ) → Names journals x place → IsHosted journals x
 hosted-named journals x place named =
     let first = some-of (λ j. j.epoch ≡ x.epoch) (at journals x.realm place) named in
     let parts = at-parts journals x.realm place first.0 first.1 in
     rw parts.1 (place, first.0, slice_get_within parts.0 place first.0 parts.2, get_or_from_slice_get parts.0 place first.0 first.0 parts.2, first.2)
 
-named-hosted : {S E : Type 0} (journals : List (List (Written S E))) (x : Noted E) → IsHosted journals x → (place : ℕ) × Names journals x place
+pub named-hosted : {S E : Type 0} (journals : List (List (Written S E))) (x : Noted E) → IsHosted journals x → (place : ℕ) × Names journals x place
 named-hosted journals x hosted =
     let history = some-of (Any (λ j. j.epoch ≡ x.epoch)) (slice_get journals x.realm) hosted in
     let found = history.2 in
@@ -141,7 +141,7 @@ each-at journals passes realm place journal is there =
     let parts = at-parts journals realm place journal there in
     All-at (λ j. IsAudited realm j.epoch j.entries passes) parts.0 place journal (rw parts.1 at (is.each realm)) parts.2
 
-each-from : {S E : Type 0} (journals : List (List (Written S E))) (passes : List (Held E)) (realm : ℕ) → ((place : ℕ) (journal : Written S E) → at journals realm place ≡ Some journal → IsAudited realm journal.epoch journal.entries passes) → IfSome (slice_get journals realm) (All (λ journal. IsAudited realm journal.epoch journal.entries passes))
+pub each-from : {S E : Type 0} (journals : List (List (Written S E))) (passes : List (Held E)) (realm : ℕ) → ((place : ℕ) (journal : Written S E) → at journals realm place ≡ Some journal → IsAudited realm journal.epoch journal.entries passes) → IfSome (slice_get journals realm) (All (λ journal. IsAudited realm journal.epoch journal.entries passes))
 each-from {S} {E} journals passes realm each = go (slice_get journals realm) refl
   where
     go : (history : Option (List (Written S E))) → slice_get journals realm ≡ history → IfSome history (All (λ journal. IsAudited realm journal.epoch journal.entries passes))

@@ -10,7 +10,7 @@ use crate::{Journal, Noted};
 use std::alloc::{AllocError, Global};
 use std::marker::Model;
 
-/// The journals of all realms. A realm is known by its place in the order of declaration, from 0. Its last journal is the current one; the others have ended.
+/// The journals of all realms. A realm is known by its place in the order of declaration, from 0. Its last journal is the current one; the others have ended, and may be let go, the oldest first.
 #[derive(Drop)]
 pub struct Journals<S, E> {
     realms: Vec<History<S, E>>,

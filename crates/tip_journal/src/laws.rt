@@ -1,11 +1,12 @@
 //! Laws of journals and passes, each carried by a function that does nothing.
-ghost use Rattle.std.specs.Prelude.{◌≡◌, ◌≢◌, ◌+◌, ◌<◌, ◌≤◌, ◌++◌, ◌∷◌, [], ℕ, List, Some, length, slice_get, sum_by, if◌then◌else◌, Any};
+ghost use Rattle.std.specs.Prelude.{◌≡◌, ◌≢◌, ◌↔◌, ◌+◌, ◌<◌, ◌≤◌, ◌++◌, ◌∷◌, [], ℕ, List, Some, length, slice_get, sum_by, if◌then◌else◌, All, Any};
 ghost use Rattle.std.specs.Option.{option_map};
 ghost use Rattle.tip_journal.specs.Audit.{AreAudited};
 ghost use Rattle.tip_journal.specs.Fits.{Fits};
 ghost use Rattle.tip_journal.specs.Journal.{Written, at_number, with_entry};
-ghost use Rattle.tip_journal.specs.Journals.{at, changed_at, current, epoch_at, last_number, renewed, with_current, without_last};
+ghost use Rattle.tip_journal.specs.Journals.{IsHistory, at, changed_at, current, epoch_at, last_number, renewed, with_current, without_last};
 ghost use Rattle.tip_journal.specs.Pass.{Held, is_of, last_own, own};
+ghost use Rattle.tip_journal.specs.Retiring.{IsRetired};
 ghost use Rattle.tip_journal.specs.declared.pass.Noted.{Noted};
 
 /// A change of a realm's current journal is seen there, and nowhere else.
@@ -72,4 +73,13 @@ pub fn what_is_audited_is_noted<S, E>()
         Any (λ pass. Any (λ one. (one.number ≡ number)
         × (at_number journal.entries number ≡ Some one.entry))
         (own realm journal.epoch pass.noted)) passes }
+{}
+
+/// Where a journal was retired, what is left is right exactly where all that was there before is: to let go of journals hides nothing
+/// from a later audit.
+pub fn what_is_left_is_right_where_all_was<S, E>()
+    ensures { (old new : List (List (Written S E))) (before after : List (Held E))
+        (realm epoch entries : ℕ) → All IsHistory old →
+        IsRetired old new before after realm epoch entries →
+        AreAudited new after ↔ AreAudited old before }
 {}

@@ -33,7 +33,7 @@ pub struct Closed<S> {
     pub journals: Journals<Opening, Entry>,
     /// Of each realm, how many were let go, and how many entries they had.
     pub retired: Vec<Retired>,
-    /// How many entries each journal has, by declaration, then by epoch.
+    /// How many entries each of these journals has, by declaration, then by epoch.
     pub report: Vec<Reported>,
 }
 
