@@ -1,20 +1,22 @@
 //! `tipd`: the command line, and the input and output of the process.
 #![tactic(auto)]
 
+mod serving;
 mod store;
-mod words;
 
+use crate::serving::{Setting, serve, serve_in};
 use crate::store::{list_store, play_in_store};
-use crate::words::{Order, read_words};
 use clap::Error;
 use clap::error::ErrorKind;
 use std::env;
 use std::fmt::Display;
 use std::io::{self, BufReader, BufWriter};
 use std::process::ExitCode;
+use tip_duties::ServeFault;
 use tip_history::play;
 use tip_listing::RowsFault;
 use tip_play::PlayFault;
+use tip_words::{Order, read_words};
 
 /// Says what is wrong, and how the process ends: where the text can't be written, the status still tells.
 fn fail<F: Display + Drop>(rt: &HostRuntime, fault: F, status: u8) -> ExitCode {
@@ -22,19 +24,38 @@ fn fail<F: Display + Drop>(rt: &HostRuntime, fault: F, status: u8) -> ExitCode {
     ExitCode::from(status)
 }
 
-fn fail_play(rt: &HostRuntime, fault: PlayFault) -> ExitCode {
-    fail(rt, fault, fault.status())
+fn end_play(rt: &HostRuntime, played: Result<(), PlayFault>) -> ExitCode {
+    match played {
+        Ok(()) => ExitCode::SUCCESS,
+        Err(fault) => fail(rt, fault, fault.status()),
+    }
 }
 
-fn fail_rows(rt: &HostRuntime, fault: RowsFault) -> ExitCode {
-    fail(rt, fault, fault.status())
+fn end_rows(rt: &HostRuntime, listed: Result<(), RowsFault>) -> ExitCode {
+    match listed {
+        Ok(()) => ExitCode::SUCCESS,
+        Err(fault) => fail(rt, fault, fault.status()),
+    }
 }
 
-/// Prints what `clap` says: help on standard output, what is wrong on standard error.
-fn show(rt: &HostRuntime, error: Error) -> ExitCode {
+fn end_serve(rt: &HostRuntime, served: Result<(), ServeFault>) -> ExitCode {
+    match served {
+        Ok(()) => ExitCode::SUCCESS,
+        Err(fault) => {
+            let status = fault.status();
+            fail(rt, fault, status)
+        }
+    }
+}
+
+/// Words that ask for nothing. `clap` says why, and its help: that on standard output, what is wrong on standard error.
+fn end_words(rt: &HostRuntime, error: Error) -> ExitCode {
+    if error.kind() == ErrorKind::OutOfMemory {
+        return end_play(rt, Err(PlayFault::Memory));
+    }
     let status = error.exit_code() as u8;
     match error.print(rt) {
-        Err(_) if status == 0 => fail_play(rt, PlayFault::Write),
+        Err(_) if status == 0 => end_play(rt, Err(PlayFault::Write)),
         _ => ExitCode::from(status),
     }
 }
@@ -56,26 +77,29 @@ fn given_words(rt: &HostRuntime) -> Result<Vec<String>, PlayFault> {
     Ok(args.collect(rt.alloc())?)
 }
 
-/// Does what the command line asks for.
-fn obey(rt: &HostRuntime) -> ExitCode {
-    let words = match given_words(rt) {
-        Ok(words) => words,
-        Err(fault) => return fail_play(rt, fault),
-    };
-    match read_words(rt.alloc(), &words) {
-        Ok(Order::Play { store }) => match play_all(rt, store) {
-            Ok(()) => ExitCode::SUCCESS,
-            Err(fault) => fail_play(rt, fault),
-        },
-        Ok(Order::Rows { store }) => match list_store(rt, store) {
-            Ok(()) => ExitCode::SUCCESS,
-            Err(fault) => fail_rows(rt, fault),
-        },
-        Err(error) if error.kind() == ErrorKind::OutOfMemory => fail_play(rt, PlayFault::Memory),
-        Err(error) => show(rt, error),
-    }
-}
-
+/// Does what the command line asks for. `main` alone has threads to give to a server.
 fn main(rt: HostRuntime) -> io::Result<ExitCode> {
-    Ok(obey(&rt))
+    let words = match given_words(&rt) {
+        Ok(words) => words,
+        Err(fault) => return Ok(end_play(&rt, Err(fault))),
+    };
+    let order = match read_words(rt.alloc(), &words) {
+        Ok(order) => order,
+        Err(error) => return Ok(end_words(&rt, error)),
+    };
+    Ok(match order {
+        Order::Play { store } => end_play(&rt, play_all(&rt, store)),
+        Order::Rows { store } => end_rows(&rt, list_store(&rt, store)),
+        Order::Serve { config, sessions } => {
+            let Setting { config, store } = match Setting::of(&rt, config) {
+                Ok(setting) => setting,
+                Err(fault) => return Ok(end_serve(&rt, Err(fault))),
+            };
+            let served = match store {
+                Some(conn) => serve_in(&rt, rt.alloc(), conn, &config, sessions),
+                None => serve(&rt, rt.alloc(), &config, sessions),
+            };
+            end_serve(&rt, served)
+        }
+    })
 }

@@ -1,0 +1,150 @@
+//! Two realms that are served on two ports of one process, and a client of each that commits once. What no clause says: that
+//! sockets are accepted, lines read and answers written, and that the server ends with its audit.
+#![tactic(auto)]
+
+mod told;
+
+use crate::told::{Teller, Told};
+use std::alloc::{AllocError, Global};
+use std::io::{self, Write};
+use std::net::{Net, TcpListener, TcpStream};
+use std::process::ExitCode;
+use std::sync::{Arc, Wait};
+use std::thread;
+use std::thread::Threads;
+use std::time::{Clock, Duration};
+use tip_client::play_lines;
+use tip_duties::ServeFault;
+use tip_line::{Command, Response, Word};
+use tip_rows::MemRows;
+use tip_serve::host_realms;
+use tip_settings::read_config;
+
+/// The ports lie below those that Linux gives to clients, so that no outgoing connection holds one.
+const CONFIG: &[u8] = b"store = \":memory:\"
+[[realm]]
+name = \"north\"
+listen = \"127.0.0.1:23472\"
+address = \"127.0.0.1:23472\"
+votes = \"y\"
+connections = 8
+transactions = 8
+boxes = 1
+entries = 100
+[[realm]]
+name = \"south\"
+listen = \"127.0.0.1:23473\"
+address = \"127.0.0.1:23473\"
+votes = \"y\"
+connections = 8
+transactions = 8
+boxes = 1
+entries = 100
+";
+
+const PLACES: [&str; 2] = ["127.0.0.1:23472", "127.0.0.1:23473"];
+
+/// How many connections end before the server does.
+const SESSIONS: u32 = 2;
+
+/// Another run of this program may have the ports: then it is tried again.
+const TRIES: u32 = 300;
+
+const REST_MILLIS: u64 = 200;
+
+/// Serves until the sessions have ended.
+fn serve<R>(rt: R, alloc: Global, told: Arc<Told>) -> Result<(), ServeFault>
+where
+    R: Net<Listener = TcpListener, Stream = TcpStream>
+        + Threads
+        + Wait
+        + Clock
+        + Eprint
+        + Copy
+        + Send
+        + Drop
+        + 'static,
+{
+    let served = serve_to(rt, alloc, &told);
+    told.end(&rt);
+    served
+}
+
+fn serve_to<R>(rt: R, alloc: Global, told: &Arc<Told>) -> Result<(), ServeFault>
+where
+    R: Net<Listener = TcpListener, Stream = TcpStream>
+        + Threads
+        + Wait
+        + Clock
+        + Eprint
+        + Copy
+        + Send
+        + Drop
+        + 'static,
+{
+    let config = read_config(alloc, CONFIG).map_err(|_| ServeFault::Config)?;
+    let mut output = Teller {
+        rt,
+        told: Arc::try_clone(told)?,
+    };
+    let store = MemRows::new(alloc);
+    host_realms(&rt, alloc, store, &config, Some(SESSIONS), &mut output)
+}
+
+/// A client: what it is answered to IDENTIFY, BEGIN and COMMIT.
+fn answers(alloc: Global, socket: &TcpStream) -> Result<Vec<Response>, AllocError> {
+    let commands = [
+        Command::Identify {
+            low: 3,
+            high: 3,
+            primary: None,
+            secondary: Word::new(alloc, b"-").map_err(|_| AllocError)?,
+        },
+        Command::Begin,
+        Command::Commit,
+    ];
+    play_lines(alloc, &mut &*socket, &mut &*socket, &commands).map_err(|_| AllocError)
+}
+
+/// Plays the client of each realm, and prints what it is answered.
+fn play_clients<R, W>(rt: &R, alloc: Global, output: &mut W) -> io::Result<()>
+where
+    R: Net<Listener = TcpListener, Stream = TcpStream>,
+    W: Write,
+{
+    for place in PLACES {
+        let socket = TcpStream::connect(rt, place)?;
+        for response in answers(alloc, &socket)? {
+            writeln!(output, "{response}")?;
+        }
+    }
+    Ok(())
+}
+
+fn main(rt: HostRuntime) -> io::Result<ExitCode> {
+    let alloc = rt.alloc();
+    let mut output = io::writer(&rt);
+    for _ in 0..TRIES {
+        let told = Arc::new(alloc, Told::new(alloc))?;
+        let theirs = Arc::try_clone(&told)?;
+        let server = thread::spawn(&rt, move || serve(rt, alloc, theirs))?;
+        if told.wait_ready(&rt) {
+            play_clients(&rt, alloc, &mut output)?;
+        }
+        match server.join(&rt) {
+            Ok(()) => {
+                told.print(&rt, &mut output)?;
+                return Ok(ExitCode::SUCCESS);
+            }
+            Err(ServeFault::Listen { .. }) => {
+                thread::sleep(&rt, Duration::from_millis(REST_MILLIS));
+            }
+            Err(fault) => {
+                let status = fault.status();
+                eprintln!(rt; "{fault}")?;
+                return Ok(ExitCode::from(status));
+            }
+        }
+    }
+    Ok(ExitCode::FAILURE)
+}

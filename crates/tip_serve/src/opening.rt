@@ -1,0 +1,249 @@
+//! Connections that are opened, either way.
+ghost use Rattle.tip_branch.specs.Always.{Always};
+
+use crate::inbox::Arrival;
+use crate::rows::fresh;
+use crate::running::{EVENT_STACK, Link, peer_of, run_session};
+use crate::server::{Live, Server};
+use std::alloc::{AllocError, Global};
+use std::sync::{Arc, Wait};
+use std::thread::{Builder, Threads};
+use tip_branch::{Branch, HeldFresh};
+use tip_duties::{Connection, Note};
+use tip_host::{HostEvent, HostFault, Seat, Stepped};
+use tip_line::Refusal;
+use tip_rows::RowLog;
+use tip_session::DeskFault;
+use tip_shared::run_errand;
+
+/// Why a socket is no connection.
+#[derive(Drop)]
+pub enum NotOpened {
+    Refused(Refusal),
+    Fault(HostFault),
+    Memory,
+}
+
+impl NotOpened {
+    /// Why, in a word.
+    fn word(&self) -> &'static str {
+        match self {
+            NotOpened::Refused(Refusal::Full) => "full",
+            NotOpened::Refused(Refusal::Frozen) => "frozen",
+            NotOpened::Refused(_) => "refused",
+            NotOpened::Fault(HostFault::Stopped) => "stopped",
+            NotOpened::Fault(HostFault::Memory) | NotOpened::Memory => "memory",
+            NotOpened::Fault(_) => "pass-mismatch",
+        }
+    }
+}
+
+impl From<AllocError> for NotOpened {
+    fn from(_: AllocError) -> NotOpened {
+        NotOpened::Memory
+    }
+}
+
+impl<'a, S: RowLog + Drop + Send + 'static> Server<'a, S>
+where
+    S::Medium: Send,
+{
+    /// Makes a socket a connection with these boxes, and starts its threads. One that is not taken is closed.
+    pub fn open<R>(
+        &mut self,
+        rt: &R,
+        arrival: Arrival,
+        is_second: bool,
+        boxes: Vec<Box<dyn Branch + Send>>,
+    )
+    where
+        R: Wait + Threads + Eprint + Copy + Send + Drop + 'static,
+    {
+        match self.open_at_host(rt, &arrival, boxes) {
+            Ok(seat) => self.run(rt, arrival, seat),
+            Err(NotOpened::Refused(Refusal::Frozen)) if !is_second => {
+                self.full = Some(arrival.realm);
+                if arrival.dial.is_none() {
+                    self.held = Some(arrival);
+                }
+            }
+            Err(fault) => self.note_refused(rt, &arrival, fault),
+        }
+    }
+
+    /// The connection's place is made ready, and it is opened at the host.
+    fn open_at_host<R: Wait>(
+        &mut self,
+        rt: &R,
+        arrival: &Arrival,
+        boxes: Vec<Box<dyn Branch + Send>>,
+    ) -> Result<Seat, NotOpened> {
+        self.reserve(rt, arrival.realm)?;
+        let boxes = fresh(self.alloc, boxes)?;
+        let event = event_of(arrival, boxes)?;
+        match self.step(rt, arrival.realm, event) {
+            Ok(Stepped { reply, .. }) => match (reply.opened, reply.refusal) {
+                (Some(seat), _) => Ok(seat),
+                (None, Some(refusal)) => Err(NotOpened::Refused(refusal)),
+                (None, None) => Err(NotOpened::Memory),
+            },
+            Err(fault) => Err(NotOpened::Fault(fault)),
+        }
+    }
+
+    /// Makes room for one session more of a realm: its place, its end, and its pass.
+    fn reserve<R: Wait>(&mut self, rt: &R, realm: usize) -> Result<(), AllocError> {
+        if self.free.is_empty() {
+            let place = self.live.len();
+            self.free.reserve(place.saturating_add(1))?;
+            self.live.push(None)?;
+            self.free.push(place)?;
+        }
+        let sessions = self.live.len();
+        self.inbox.reserve(rt, sessions)?;
+        match self.realms.get_mut(realm) {
+            Some(served) => served.reserve(),
+            None => Ok(()),
+        }
+    }
+
+    /// Starts the threads of a connection that was opened at the host; where there is none for it, it is lost.
+    fn run<R>(&mut self, rt: &R, arrival: Arrival, seat: Seat)
+    where
+        R: Wait + Threads + Eprint + Copy + Send + Drop + 'static,
+    {
+        let is_accepted = arrival.dial.is_none();
+        let Some(place) = self.free.pop() else {
+            return;
+        };
+        self.count(seat);
+        if let Err(why) = self.start(rt, arrival, seat, place) {
+            self.lose(rt, seat, why);
+            self.uncount(rt, seat);
+            let _freed = self.free.push(place);
+            if is_accepted {
+                self.ended = self.ended.saturating_add(1);
+            }
+        }
+    }
+
+    /// Starts the threads of a connection; else it says in a word why there are none.
+    fn start<R>(
+        &mut self,
+        rt: &R,
+        arrival: Arrival,
+        seat: Seat,
+        place: usize,
+    ) -> Result<(), &'static str>
+    where
+        R: Wait + Threads + Eprint + Copy + Send + Drop + 'static,
+    {
+        let link = self.link(arrival, seat, place).map_err(|_| "memory")?;
+        let theirs = Arc::try_clone(&link).map_err(|_| "memory")?;
+        link.note_opened(rt, self.alloc);
+        let own = *rt;
+        let alloc = self.alloc;
+        let pass = self.shared.pass(alloc);
+        let thread = Builder::new()
+            .stack_size(EVENT_STACK)
+            .spawn(rt, move || run_session(own, alloc, theirs, pass))
+            .map_err(|_| "no-thread")?;
+        if let Some(there) = self.live.get_mut(place) {
+            *there = Some(Live { link, thread });
+        }
+        Ok(())
+    }
+
+    /// What the threads of a connection share.
+    fn link(&self, arrival: Arrival, seat: Seat, place: usize) -> Result<Arc<Link<S>>, AllocError> {
+        let Arrival {
+            realm,
+            socket,
+            dial,
+        } = arrival;
+        let Some(served) = self.realms.get(realm) else {
+            return Err(AllocError);
+        };
+        let link = Link {
+            shared: Arc::try_clone(&self.shared)?,
+            inbox: Arc::try_clone(&self.inbox)?,
+            log: Arc::try_clone(&self.log)?,
+            socket,
+            name: served.config.name.copy()?,
+            seat,
+            place,
+            dial,
+        };
+        Ok(Arc::new(self.alloc, link)?)
+    }
+
+    /// A connection was opened that can't be served.
+    fn lose<R: Wait + Eprint>(&mut self, rt: &R, seat: Seat, why: &str)
+        requires { Always }
+    {
+        if let Some(served) = self.realms.get(seat.realm) {
+            let connection = Connection {
+                realm: &served.config.name,
+                epoch: seat.epoch,
+                number: seat.number,
+            };
+            self.log
+                .note(rt, self.alloc, Note::Ended { connection, why });
+        }
+        self.make(rt, seat.realm, HostEvent::lost(seat));
+    }
+
+    /// One event of the top body's own, and the errands that come of it. Where memory is wanting the server is to end.
+    pub fn make<R: Wait>(&mut self, rt: &R, realm: usize, event: HostEvent) {
+        let stepped = match self.step(rt, realm, event) {
+            Ok(stepped) => stepped,
+            Err(fault) => {
+                self.is_short = self.is_short || matches!(fault, HostFault::Memory);
+                return;
+            }
+        };
+        let Stepped { work, .. } = stepped;
+        let Ok(work) = work else {
+            self.is_short = true;
+            return;
+        };
+        if let Some(served) = self.realms.get_mut(realm) {
+            let ran = run_errand(rt, self.alloc, &self.shared, &mut served.own, work);
+            if matches!(ran, Err(DeskFault::Memory)) {
+                self.is_short = true;
+            }
+        }
+    }
+
+    /// A socket is no connection: the operator is told why.
+    pub fn note_refused<R: Wait + Eprint>(&self, rt: &R, arrival: &Arrival, why: NotOpened) {
+        let Some(served) = self.realms.get(arrival.realm) else {
+            return;
+        };
+        let Ok(peer) = peer_of(self.alloc, &arrival.socket) else {
+            return;
+        };
+        self.log.note(
+            rt,
+            self.alloc,
+            Note::Refused {
+                realm: &served.config.name,
+                peer: peer.as_str(),
+                why: why.word(),
+            },
+        );
+    }
+}
+
+/// The event of a socket that is to be a connection.
+fn event_of(arrival: &Arrival, boxes: HeldFresh) -> Result<HostEvent, AllocError> {
+    Ok(match &arrival.dial {
+        None => HostEvent::open(arrival.realm, boxes),
+        Some(dial) => HostEvent::dial(
+            arrival.realm,
+            dial.address.copy()?,
+            dial.purpose.copy()?,
+            boxes,
+        ),
+    })
+}

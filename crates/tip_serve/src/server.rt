@@ -1,0 +1,297 @@
+//! What the top body keeps, and what it is to do next.
+use crate::doubts::{Doubts, Maker};
+use crate::inbox::{Arrival, Inbox, News, Notice};
+use crate::log::Log;
+use crate::opening::NotOpened;
+use crate::rows::count_in;
+use crate::running::Link;
+use std::alloc::Global;
+use std::net::{Net, TcpListener, TcpStream};
+use std::sync::{Arc, Wait};
+use std::thread::{JoinHandle, Threads};
+use tip_branch::{Branch, Phase, Plan};
+use tip_duties::Note;
+use tip_honest::Entry;
+use tip_host::{HostEvent, HostFault, Stepped};
+use tip_journal::Pass;
+use tip_recovery::Recovery;
+use tip_rows::RowLog;
+use tip_settings::RealmConfig;
+use tip_shared::{Session, Shared};
+use tip_stored::RenewFault;
+
+/// A realm that is served.
+#[derive(Drop)]
+pub struct Served<'a> {
+    pub config: &'a RealmConfig,
+    /// What the boxes of each connection promise.
+    pub plans: Vec<Plan>,
+    /// The top body's own pass in this start: of the connections that were opened, and of what was resumed.
+    pub own: Pass<Entry>,
+    /// The passes of the sessions that have ended, and the top body's of earlier starts, until their journals are let go.
+    pub passes: Vec<Pass<Entry>>,
+    /// The starts whose journals are kept, the oldest first; the last one is the present one.
+    pub starts: Vec<Start>,
+    /// The epoch in which its journal was full and it was not renewed, though a session had asked.
+    pub stuck: Option<u32>,
+}
+
+/// A start of a realm.
+#[derive(Drop)]
+pub struct Start {
+    pub epoch: u32,
+    /// How many sessions of it have not ended.
+    pub sessions: usize,
+}
+
+/// A connection whose threads run.
+#[derive(Drop)]
+pub struct Live<S> {
+    pub link: Arc<Link<S>>,
+    pub thread: JoinHandle<Session>,
+}
+
+/// What the top body keeps.
+#[derive(Drop)]
+pub struct Server<'a, S> {
+    pub alloc: Global,
+    pub realms: Vec<Served<'a>>,
+    pub shared: Arc<Shared<S>>,
+    pub inbox: Arc<Inbox>,
+    pub log: Arc<Log>,
+    pub doubts: Arc<Doubts>,
+    pub live: Vec<Option<Live<S>>>,
+    /// The places of `live` at which nobody is.
+    pub free: Vec<usize>,
+    /// The threads that call other managers.
+    pub callers: Vec<Option<JoinHandle<()>>>,
+    /// How many accepted connections are to end.
+    pub sessions: Option<u32>,
+    pub ended: u32,
+    /// Memory was wanting where the server can't do without.
+    pub is_short: bool,
+    /// A realm whose journal is full: it is renewed next, and then this socket of it is tried again.
+    pub full: Option<usize>,
+    pub held: Option<Arrival>,
+}
+
+/// What the top body does next, once it has made boxes for it.
+#[derive(Drop)]
+pub enum Task {
+    /// A socket is to be a connection; `is_second` once its realm was renewed for it.
+    Open { arrival: Arrival, is_second: bool },
+    /// A realm is to start again, by what is stored of it.
+    Renew { realm: usize, recovery: Recovery },
+}
+
+impl<'a, S: RowLog + Drop + Send + 'static> Server<'a, S>
+where
+    S::Medium: Send,
+{
+    /// What is to be done next; None where the server is to end.
+    pub fn next<R: Wait + Threads + Eprint>(&mut self, rt: &R) -> Option<Task> {
+        for _ in rt.forever() {
+            if let Some(task) = self.held_task(rt) {
+                return Some(task);
+            }
+            if self.is_done() {
+                return None;
+            }
+            match self.inbox.next(rt) {
+                Some(Notice::Arrived(arrival)) => {
+                    return Some(Task::Open {
+                        arrival,
+                        is_second: false,
+                    });
+                }
+                Some(Notice::Ended(place)) => self.join(rt, place),
+                Some(Notice::Called(place)) => self.join_caller(rt, place),
+                Some(Notice::Frozen { realm, epoch }) => self.note_full(rt, realm, epoch),
+                Some(Notice::News(news)) => self.note_news(rt, &news),
+                None => {}
+            }
+        }
+        unreachable!()
+    }
+
+    /// How many boxes a task wants.
+    pub fn box_count(&self, task: &Task) -> usize {
+        match task {
+            Task::Open { arrival, .. } => match self.realms.get(arrival.realm) {
+                Some(served) => served.plans.len(),
+                None => 0,
+            },
+            Task::Renew { recovery, .. } => count_in(recovery.rows()),
+        }
+    }
+
+    /// What the box at a place promises, and in which phase it is: those of a connection by the realm's letters, those of stored
+    /// rows ready and willing.
+    pub fn box_at(&self, task: &Task, place: usize) -> (Plan, Phase) {
+        let willing = (Plan::Yes, Phase::Ready);
+        match task {
+            Task::Open { arrival, .. } => match self.realms.get(arrival.realm) {
+                Some(served) => match served.plans.get(place) {
+                    Some(plan) => (*plan, Phase::Active),
+                    None => willing,
+                },
+                None => willing,
+            },
+            Task::Renew { .. } => willing,
+        }
+    }
+
+    /// Does a task, with the boxes that it wants.
+    pub fn act<R>(&mut self, rt: &R, task: Task, boxes: Vec<Box<dyn Branch + Send>>)
+    where
+        R: Net<Listener = TcpListener, Stream = TcpStream>
+            + Wait
+            + Threads
+            + Eprint
+            + Copy
+            + Send
+            + Drop
+            + 'static,
+    {
+        match task {
+            Task::Open { arrival, is_second } => self.open(rt, arrival, is_second, boxes),
+            Task::Renew { realm, recovery } => self.renew(rt, realm, recovery, boxes),
+        }
+    }
+
+    /// Leaves a task undone, since there is no memory for its boxes.
+    pub fn forgo<R: Wait + Eprint>(&mut self, rt: &R, task: Task) {
+        match task {
+            Task::Open { arrival, .. } => self.note_refused(rt, &arrival, NotOpened::Memory),
+            Task::Renew { realm, .. } => self.note_stuck(rt, realm, RenewFault::Memory),
+        }
+    }
+
+    /// Whether so many connections have ended, or no more can be served.
+    fn is_done(&self) -> bool {
+        self.is_short || self.sessions.is_some_and(|sessions| self.ended >= sessions)
+    }
+
+    /// What waits for a renewal: the renewal itself, and then the socket for which it was wanted.
+    fn held_task<R: Wait + Eprint>(&mut self, rt: &R) -> Option<Task> {
+        if let Some(realm) = self.full.take() {
+            match self.shared.doubts(rt, self.alloc, realm) {
+                Ok(recovery) => return Some(Task::Renew { realm, recovery }),
+                Err(fault) => self.note_stuck(rt, realm, fault),
+            }
+        }
+        let arrival = self.held.take()?;
+        Some(Task::Open {
+            arrival,
+            is_second: true,
+        })
+    }
+
+    /// Tells the operator what has become of a row.
+    pub fn note_news<R: Wait + Eprint>(&self, rt: &R, news: &News) {
+        let note = match news {
+            News::Decided {
+                transaction,
+                is_committed,
+            } => Note::Decided {
+                transaction,
+                outcome: if *is_committed { "commit" } else { "abort" },
+            },
+            News::StoreRefused { transaction } => Note::StoreRefused { transaction },
+        };
+        self.log.note(rt, self.alloc, note);
+    }
+
+    /// Tells the operator of transactions in doubt that he was not told of: those of a realm, or of one connection of it.
+    pub fn say_doubts<R: Wait + Eprint>(&self, rt: &R, realm: usize, maker: Option<Maker>) {
+        let Some(served) = self.realms.get(realm) else {
+            return;
+        };
+        let name = &served.config.name;
+        let Ok(unsaid) = self.doubts.take_unsaid(rt, name, maker) else {
+            return;
+        };
+        for doubt in unsaid.iter() {
+            let note = Note::InDoubt {
+                transaction: &doubt.transaction,
+                superior: &doubt.superior,
+            };
+            self.log.note(rt, self.alloc, note);
+        }
+    }
+
+    /// A session has found a realm full: it is renewed once in that epoch.
+    fn note_full<R: Wait + Eprint>(&mut self, rt: &R, realm: usize, epoch: u32) {
+        if !self.shared.is_frozen(rt, realm, epoch) {
+            return;
+        }
+        let Some(served) = self.realms.get_mut(realm) else {
+            return;
+        };
+        if served.stuck == Some(epoch) {
+            return;
+        }
+        served.stuck = Some(epoch);
+        self.log.note(
+            rt,
+            self.alloc,
+            Note::Frozen {
+                realm: &served.config.name,
+                epoch,
+            },
+        );
+        self.full = Some(realm);
+    }
+
+    /// A realm whose journal is full did not start again: its sockets are shut all the same.
+    pub fn note_stuck<R: Wait + Eprint>(&mut self, rt: &R, realm: usize, fault: RenewFault) {
+        if let Some(served) = self.realms.get(realm) {
+            self.log.note(
+                rt,
+                self.alloc,
+                Note::NotRenewed {
+                    realm: &served.config.name,
+                    why: why_stuck(fault),
+                },
+            );
+        }
+        for live in self.live.iter() {
+            if let Some(live) = live
+                && live.link.seat.realm == realm
+            {
+                live.link.shut();
+            }
+        }
+    }
+
+    /// One event of the top body's own.
+    pub fn step<R: Wait>(
+        &mut self,
+        rt: &R,
+        realm: usize,
+        event: HostEvent,
+    ) -> Result<Stepped, HostFault> {
+        let Some(served) = self.realms.get_mut(realm) else {
+            return Err(HostFault::PassMismatch);
+        };
+        match self.shared.step(rt, self.alloc, &mut served.own, event) {
+            Ok(stepped) => Ok(stepped),
+            Err((fault, _)) => Err(fault),
+        }
+    }
+}
+
+/// Why a realm was not renewed, in a word.
+fn why_stuck(fault: RenewFault) -> &'static str {
+    match fault {
+        RenewFault::Stopped => "stopped",
+        RenewFault::NoRealm => "no-realm",
+        RenewFault::NotRead => "not-read",
+        RenewFault::BadRow => "bad-row",
+        RenewFault::EpochEnd => "epoch-end",
+        RenewFault::NotInDoubt => "not-in-doubt",
+        RenewFault::Unadopted => "unadopted",
+        RenewFault::NotRaised => "not-raised",
+        RenewFault::Memory => "memory",
+    }
+}

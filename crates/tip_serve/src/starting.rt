@@ -1,0 +1,283 @@
+//! The start of the server.
+ghost use Rattle.tip_branch.specs.Always.{Always};
+
+use crate::accepting::accept_all;
+use crate::doubts::{Doubts, Watcher};
+use crate::inbox::Inbox;
+use crate::log::Log;
+use crate::rows::dealt_to_all;
+use crate::running::SMALL_STACK;
+use crate::server::{Served, Server, Start};
+use std::alloc::{AllocError, Global};
+use std::io::Write;
+use std::net::{Net, TcpListener, TcpStream};
+use std::sync::{Arc, Wait};
+use std::thread::{Builder, JoinHandle, Threads};
+use std::time::Clock;
+use tip_branch::Branch;
+use tip_core::Core;
+use tip_duties::{Duties, Heading, ServeFault, declarations, has_row_ahead, plans_for};
+use tip_honest::Entry;
+use tip_host::Host;
+use tip_journal::Pass;
+use tip_line::Realm;
+use tip_recovery::Recovery;
+use tip_rows::RowLog;
+use tip_settings::{Config, RealmConfig};
+use tip_shared::Shared;
+use tip_stored::{LoadFault, Recovering, StoredCore};
+use tip_watched::Watched;
+
+/// The store of a server, which tells the top body what becomes of its rows.
+pub type WatchedStore<S, R> = Watched<S, Watcher<R>>;
+
+/// What the threads hand to the top body, and what is in doubt.
+#[derive(Drop)]
+pub struct Shelves {
+    pub inbox: Arc<Inbox>,
+    pub doubts: Arc<Doubts>,
+}
+
+impl Shelves {
+    /// Empty ones, for these realms.
+    pub fn new(alloc: Global, realms: &[RealmConfig]) -> Result<Shelves, AllocError> {
+        Ok(Shelves {
+            inbox: Arc::new(alloc, Inbox::new(alloc, realms.len())?)?,
+            doubts: Arc::new(alloc, Doubts::new(alloc, realms)?)?,
+        })
+    }
+
+    /// Who fills them by what the store tells.
+    fn watcher<R: Drop>(&self, rt: R, alloc: Global) -> Result<Watcher<R>, AllocError> {
+        Ok(Watcher {
+            rt,
+            alloc,
+            doubts: Arc::try_clone(&self.doubts)?,
+            inbox: Arc::try_clone(&self.inbox)?,
+        })
+    }
+}
+
+/// The realms of a configuration, loaded from a store that may start.
+pub fn load<R: Wait + Drop, S: RowLog + Drop>(
+    rt: R,
+    alloc: Global,
+    mut store: S,
+    core: Core,
+    config: &Config,
+    shelves: &Shelves,
+) -> Result<Recovering<WatchedStore<S, R>>, ServeFault>
+    requires { Always }
+{
+    let mut names = Vec::new(alloc);
+    for realm in config.realms.iter() {
+        names.push(realm.name.copy()?)?;
+    }
+    match has_row_ahead(&mut store, &names) {
+        Ok(false) => {}
+        Ok(true) => return Err(ServeFault::Store),
+        Err(tip_rows::LoadFault::Memory) => return Err(ServeFault::Memory),
+        Err(_) => return Err(ServeFault::Store),
+    }
+    let specs = declarations(alloc, &config.realms)?;
+    let store = Watched::over(store, shelves.watcher(rt, alloc)?);
+    match StoredCore::load(alloc, store, core, specs) {
+        Ok(recovering) => Ok(recovering),
+        Err((LoadFault::Memory, _)) => Err(ServeFault::Memory),
+        Err((LoadFault::BadRealm, _)) => Err(ServeFault::Config),
+        Err(_) => Err(ServeFault::Store),
+    }
+}
+
+/// A server whose realms have started, and what is to be done for the rows of each.
+#[derive(Drop)]
+pub struct Started<'a, S> {
+    pub server: Server<'a, S>,
+    pub duties: Vec<Duties>,
+}
+
+/// The realms start, with these boxes for their rows.
+pub fn start<'a, S: RowLog + Drop + Send + 'static>(
+    alloc: Global,
+    mut recovering: Recovering<S>,
+    config: &'a Config,
+    sessions: Option<u32>,
+    mut pool: Vec<Box<dyn Branch + Send>>,
+    shelves: Shelves,
+) -> Result<Started<'a, S>, ServeFault> {
+    let mut duties = Vec::new(alloc);
+    let mut epochs = Vec::new(alloc);
+    for recovery in recovering.realms() {
+        duties.push(Duties::of(alloc, recovery.rows())?)?;
+        epochs.push(recovery.epoch())?;
+    }
+    let boxes = dealt_to_all(alloc, &mut pool, recovering.realms())?;
+    if !recovering.adopt_all(boxes) {
+        return Err(ServeFault::Memory);
+    }
+    let Ok(host) = Host::open(alloc, recovering) else {
+        return Err(ServeFault::Memory);
+    };
+    let Ok(shared) = Shared::new(alloc, host) else {
+        return Err(ServeFault::Memory);
+    };
+    let mut realms = Vec::new(alloc);
+    for (realm, epoch) in config.realms.iter().zip(epochs) {
+        realms.push(served(alloc, realm, epoch, shared.pass(alloc))?)?;
+    }
+    let Shelves { inbox, doubts } = shelves;
+    let server = Server {
+        alloc,
+        realms,
+        shared: Arc::new(alloc, shared)?,
+        inbox,
+        log: Arc::new(alloc, Log::new())?,
+        doubts,
+        live: Vec::new(alloc),
+        free: Vec::new(alloc),
+        callers: Vec::new(alloc),
+        sessions,
+        ended: 0,
+        is_short: false,
+        full: None,
+        held: None,
+    };
+    Ok(Started { server, duties })
+}
+
+/// A realm that starts in this epoch.
+fn served(
+    alloc: Global,
+    config: &RealmConfig,
+    epoch: u32,
+    own: Pass<Entry>,
+) -> Result<Served<'_>, ServeFault> {
+    let mut starts = Vec::new(alloc);
+    starts.push(Start { epoch, sessions: 0 })?;
+    Ok(Served {
+        config,
+        plans: plans_for(alloc, &config.plans, config.limits.boxes)?,
+        own,
+        passes: Vec::new(alloc),
+        starts,
+        stuck: None,
+    })
+}
+
+impl<'a, S: RowLog + Drop + Send + 'static> Server<'a, S>
+where
+    S::Medium: Send,
+{
+    /// Listens, does what a start does for the rows of each realm, and says in between that it is ready. It gives the threads that
+    /// accept; where one can't be made, the server is to end.
+    pub fn begin<R, W>(
+        &mut self,
+        rt: &R,
+        config: &Config,
+        duties: Vec<Duties>,
+        out: &mut W,
+    ) -> Result<Vec<JoinHandle<()>>, ServeFault>
+    where
+        R: Net<Listener = TcpListener, Stream = TcpStream>
+            + Wait
+            + Threads
+            + Clock
+            + Eprint
+            + Copy
+            + Send
+            + Drop
+            + 'static,
+        W: Write,
+    {
+        let listeners = listen_all(rt, self.alloc, config)?;
+        say_listening(self.alloc, config, out)?;
+        let mut calls = Vec::new(self.alloc);
+        for (realm, Duties { resumes, dials }) in duties.into_iter().enumerate() {
+            self.say_doubts(rt, realm, None);
+            self.resume(rt, realm, resumes);
+            calls.push(dials)?;
+        }
+        say(self.alloc, out, Heading::Ready)?;
+        for (realm, dials) in calls.into_iter().enumerate() {
+            self.call(rt, realm, dials);
+        }
+        let threads = start_accepting(rt, self.alloc, &self.inbox, &listeners);
+        self.is_short = threads.len() < listeners.len();
+        Ok(threads)
+    }
+}
+
+/// Where the connections of each realm are accepted.
+fn listen_all<R: Net<Listener = TcpListener, Stream = TcpStream>>(
+    rt: &R,
+    alloc: Global,
+    config: &Config,
+) -> Result<Vec<Arc<TcpListener>>, ServeFault> {
+    let mut listeners = Vec::new(alloc);
+    for realm in config.realms.iter() {
+        match TcpListener::bind(rt, realm.listen.as_str()) {
+            Ok(listener) => listeners.push(Arc::new(alloc, listener)?)?,
+            Err(_) => {
+                return Err(ServeFault::Listen {
+                    name: realm.name.copy()?,
+                });
+            }
+        }
+    }
+    Ok(listeners)
+}
+
+/// Says where the connections of each realm are accepted.
+fn say_listening<W: Write>(alloc: Global, config: &Config, out: &mut W) -> Result<(), ServeFault> {
+    for realm in config.realms.iter() {
+        let heading = Heading::Listening {
+            name: &realm.name,
+            place: realm.listen.as_str(),
+        };
+        say(alloc, out, heading)?;
+    }
+    Ok(())
+}
+
+/// Says one line on standard output, at once.
+pub fn say<W: Write>(alloc: Global, out: &mut W, heading: Heading<'_>) -> Result<(), ServeFault> {
+    let line = format!(in alloc; "{heading}\n")?;
+    if out.write_all(line.as_bytes()).is_err() || out.flush().is_err() {
+        return Err(ServeFault::Write);
+    }
+    Ok(())
+}
+
+/// Starts the thread that accepts the connections of each realm. There are fewer where one can't be made.
+fn start_accepting<R>(
+    rt: &R,
+    alloc: Global,
+    inbox: &Arc<Inbox>,
+    listeners: &[Arc<TcpListener>],
+) -> Vec<JoinHandle<()>>
+where
+    R: Wait + Threads + Clock + Copy + Send + Drop + 'static,
+{
+    let mut threads = Vec::new(alloc);
+    let own = *rt;
+    let mut realm = 0usize;
+    for listener in listeners {
+        let (Ok(inbox), Ok(listener)) = (Arc::try_clone(inbox), Arc::try_clone(listener)) else {
+            return threads;
+        };
+        if threads.reserve(1).is_err() {
+            return threads;
+        }
+        let started = Builder::new()
+            .stack_size(SMALL_STACK)
+            .spawn(rt, move || accept_all(&own, &inbox, realm, &listener));
+        match started {
+            Ok(thread) => {
+                let _kept = threads.push(thread);
+            }
+            Err(_) => return threads,
+        }
+        realm = realm.saturating_add(1);
+    }
+    threads
+}

@@ -1,0 +1,42 @@
+-- The commands of tipd, as `clap` knows them.
+use Rattle.std.specs.Prelude.{◌≡◌, ℕ, List, Some, true, false, codes, pos}
+use Rattle.clap.specs.Words.{App, Rule, app_of, new_app, new_rule, with_rule, with_subcommand}
+use Rattle.clap.specs.declared.builder.Command.{Command}
+use Rattle.clap.specs.declared.builder.Command.TheViews.{out-Command}
+use Rattle.clap.specs.declared.builder.action.ArgAction.TheVariants.{Set}
+use Rattle.clap.specs.declared.builder.value_parser.ValueParser.TheVariants as parser
+
+-- an option that takes one value
+abbrev pub option : List ℕ → Rule
+option name = record (new_rule name) { long = Some name; value_names = 1; action = Some Set }
+
+-- and that has to be there
+abbrev pub needed : List ℕ → Rule
+needed name = record (option name) { required = true }
+
+-- a whole number, 1 to 4,294,967,295
+unfoldable pub sessions : Rule
+sessions = record (option (codes "sessions")) { parser = Some (parser.Signed (pos 1) (pos 4294967295)) }
+
+unfoldable pub play : App
+play = with_rule (new_app (codes "play")) (option (codes "store"))
+
+unfoldable pub serve : App
+serve = with_rule (with_rule (new_app (codes "serve")) (needed (codes "config"))) sessions
+
+unfoldable pub rows : App
+rows = with_rule (new_app (codes "rows")) (needed (codes "store"))
+
+-- without its subcommands, one of which is to be named
+unfoldable pub alone : App
+alone = let named = new_app (codes "tipd") in record named {
+  top = record named.top { has_version = true; subcommand_required = true };
+}
+
+-- TIPD, with its subcommands
+unfoldable pub tipd : App
+tipd = with_subcommand (with_subcommand (with_subcommand alone play.top) serve.top) rows.top
+
+-- a command of the code is this one, and no option of it is another's too
+abbrev pub IsCommand : App → Command → Type 0
+IsCommand app command = (app_of command ≡ app) × ((out-Command command).has_globals ≡ false)

@@ -1,0 +1,20 @@
+//! What the words of the command line ask for.
+
+/// What the words of the command line ask for. Its texts are theirs.
+#[derive(Clone, Copy, Debug, PartialEq, Eq)]
+pub enum Order<'a> {
+    /// To play the script on standard input, over the store in this file, or over rows in memory.
+    Play {
+        store: Option<&'a str>,
+    },
+    /// To serve the realms of the configuration in this file, until so many connections that were accepted have ended; without
+    /// end where there is no number, which is 1 or more.
+    Serve {
+        config: &'a str,
+        sessions: Option<u32>,
+    },
+    /// To list what the store in this file has.
+    Rows {
+        store: &'a str,
+    },
+}

@@ -1,0 +1,70 @@
+//! Reading the words of the command line.
+ghost use Rattle.std.specs.Prelude.{◌≡◌, true, IfErr, IfOk, IsSomeAnd, map, string_bytes};
+ghost use Rattle.clap.specs.Words.{found_of, kind_of, rows_of, subcommand_rows_of, takes};
+ghost use Rattle.clap.specs.declared.error.kind.ErrorKind.TheVariants.{OutOfMemory};
+ghost use Rattle.tip_words.specs.Commands.{tipd};
+ghost use Rattle.tip_words.specs.Orders.{IsAsked, IsNumberIn, Says, is_command, text_in};
+
+use crate::commands::tipd;
+use crate::order::Order;
+use clap::{ArgMatches, Error};
+use std::alloc::Global;
+
+/// What these words ask for, the program's own name first.
+pub fn read_words<'a>(alloc: Global, words: &'a [String]) -> Result<Order<'a>, Error>
+    ensures order { IfOk result (IsAsked (map string_bytes words.entry.now)) }
+    ensures refused { IfErr result (λ error.
+        takes tipd (map string_bytes words.entry.now) ≡ true → kind_of error ≡ OutOfMemory) }
+{
+    let matches = tipd(alloc)?.try_get_matches_from(words)?;
+    Ok(order_in(&matches))
+}
+
+/// The order that the matches have.
+fn order_in<'a>(matches: &ArgMatches<'a>) -> Order<'a>
+    requires { IsSomeAnd (subcommand_rows_of matches.now) (λ found. is_command found.0 ≡ true) }
+    ensures { IsSomeAnd (subcommand_rows_of matches.now) (λ found. Says found result) }
+{
+    match matches.subcommand() {
+        Some((name, found)) => order_of(name, found),
+        None => unreachable!(),
+    }
+}
+
+/// The order of a subcommand with these matches.
+fn order_of<'a>(name: &str, found: &ArgMatches<'a>) -> Order<'a>
+    requires { is_command name.now ≡ true }
+    ensures { Says (name.now, rows_of (found_of found.now)) result }
+{
+    if name == "serve" {
+        return Order::Serve {
+            config: text_in(found, "config"),
+            sessions: sessions_in(found),
+        };
+    }
+    if name == "rows" {
+        return Order::Rows {
+            store: text_in(found, "store"),
+        };
+    }
+    Order::Play {
+        store: found.get_str("store"),
+    }
+}
+
+/// The value of an option that is required, so that it is there.
+fn text_in<'a>(found: &ArgMatches<'a>, name: &str) -> &'a str
+    ensures { result.now ≡ text_in name.now (rows_of (found_of found.now)) }
+{
+    match found.get_str(name) {
+        Some(text) => text,
+        None => "",
+    }
+}
+
+/// The number of sessions.
+fn sessions_in(found: &ArgMatches<'_>) -> Option<u32>
+    ensures { IsNumberIn (rows_of (found_of found.now)) result }
+{
+    found.get_one::<u32>("sessions")
+}
