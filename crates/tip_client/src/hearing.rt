@@ -8,8 +8,9 @@ use std::io::Read;
 use tip_intake::{Coming, InputEnd, Intake};
 use tip_line::{CommandName, Response};
 
-/// The response to a command: the next line, once it has come.
-pub(crate) fn response_to<R: Read>(
+/// The response to a command that was said: the next line, once it has come (RFC 2371, section 13). Whoever says one command after
+/// another by himself, since the next depends on the answer, keeps the same intake for all.
+pub fn response_to<R: Read>(
     alloc: Global,
     intake: &mut Intake,
     reader: &mut R,

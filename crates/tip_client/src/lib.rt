@@ -9,3 +9,5 @@ mod saying;
 
 pub use client::play_lines;
 pub use fault::ClientFault;
+pub use hearing::response_to;
+pub use saying::say;

@@ -1,0 +1,5 @@
+pub mod Answered
+pub mod Dialogues
+pub mod Fronts
+pub mod Parts
+pub mod Sent

@@ -1,0 +1,3 @@
+pub mod Asking
+pub mod Dialogues
+pub mod Sending
