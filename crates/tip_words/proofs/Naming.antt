@@ -13,7 +13,7 @@ use Rattle.clap.specs.Faults.{check_fault, defaults_fault, entered_fault, level_
 use Rattle.clap.specs.Simple.{argument_words, built_leaf, entered, help_shape, inherited, label_of, marked_built, names_of, on_top, rows_at, with_leaf_noted}
 use Rattle.clap.specs.Walk.{Held, Names, Outcome, Step, Waiting, Walk, after_flag, after_step, arg_by_index, answers_to, bundle, done, finished, idle, long_met, arg_by_long, long_or_other, next, nothing_held, option, plain, plain_word, positional, refused, settled, short_or_plain, subcommand, subcommand_met, subcommand_or_other, to_positional, trailing, value, waits, walk, walk_from, walked, walked_from, word_met}
 use Rattle.clap.proofs.OnLiterals.{clap_on_literals}
-use Rattle.tip_words.specs.Commands.{alone, play, rows, serve, sessions, tipd}
+use Rattle.tip_words.specs.Commands.{alone, ping, play, query, rows, send, serve, sessions, settle, tipd}
 use Rattle.tip_words.specs.Orders.{is_command}
 
 nothing_first : (a b : Kinds) → or_else a b ≡ [] → a ≡ []
@@ -102,15 +102,18 @@ walk_is_none s names w (word ∷ rest) on none fault =
     walk_is_none s names (walked s.rules names w word) rest on
     (turn_is_none s names w word w.stopped refl on none (nothing_first _ _ fault)) (nothing_second _ _ fault)
 
--- of four subcommands, the last of which is `help`
-one_of_three : {A B : Type 0} (f : A → B) (P : B → Type 0) (a b c d : A) → P (f a) → P (f b) → P (f c) → (is_a is_b is_c is_d : Bool) → is_d ≡ false
-    → is_some (option_map f (cond is_a (Some a) (cond is_b (Some b) (cond is_c (Some c) (cond is_d (Some d) None))))) ≡ true
-    → IsSomeAnd (option_map f (cond is_a (Some a) (cond is_b (Some b) (cond is_c (Some c) (cond is_d (Some d) None))))) P
-one_of_three f P a b c d pa pb pc true is_b is_c is_d unlike found = pa
-one_of_three f P a b c d pa pb pc false true is_c is_d unlike found = pb
-one_of_three f P a b c d pa pb pc false false true is_d unlike found = pc
-one_of_three f P a b c d pa pb pc false false false true unlike found = absurd (true≢false unlike)
-one_of_three f P a b c d pa pb pc false false false false unlike found = absurd (true≢false (sym found))
+-- of several subcommands, the last of which is `help`
+module _ {A B : Type 0} (f : A → B) (P : B → Type 0) where
+  abbrev MayHold : Option A → Type 0
+  MayHold found = is_some (option_map f found) ≡ true → IsSomeAnd (option_map f found) P
+
+  this_or : (a : A) (rest : Option A) → P (f a) → MayHold rest → (is_a : Bool) → MayHold (cond is_a (Some a) rest)
+  this_or a rest pa behind true found = pa
+  this_or a rest pa behind false found = behind found
+
+  not_last : (a : A) (is_a : Bool) → is_a ≡ false → MayHold (cond is_a (Some a) None)
+  not_last a true unlike found = absurd (true≢false unlike)
+  not_last a false unlike found = absurd (true≢false (sym found))
 
 -- no `help`, seen from its side
 help_is_other : (name : Text) → IsNoHelp name → (is : Bool) → bytes_eq (codes "help") name ≡ is → (is || false) ≡ false
@@ -127,12 +130,21 @@ below app = built_leaf (inherited (on_top with_leaf_noted (on_top marked_built t
 -- the subcommand of `tipd` at which a walk stops
 entered_is_order : (stop : Option (Text × List Text)) → StopsNoHelp stop → is_some (entered (built tipd) stop) ≡ true
     → IsSomeAnd (entered (built tipd) stop) (λ found. is_command found.0 ≡ true)
-unfolding tipd alone play serve rows
+unfolding tipd alone play serve rows ping query settle send
 entered_is_order None none found = absurd (true≢false (sym found))
 entered_is_order (Some stop) none found =
     let met : Shape → Bool = λ s. answers_to stop.0 (label_of s) in
-    one_of_three (λ s. rows_at s stop.1) (λ found. is_command found.0 ≡ true) (below play) (below serve) (below rows) (built_leaf help_shape) refl refl refl
-    (met (below play)) (met (below serve)) (met (below rows)) (met (built_leaf help_shape)) (help_is_other stop.0 none _ refl) found
+    let rows_of : Shape → Text × List Row = λ s. rows_at s stop.1 in
+    let IsOrder : Text × List Row → Type 0 = λ found. is_command found.0 ≡ true in
+    this_or rows_of IsOrder (below play) _ refl
+    (this_or rows_of IsOrder (below serve) _ refl
+    (this_or rows_of IsOrder (below rows) _ refl
+    (this_or rows_of IsOrder (below ping) _ refl
+    (this_or rows_of IsOrder (below query) _ refl
+    (this_or rows_of IsOrder (below settle) _ refl
+    (this_or rows_of IsOrder (below send) _ refl
+    (not_last rows_of IsOrder (built_leaf help_shape) (met (built_leaf help_shape)) (help_is_other stop.0 none _ refl))
+    (met (below send))) (met (below settle))) (met (below query))) (met (below ping))) (met (below rows))) (met (below serve))) (met (below play)) found
 
 -- a level without a fault
 level_is_faultless : (s : Shape) (names : Names) (h : Held) (words : List Text) (has : Bool) (below : Kinds) → level_fault s names h words has below ≡ []
@@ -166,9 +178,9 @@ names_order words fault =
     (not (false && is_some (entered app end.stopped)) && list_any (λ a. a.required && not (is_given a.id rows_at_end)) app.top.rules) faultless.1)
 
 pub is_simple_tipd : is_simple tipd ≡ true
-unfolding clap_on_literals tipd alone play serve rows sessions
+unfolding clap_on_literals tipd alone play serve rows sessions ping query settle send
 is_simple_tipd = refl
 
 pub is_free_tipd : is_simple_and_free tipd ≡ true
-unfolding clap_on_literals tipd alone play serve rows sessions
+unfolding clap_on_literals tipd alone play serve rows sessions ping query settle send
 is_free_tipd = refl

@@ -1,5 +1,6 @@
 -- The commands of tipd, as `clap` knows them.
-use Rattle.std.specs.Prelude.{◌≡◌, ℕ, List, Some, true, false, codes, pos}
+use Rattle.std.specs.Prelude.{◌≡◌, ℕ, List, [], ◌∷◌, Some, true, false, codes, pos}
+use Rattle.std.specs.List.{fold}
 use Rattle.clap.specs.Words.{App, Rule, app_of, new_app, new_rule, with_rule, with_subcommand}
 use Rattle.clap.specs.declared.builder.Command.{Command}
 use Rattle.clap.specs.declared.builder.Command.TheViews.{out-Command}
@@ -14,6 +15,10 @@ option name = record (new_rule name) { long = Some name; value_names = 1; action
 abbrev pub needed : List ℕ → Rule
 needed name = record (option name) { required = true }
 
+-- a value without a name of its own, which has to be there: the next word
+abbrev pub given : List ℕ → Rule
+given name = record (new_rule name) { value_names = 1; action = Some Set; required = true }
+
 -- a whole number, 1 to 4,294,967,295
 unfoldable pub sessions : Rule
 sessions = record (option (codes "sessions")) { parser = Some (parser.Signed (pos 1) (pos 4294967295)) }
@@ -27,6 +32,18 @@ serve = with_rule (with_rule (new_app (codes "serve")) (needed (codes "config"))
 unfoldable pub rows : App
 rows = with_rule (new_app (codes "rows")) (needed (codes "store"))
 
+unfoldable pub ping : App
+ping = with_rule (new_app (codes "ping")) (given (codes "address"))
+
+unfoldable pub query : App
+query = with_rule (with_rule (new_app (codes "query")) (given (codes "address"))) (given (codes "id"))
+
+unfoldable pub settle : App
+settle = with_rule (with_rule (with_rule (new_app (codes "settle")) (given (codes "address"))) (given (codes "id"))) (given (codes "decision"))
+
+unfoldable pub send : App
+send = with_rule (new_app (codes "send")) (given (codes "address"))
+
 -- without its subcommands, one of which is to be named
 unfoldable pub alone : App
 alone = let named = new_app (codes "tipd") in record named {
@@ -35,7 +52,7 @@ alone = let named = new_app (codes "tipd") in record named {
 
 -- TIPD, with its subcommands
 unfoldable pub tipd : App
-tipd = with_subcommand (with_subcommand (with_subcommand alone play.top) serve.top) rows.top
+tipd = fold with_subcommand alone (play.top ∷ serve.top ∷ rows.top ∷ ping.top ∷ query.top ∷ settle.top ∷ send.top ∷ [])
 
 -- a command of the code is this one, and no option of it is another's too
 abbrev pub IsCommand : App → Command → Type 0

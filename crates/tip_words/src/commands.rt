@@ -1,10 +1,13 @@
 //! The commands of `tipd`, as `clap` is told of them.
 ghost use Rattle.std.specs.Prelude.{◌≡◌, false, IfOk};
 ghost use Rattle.clap.specs.Words.{rule_of};
-ghost use Rattle.tip_words.specs.Commands.{IsCommand, alone, option, play, rows, serve, sessions, tipd};
+ghost use Rattle.tip_words.specs.Commands.{IsCommand, alone, given, option, ping, play, query, rows, send, serve, sessions, settle, tipd};
 
 use clap::{Arg, ArgAction, Command, value_parser};
 use std::alloc::{AllocError, Global};
+
+/// The help of an address.
+const ADDRESS: &str = "Where the manager listens, as HOST:PORT";
 
 /// `tipd` with its subcommands.
 pub(crate) fn tipd<'a>(alloc: Global) -> Result<Command<'a>, AllocError>
@@ -13,7 +16,11 @@ pub(crate) fn tipd<'a>(alloc: Global) -> Result<Command<'a>, AllocError>
     alone(alloc)
         .subcommand(play(alloc)?)?
         .subcommand(serve(alloc)?)?
-        .subcommand(rows(alloc)?)
+        .subcommand(rows(alloc)?)?
+        .subcommand(ping(alloc)?)?
+        .subcommand(query(alloc)?)?
+        .subcommand(settle(alloc)?)?
+        .subcommand(send(alloc)?)
 }
 
 /// `tipd` without its subcommands, one of which is to be named.
@@ -60,6 +67,50 @@ fn rows<'a>(alloc: Global) -> Result<Command<'a>, AllocError>
         .arg(option(alloc, "store", "FILE", "The file of the store").required(true))
 }
 
+#[tactic(auto, unfolding(crate::specs::Commands::ping))]
+fn ping<'a>(alloc: Global) -> Result<Command<'a>, AllocError>
+    ensures { IfOk result (IsCommand ping) }
+{
+    Command::new(alloc, "ping")
+        .about("Asks a manager whether it is there")
+        .arg(given(alloc, "address", "ADDRESS", ADDRESS))
+}
+
+#[tactic(auto, unfolding(crate::specs::Commands::query))]
+fn query<'a>(alloc: Global) -> Result<Command<'a>, AllocError>
+    ensures { IfOk result (IsCommand query) }
+{
+    Command::new(alloc, "query")
+        .about("Asks a manager whether it has a transaction")
+        .arg(given(alloc, "address", "ADDRESS", ADDRESS))?
+        .arg(given(alloc, "id", "ID", "The identifier of the transaction"))
+}
+
+#[tactic(auto, unfolding(crate::specs::Commands::settle))]
+fn settle<'a>(alloc: Global) -> Result<Command<'a>, AllocError>
+    ensures { IfOk result (IsCommand settle) }
+{
+    Command::new(alloc, "settle")
+        .about("Ends a transaction that a manager has prepared, in the place of its superior")
+        .arg(given(alloc, "address", "ADDRESS", ADDRESS))?
+        .arg(given(alloc, "id", "ID", "The identifier of the transaction"))?
+        .arg(given(
+            alloc,
+            "decision",
+            "DECISION",
+            "How it ends: commit or abort",
+        ))
+}
+
+#[tactic(auto, unfolding(crate::specs::Commands::send))]
+fn send<'a>(alloc: Global) -> Result<Command<'a>, AllocError>
+    ensures { IfOk result (IsCommand send) }
+{
+    Command::new(alloc, "send")
+        .about("Says the commands on standard input to a manager, and writes what it answers")
+        .arg(given(alloc, "address", "ADDRESS", ADDRESS))
+}
+
 /// How many connections are to end before the server does.
 #[tactic(auto, unfolding(crate::specs::Commands::sessions))]
 fn sessions<'a>(alloc: Global) -> Arg<'a>
@@ -83,6 +134,18 @@ fn option<'a>(alloc: Global, name: &'static str, value: &'static str, help: &'st
     Arg::new(alloc, name)
         .long(name)
         .value_name(value)
+        .action(ArgAction::Set)
+        .help(help)
+}
+
+/// A value that has to be there, the next word.
+fn given<'a>(alloc: Global, name: &'static str, value: &'static str, help: &'static str) -> Arg<'a>
+    ensures rule { rule_of result ≡ given name.now }
+    ensures local { result.global ≡ false }
+{
+    Arg::new(alloc, name)
+        .value_name(value)
+        .required(true)
         .action(ArgAction::Set)
         .help(help)
 }

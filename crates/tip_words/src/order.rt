@@ -17,4 +17,23 @@ pub enum Order<'a> {
     Rows {
         store: &'a str,
     },
+    /// To ask the manager at this address, `HOST:PORT`, whether it is there.
+    Ping {
+        address: &'a str,
+    },
+    /// To ask it whether it has a transaction.
+    Query {
+        address: &'a str,
+        id: &'a str,
+    },
+    /// To end a transaction that it has prepared.
+    Settle {
+        address: &'a str,
+        id: &'a str,
+        decision: &'a str,
+    },
+    /// To say the commands on standard input to it.
+    Send {
+        address: &'a str,
+    },
 }

@@ -47,12 +47,35 @@ fn order_of<'a>(name: &str, found: &ArgMatches<'a>) -> Order<'a>
             store: text_in(found, "store"),
         };
     }
+    if name == "ping" {
+        return Order::Ping {
+            address: text_in(found, "address"),
+        };
+    }
+    if name == "query" {
+        return Order::Query {
+            address: text_in(found, "address"),
+            id: text_in(found, "id"),
+        };
+    }
+    if name == "settle" {
+        return Order::Settle {
+            address: text_in(found, "address"),
+            id: text_in(found, "id"),
+            decision: text_in(found, "decision"),
+        };
+    }
+    if name == "send" {
+        return Order::Send {
+            address: text_in(found, "address"),
+        };
+    }
     Order::Play {
         store: found.get_str("store"),
     }
 }
 
-/// The value of an option that is required, so that it is there.
+/// A value that is required, so that it is there.
 fn text_in<'a>(found: &ArgMatches<'a>, name: &str) -> &'a str
     ensures { result.now ≡ text_in name.now (rows_of (found_of found.now)) }
 {

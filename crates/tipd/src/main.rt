@@ -1,9 +1,11 @@
 //! `tipd`: the command line, and the input and output of the process.
 #![tactic(auto)]
 
+mod asking;
 mod serving;
 mod store;
 
+use crate::asking::{ping, query, send, settle};
 use crate::serving::{Setting, serve, serve_in};
 use crate::store::{list_store, play_in_store};
 use clap::Error;
@@ -101,5 +103,13 @@ fn main(rt: HostRuntime) -> io::Result<ExitCode> {
             };
             end_serve(&rt, served)
         }
+        Order::Ping { address } => ping(&rt, address),
+        Order::Send { address } => send(&rt, address),
+        Order::Query { address, id } => query(&rt, address, id),
+        Order::Settle {
+            address,
+            id,
+            decision,
+        } => settle(&rt, address, id, decision),
     })
 }

@@ -3,21 +3,32 @@ use Rattle.std.specs.Str.{bytes_eq}
 use Rattle.std.proofs.lemmas.Slice.Eq.{bytes_eq-Decides}
 use Rattle.clap.proofs.WalkLemmas.{first_value-rows}
 use Rattle.clap.specs.Words.{found_of}
-use Rattle.tip_words.specs.Orders.{is_command}
 use Rattle.tip_words.proofs.reading.order_of.Goals as goal
 
-is_play : (name : List ℕ) (play serve rows : Bool) → bytes_eq name (codes "play") ≡ play → serve ≡ false → rows ≡ false → (play || (serve || rows)) ≡ true
-    → name ≡ codes "play"
-is_play name true serve rows is no_serve no_rows one = (bytes_eq-Decides name (codes "play")).0 is
-is_play name false true rows is no_serve no_rows one = absurd (true≢false no_serve)
-is_play name false false true is no_serve no_rows one = absurd (true≢false no_rows)
-is_play name false false false is no_serve no_rows one = absurd (true≢false (sym one))
+same : (name command : List ℕ) → bytes_eq name command ≡ true → name ≡ command
+same name command is = (bytes_eq-Decides name command).0 is
+
+-- the first of several, where it is none behind
+first_is : (first others : Bool) → (first || others) ≡ true → others ≡ false → first ≡ true
+first_is true others one none = refl
+first_is false true others none = absurd (true≢false none)
+first_is false false one none = one
+
+none_is : (first others : Bool) → first ≡ false → others ≡ false → (first || others) ≡ false
+none_is true others first none = first
+none_is false others first none = none
 
 pub returns-then-eq : goal.returns-then-eq
-returns-then-eq c = ((bytes_eq-Decides c.args.name.now (codes "serve")).0 (sym c.eq.ensures ∙ c.if-eq.true), c.text_in.ensures, c.sessions_in.ensures)
+returns-then-eq c = (same c.args.name.now (codes "serve") (sym c.eq.ensures ∙ c.if-eq.true), c.text_in.ensures, c.sessions_in.ensures)
 
 pub returns : goal.returns
-returns c = (
-  is_play c.args.name.now _ _ _ refl (sym c.eq.ensures ∙ c.if-eq.false) (sym c.eq-2.ensures ∙ c.if-eq-2.false) c.requires,
-  c.get_str.ensures ∙ first_value-rows (found_of c.args.found.now) (codes "store"),
-)
+returns c =
+    let serve = sym c.eq.ensures ∙ c.if-eq.false in
+    let rows = sym c.eq-2.ensures ∙ c.if-eq-2.false in
+    let ping = sym c.eq-3.ensures ∙ c.if-eq-3.false in
+    let query = sym c.eq-4.ensures ∙ c.if-eq-4.false in
+    let settle = sym c.eq-5.ensures ∙ c.if-eq-5.false in
+    let send = sym c.eq-6.ensures ∙ c.if-eq-6.false in (
+      same c.args.name.now (codes "play") (first_is _ _ c.requires (none_is _ _ serve (none_is _ _ rows (none_is _ _ ping (none_is _ _ query (none_is _ _ settle (none_is _ _ send refl))))))),
+      c.get_str.ensures ∙ first_value-rows (found_of c.args.found.now) (codes "store"),
+    )
