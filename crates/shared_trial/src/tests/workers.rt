@@ -1,5 +1,5 @@
 //! Eight that work at one host: in each realm a thousand commits, a thousand transactions that are pushed and committed, and a
-//! thousand connections that are lost with a transaction open. They work one after another here, and in threads in `bench/threads`.
+//! thousand connections that are lost with a transaction open. They work one after another here, and in threads in `eight`.
 ghost use Rattle.tip_branch.specs.Always.{Always};
 
 use super::boxes::opening;

@@ -82,11 +82,7 @@ fn commits_overlap<R: Threads + Wait + Sync>(rt: &R, alloc: Global) -> Option<bo
     let north = opened(rt, alloc, &shared, &mut pass, north_event)?;
     let south_event = opening(alloc, SOUTH, 2, &souths)?;
     let south = opened(rt, alloc, &shared, &mut pass, south_event)?;
-    let (first, second) = join(
-        rt,
-        || read_north(rt, alloc, &shared, north),
-        || both_of_south(rt, alloc, &shared, south, &stage),
-    );
+    let (first, second) = both_realms(rt, alloc, &shared, north, south, &stage);
     let (end, commits) = second?;
     Some(
         first == SessionEnd::PeerClosed
@@ -95,6 +91,24 @@ fn commits_overlap<R: Threads + Wait + Sync>(rt: &R, alloc: Global) -> Option<bo
             && norths.counted() == (1, 1, 0)
             && souths.counted() == (2, 2, 0)
             && has_no_row(rt, alloc, &shared),
+    )
+}
+
+/// North's session in a thread of its own, and beside it what goes on at south.
+fn both_realms<R: Threads + Wait + Sync>(
+    rt: &R,
+    alloc: Global,
+    shared: &Shared<MemRows>,
+    north: Seat,
+    south: Seat,
+    stage: &Arc<Stage>,
+) -> (SessionEnd, Option<(SessionEnd, u64)>)
+    requires { Always }
+{
+    join(
+        rt,
+        || read_north(rt, alloc, shared, north),
+        || both_of_south(rt, alloc, shared, south, stage),
     )
 }
 
@@ -114,7 +128,9 @@ fn both_of_south<R: Threads + Wait + Sync>(
     shared: &Shared<MemRows>,
     seat: Seat,
     stage: &Arc<Stage>,
-) -> Option<(SessionEnd, u64)> {
+) -> Option<(SessionEnd, u64)>
+    requires { Always }
+{
     let peer = Peer {
         stage: Arc::try_clone(stage).ok()?,
         pieces: 0,
