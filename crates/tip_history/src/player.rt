@@ -1,5 +1,5 @@
 //! Playing a script.
-ghost use Rattle.std.specs.Prelude.{IfSome};
+ghost use Rattle.std.specs.Prelude.{IfSome, IsErrOf};
 ghost use Rattle.tip_play.specs.Transcripts.{Transcribes, in_memory};
 ghost use Rattle.tip_history.specs.Histories.{Tells};
 
@@ -18,6 +18,7 @@ pub fn play<R: BufRead, W: Write>(
         (R.remaining input.new) (W.contents output.old) (W.contents output.new) result) }
     ensures tells { IfSome (R.remaining input.old)
         (λ script. Tells (W.contents output.old) (W.contents output.new)) }
+    ensures unblamed { IsErrOf result PlayFault.Store → ⊥ }
 {
     tip_play::play(alloc, input, output)
 }

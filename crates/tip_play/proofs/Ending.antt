@@ -1,14 +1,17 @@
 -- How a script has ended.
-use Rattle.std.proofs.Common.{◌≡◌, ℕ, List, [], Option, Some, None, Ok, Err, IfSome, Result, append-nil, inl, inr, refl, sym, ◌∙◌}
+use Rattle.std.proofs.Common.{◌≡◌, ◌∷◌, ℕ, List, [], Option, Some, None, Ok, Err, IfSome, Result, append-nil, inl, inr, refl, sym, ◌∙◌}
 use Rattle.std.proofs.lemmas.Option.{none-some}
 use Rattle.tip_rows.specs.Logs.{Keeping, IsSpoiled, empty_log}
 use Rattle.tip_rows.specs.Memory.{Memory, is_due_in, log_of}
-use Rattle.tip_scene.specs.Acts.{Basis}
+use Rattle.tip_scene.specs.Acts.{Basis, is_covered}
+use Rattle.tip_script.specs.Scripts.{Move, Declare, Label, Open, Dial, Feed, Lose, Push, Pull, Go, Drop, Resume, Refuse, Renew, Restart, move_of}
 use Rattle.tip_scene.specs.Stages.{IsBasis, IsReliable, Trusts}
 use Rattle.std.specs.Io.KnownBytes.{Appends, Keeps}
-use Rattle.std.specs.Prelude.{false}
+use Rattle.std.specs.Prelude.{IsErrOf, false, true}
+use Rattle.std.specs.List.{list_all}
+use Rattle.std.proofs.lemmas.Bool.{and_from}
 use Rattle.tip_play.specs.Endings.{ended, unflushed}
-use Rattle.tip_play.specs.Transcripts.{IsFront, Transcribes, TranscribesOn, in_memory, played_of, transcript}
+use Rattle.tip_play.specs.Transcripts.{IsFront, Transcribes, TranscribesOn, covers_all, in_memory, lines_of, played_of, transcript}
 use Rattle.tip_play.specs.declared.fault.PlayFault.{PlayFault}
 use Rattle.tip_play.specs.declared.fault.PlayFault.TheVariants as fault
 
@@ -43,9 +46,9 @@ module _ {S : Type 0} (kept : Keeping S) (basis : Basis) where
   kept_on script rest old mid new (Ok store) same is = λ truth. kept_one script rest old mid new (Ok tt) same (is truth)
   kept_on script rest old mid new (Err fault) same is = λ truth. kept_one script rest old mid new (Err fault.0) same (is truth)
 
-  pub all_kept : (whole rest old mid new : Option (List ℕ)) (result : Result S (PlayFault × Option S)) → Keeps mid new → IfSome whole (λ script. TranscribesOn kept basis script rest old mid result) → IfSome whole (λ script. TranscribesOn kept basis script rest old new result)
+  pub all_kept : (whole rest old mid new : Option (List ℕ)) (result : Result S (PlayFault × Option S)) → Keeps mid new → IfSome whole (λ script. covers_all basis script ≡ true → TranscribesOn kept basis script rest old mid result) → IfSome whole (λ script. covers_all basis script ≡ true → TranscribesOn kept basis script rest old new result)
   all_kept None rest old mid new result same is = tt
-  all_kept (Some script) rest old mid new result same is = kept_on script rest old mid new result same is
+  all_kept (Some script) rest old mid new result same is = λ covers. kept_on script rest old mid new result same (is covers)
 
   one_unflushed : (script : List ℕ) (rest old new : Option (List ℕ)) (result : Result S (PlayFault × Option S)) → TranscribesOn kept basis script rest old new result → TranscribesOn kept basis script rest old new (unflushed result)
   one_unflushed script rest old new (Ok store) is = λ truth. record { front = transcript basis script; later = []; whole = sym (append-nil (transcript basis script)); written = (is truth).1 }
@@ -56,9 +59,9 @@ module _ {S : Type 0} (kept : Keeping S) (basis : Basis) where
   one_unflushed script rest old new (Err (fault.Store, store)) is = is
 
   -- what was written may not be there
-  pub all_unflushed : (whole rest old new : Option (List ℕ)) (result : Result S (PlayFault × Option S)) → IfSome whole (λ script. TranscribesOn kept basis script rest old new result) → IfSome whole (λ script. TranscribesOn kept basis script rest old new (unflushed result))
+  pub all_unflushed : (whole rest old new : Option (List ℕ)) (result : Result S (PlayFault × Option S)) → IfSome whole (λ script. covers_all basis script ≡ true → TranscribesOn kept basis script rest old new result) → IfSome whole (λ script. covers_all basis script ≡ true → TranscribesOn kept basis script rest old new (unflushed result))
   all_unflushed None rest old new result is = tt
-  all_unflushed (Some script) rest old new result is = one_unflushed script rest old new result is
+  all_unflushed (Some script) rest old new result is = λ covers. one_unflushed script rest old new result (is covers)
 
 -- Rows in memory
 
@@ -75,8 +78,8 @@ pub is_blank : (store : Memory) → log_of store ≡ empty_log → ((name : List
 is_blank store empty none_due = record {
   log = empty_log;
   stood = empty;
-  before = λ name. record { epoch = refl; rising = refl; same = λ key. refl; sound = sound name };
-  none_due = none_due;
+  before = λ name covers. record { epoch = refl; rising = refl; same = λ key. refl; sound = sound name };
+  none_due = λ name covers. none_due name;
 }
 
 reliable : (store : Option Memory) → IsReliable rows_kept store
@@ -91,6 +94,36 @@ one_ended script rest old new (Err (fault.Write, store)) is = is (reliable store
 one_ended script rest old new (Err (fault.Memory, store)) is = is (reliable store)
 one_ended script rest old new (Err (fault.Store, store)) is = is (reliable store)
 
-pub all_ended : (whole rest old new : Option (List ℕ)) (result : Result Memory (PlayFault × Option Memory)) → IfSome whole (λ script. TranscribesOn rows_kept in_memory script rest old new result) → IfSome whole (λ script. Transcribes in_memory script rest old new (ended result))
+-- the basis of rows in memory covers each realm
+covered_line : (line : Option Move) → is_covered in_memory line ≡ true
+covered_line None = refl
+covered_line (Some (Declare name address branches limits)) = refl
+covered_line (Some (Label realm labels)) = refl
+covered_line (Some (Open realm plans)) = refl
+covered_line (Some (Dial realm address plans purpose)) = refl
+covered_line (Some (Feed realm connection octets)) = refl
+covered_line (Some (Lose realm connection)) = refl
+covered_line (Some (Push realm connection id)) = refl
+covered_line (Some (Pull realm connection superior)) = refl
+covered_line (Some (Go realm)) = refl
+covered_line (Some (Drop realm)) = refl
+covered_line (Some (Resume realm id)) = refl
+covered_line (Some (Refuse realm)) = refl
+covered_line (Some (Renew realm)) = refl
+covered_line (Some Restart) = refl
+
+covered_lines : (lines : List (List ℕ)) → list_all (λ line. is_covered in_memory (move_of line)) lines ≡ true
+covered_lines [] = refl
+covered_lines (line ∷ lines) = and_from (is_covered in_memory (move_of line)) (list_all (λ l. is_covered in_memory (move_of l)) lines) (covered_line (move_of line)) (covered_lines lines)
+
+pub never_blamed : (result : Result Memory (PlayFault × Option Memory)) → IsErrOf (ended result) fault.Store → ⊥
+never_blamed (Ok store) is = absurd cc
+never_blamed (Err (fault.Script line, store)) is = absurd cc
+never_blamed (Err (fault.Read, store)) is = absurd cc
+never_blamed (Err (fault.Write, store)) is = absurd cc
+never_blamed (Err (fault.Memory, store)) is = absurd cc
+never_blamed (Err (fault.Store, store)) is = absurd cc
+
+pub all_ended : (whole rest old new : Option (List ℕ)) (result : Result Memory (PlayFault × Option Memory)) → IfSome whole (λ script. covers_all in_memory script ≡ true → TranscribesOn rows_kept in_memory script rest old new result) → IfSome whole (λ script. Transcribes in_memory script rest old new (ended result))
 all_ended None rest old new result is = tt
-all_ended (Some script) rest old new result is = one_ended script rest old new result is
+all_ended (Some script) rest old new result is = one_ended script rest old new result (is (covered_lines (lines_of script)))

@@ -4,3 +4,4 @@ pub mod Transcribing
 pub mod Lines
 pub mod Reading
 pub mod Ending
+pub mod Blaming

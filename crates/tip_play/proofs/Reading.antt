@@ -4,23 +4,41 @@ use Rattle.std.proofs.Common.{◌≡◌, ◌≢◌, ◌+◌, ◌++◌, ◌∷◌
 use Rattle.std.proofs.lemmas.List.{append-nil, append_assoc}
 use Rattle.std.specs.Io.KnownBytes.{Consumes, IsAtEnd}
 use Rattle.std.proofs.KnownBytes.{Consumes-nil, Consumes-trans, Consumes-whole}
-use Rattle.script_lines.specs.Lines.{AreOfLine, Reads}
+use Rattle.std.specs.List.{list_all}
+use Rattle.std.specs.Prelude.{◌&&◌}
+use Rattle.std.proofs.lemmas.List.Folds.{list_all-append}
+use Rattle.tip_line.proofs.StopLemmas.{and_left, and_right}
+use Rattle.script_lines.specs.Lines.{AreOfLine, Reads, is_inner}
 use Rattle.script_lines.specs.declared.line.LineEnd.{LineEnd}
 use Rattle.script_lines.specs.declared.line.LineEnd.TheVariants.{LineFeed, EndOfInput, TooLong}
 use Rattle.script_lines.specs.declared.line.LineFault.{LineFault}
 use Rattle.script_lines.specs.declared.line.LineFault.TheVariants as line_fault
-use Rattle.tip_scene.specs.Acts.{Stage, Declaring, Basis, acted, closing_of}
+use Rattle.tip_scene.specs.Acts.{Stage, Declaring, Basis, acted, closing_of, is_covered}
 use Rattle.tip_scene.specs.Stages.{AStage, IsReliable, IsStage, Trusts, store_of}
 use Rattle.tip_play.specs.Faults.{of_line}
-use Rattle.tip_play.specs.Transcripts.{IsFront, IsReadTo, Transcribes, TranscribesOn}
+use Rattle.tip_play.specs.Transcripts.{IsFront, IsReadTo, Transcribes, TranscribesOn, covers_all, ended, unended}
 use Rattle.tip_play.specs.Writing.{Acts, Closes, ClosesOn, HasCome}
 use Rattle.tip_play.specs.declared.fault.PlayFault.{PlayFault}
 use Rattle.tip_play.specs.declared.player.Coming.{Coming}
 use Rattle.tip_play.specs.declared.fault.PlayFault.TheVariants as fault
+use Rattle.tip_script.specs.Scripts.{move_of}
+use Rattle.tip_play.proofs.Cutting.{all_lines, last_line, lines_from, unended_line}
 use Rattle.tip_play.proofs.Lines as lines
 use Rattle.tip_play.proofs.Lines.{HasPlayed}
 
+-- a script that is known, each realm of which the basis covers
+abbrev pub IsCoveredBy : Basis → Option (List ℕ) → Type 0
+IsCoveredBy basis whole = (script : List ℕ) × (whole ≡ Some script) × (covers_all basis script ≡ true)
+
+one_covered : (basis : Basis) (before behind : List (List ℕ)) (line : List ℕ) → list_all (λ l. is_covered basis (move_of l)) (before ++ line ∷ behind) ≡ true → is_covered basis (move_of line) ≡ true
+one_covered basis before behind line all =
+    let is = λ (l : List ℕ). is_covered basis (move_of l) in
+    and_left (is line) (list_all is behind) (and_right (list_all is before) (is line && list_all is behind) (sym (list_all-append is before (line ∷ behind)) ∙ all))
+
 module _ {S : Type 0} (kept : Keeping S) (basis : Basis) where
+  covered_so : {X : Type 0} (whole : Option (List ℕ)) → IsCoveredBy basis whole → IfSome whole (λ script. covers_all basis script ≡ true → X) → X
+  covered_so {X} whole covers all = (subst (λ w. IfSome w (λ script. covers_all basis script ≡ true → X)) covers.1 all) covers.2
+
   -- so much was read and played
   pub record HasRead (stage : AStage S) (number : ℕ) (whole left old new : Option (List ℕ)) : Type 0 where
     pub read : List ℕ
@@ -69,9 +87,30 @@ module _ {S : Type 0} (kept : Keeping S) (basis : Basis) where
 
   -- A line that was read
 
+  -- the basis covers the realm that it declares
+  fed_covered : (read line rest : List ℕ) → unended read ≡ [] → list_all is_inner line ≡ true → covers_all basis ((read ++ line) ++ 10 ∷ rest) ≡ true → is_covered basis (move_of line) ≡ true
+  fed_covered read line rest closed inner covers =
+      one_covered basis (ended (read ++ line)) (lines_from [] rest) line
+      (subst (λ lines. list_all (λ l. is_covered basis (move_of l)) lines ≡ true) (all_lines (read ++ line) (10 ∷ rest) ∙ ap (λ l. ended (read ++ line) ++ lines_from l (10 ∷ rest)) (unended_line read line closed inner)) covers)
+
+  last_covered : (read line : List ℕ) → unended read ≡ [] → list_all is_inner line ≡ true → covers_all basis (read ++ line) ≡ true → is_covered basis (move_of line) ≡ true
+  last_covered read line closed inner covers =
+      one_covered basis (ended (read ++ line)) [] line
+      (subst (λ lines. list_all (λ l. is_covered basis (move_of l)) lines ≡ true) (last_line (read ++ line) ∙ ap (λ l. ended (read ++ line) ++ l ∷ []) (unended_line read line closed inner)) covers)
+
   -- it has an end
   behind_feed : (read line rest : List ℕ) → (read ++ (line ++ 10 ∷ [])) ++ rest ≡ (read ++ line) ++ 10 ∷ rest
   behind_feed read line rest = ap (λ l. l ++ rest) (sym (append_assoc read line (10 ∷ []))) ∙ append_assoc (read ++ line) (10 ∷ []) rest
+
+  pub line_covered : (stage : AStage S) (number : ℕ) (whole left left' old new : Option (List ℕ)) (line : List ℕ) (end : LineEnd) → HasRead stage number whole left old new → IsCoveredBy basis whole → end ≢ TooLong → Reads left left' line (Ok end) → is_covered basis (move_of line) ≡ true
+  line_covered stage number whole left left' old new line LineFeed so covers other reads =
+      let P = λ (script : List ℕ). covers_all basis script ≡ true → is_covered basis (move_of line) ≡ true in
+      covered_so whole covers (of_whole whole left' (so.read ++ (line ++ 10 ∷ [])) P (Consumes-trans whole left left' so.read (line ++ 10 ∷ []) so.consumed reads.1)
+      (λ rest. subst P (sym (behind_feed so.read line rest)) (fed_covered so.read line rest so.played.closed reads.0.inner)))
+  line_covered stage number whole left left' old new line EndOfInput so covers other reads =
+      let P = λ (script : List ℕ). covers_all basis script ≡ true → is_covered basis (move_of line) ≡ true in
+      covered_so whole covers (Consumes-whole whole left' (so.read ++ line) P (Consumes-trans whole left left' so.read line so.consumed reads.1) reads.2 (last_covered so.read line so.played.closed reads.0.inner))
+  line_covered stage number whole left left' old new line TooLong so covers other reads = absurd (other refl)
 
   fails_fed : (stage : AStage S) (number : ℕ) (whole left left' old mid new : Option (List ℕ)) (line : List ℕ) (why : PlayFault) → HasRead stage number whole left old mid → AreOfLine line → Consumes left left' (line ++ 10 ∷ []) → ((now : Stage) → IsStage kept basis stage now → Acts kept basis number (acted basis now line) mid new (Err why)) → IfSome whole (λ script. Transcribes basis script left' old new (Err why))
   fails_fed stage number whole left left' old mid new line why so are taken acts =
@@ -145,6 +184,11 @@ module _ {S : Type 0} (kept : Keeping S) (basis : Basis) where
   Goes false stage number whole left old new = HasRead stage number whole left old new
   Goes true stage number whole left old new = HasEnded stage whole left old new
 
+  -- the code stands for some stage
+  pub stands_so : (over : Bool) (stage : AStage S) (number : ℕ) (whole left old new : Option (List ℕ)) → Goes over stage number whole left old new → (now : Stage) × IsStage kept basis stage now
+  stands_so false stage number whole left old new so = (so.played.now, so.played.stands)
+  stands_so true stage number whole left old new so = (so.played.now, so.played.stands)
+
   pub goes_front : (over : Bool) (stage : AStage S) (number : ℕ) (whole left old new : Option (List ℕ)) → Goes over stage number whole left old new → IfSome whole (λ script. IsFront basis script old new)
   goes_front false stage number whole left old new so = stays_front stage number whole left old new so
   goes_front true stage number whole left old new so = ended_front stage whole left old new so
@@ -172,15 +216,15 @@ module _ {S : Type 0} (kept : Keeping S) (basis : Basis) where
   -- What rests on the store
 
   -- what is so as long as something may be relied on
-  pub relying : (whole : Option (List ℕ)) (P : List ℕ → Type 0) (R : Type 0) → (R → IfSome whole P) → IfSome whole (λ script. R → P script)
+  pub relying : (whole : Option (List ℕ)) (P : List ℕ → Type 0) (R : Type 0) → (IsCoveredBy basis whole → R → IfSome whole P) → IfSome whole (λ script. covers_all basis script ≡ true → R → P script)
   relying None P R all = tt
-  relying (Some script) P R all = all
+  relying (Some script) P R all = λ covers. all (script, refl, covers)
 
   -- the realms have started, if they had not, and the store has come back
-  pub closes_on : (stage : AStage S) (whole left old mid new : Option (List ℕ)) (result : Result S (PlayFault × Option S)) → Trusts kept (store_of stage) (λ store. store) result → (kept.is_true (store_of stage) → HasEnded stage whole left old mid) →
-      ((now : Stage) → IsStage kept basis stage now → ClosesOn kept (closing_of basis now) mid new result) → IfSome whole (λ script. TranscribesOn kept basis script left old new result)
-  closes_on stage whole left old mid new (Ok store) trusts so closes = relying whole (λ script. Transcribes basis script left old new (Ok tt)) (kept.is_true store) (λ truth. script_closes stage whole left old mid new (Ok tt) (so (trusts truth)) (λ now is. closes now is truth))
-  closes_on stage whole left old mid new (Err fault) trusts so closes = relying whole (λ script. Transcribes basis script left old new (Err fault.0)) (IsReliable kept fault.1) (λ truth. script_closes stage whole left old mid new (Err fault.0) (so (trusts truth)) (λ now is. closes now is truth))
+  pub closes_on : (stage : AStage S) (whole left old mid new : Option (List ℕ)) (result : Result S (PlayFault × Option S)) → Trusts kept (store_of stage) (λ store. store) result → (IsCoveredBy basis whole → kept.is_true (store_of stage) → HasEnded stage whole left old mid) →
+      ((now : Stage) → IsStage kept basis stage now → ClosesOn kept (closing_of basis now) mid new result) → IfSome whole (λ script. covers_all basis script ≡ true → TranscribesOn kept basis script left old new result)
+  closes_on stage whole left old mid new (Ok store) trusts so closes = relying whole (λ script. Transcribes basis script left old new (Ok tt)) (kept.is_true store) (λ covers truth. script_closes stage whole left old mid new (Ok tt) (so covers (trusts truth)) (λ now is. closes now is truth))
+  closes_on stage whole left old mid new (Err fault) trusts so closes = relying whole (λ script. Transcribes basis script left old new (Err fault.0)) (IsReliable kept fault.1) (λ covers truth. script_closes stage whole left old mid new (Err fault.0) (so covers (trusts truth)) (λ now is. closes now is truth))
 
   pub trusts_back : {T E : Type 0} (old mid : S) (store : T → S) (result : Result T (E × Option S)) → Trusts kept mid store result → (kept.is_true mid → kept.is_true old) → Trusts kept old store result
   trusts_back old mid store (Ok x) trusts back = λ is. back (trusts is)

@@ -1,10 +1,11 @@
 -- THE TRANSCRIPT OF A SCRIPT: what its octets make tipd print, and where it ends.
 use Rattle.tip_rows.specs.Logs.{Keeping}
-use Rattle.std.specs.Prelude.{◌≡◌, ℕ, ◌+◌, true, List, [], ◌∷◌, ◌++◌, length, take, count_by, slice_index_or, nat_le, Option, Some, None, Result, Ok, Err, if◌then◌else◌}
-use Rattle.std.specs.List.{slice_split}
+use Rattle.std.specs.Prelude.{◌≡◌, ℕ, ◌+◌, Bool, true, List, [], ◌∷◌, ◌++◌, length, take, count_by, slice_index_or, nat_le, Option, Some, None, Result, Ok, Err, if◌then◌else◌}
+use Rattle.std.specs.List.{list_all, slice_split}
 use Rattle.std.specs.Io.KnownBytes.{Appends, Consumes}
 use Rattle.script_lines.specs.Lines.{is_line_feed, longest_line}
-use Rattle.tip_scene.specs.Acts.{Stage, Declaring, Acted, Basis, acted, closing_of}
+use Rattle.tip_scene.specs.Acts.{Stage, Declaring, Acted, Basis, acted, closing_of, is_covered}
+use Rattle.tip_script.specs.Scripts.{move_of}
 use Rattle.tip_scene.specs.Stages.{IsReliable}
 use Rattle.tip_play.specs.declared.fault.PlayFault.{PlayFault}
 use Rattle.tip_play.specs.declared.fault.PlayFault.TheVariants as fault
@@ -90,6 +91,10 @@ abbrev pub TranscribesOn : {S : Type 0} → Keeping S → Basis → List ℕ →
 TranscribesOn kept basis script rest old new (Ok store) = kept.is_true store → Transcribes basis script rest old new (Ok tt)
 TranscribesOn kept basis script rest old new (Err fault) = IsReliable kept fault.1 → Transcribes basis script rest old new (Err fault.0)
 
+-- the basis covers each realm that the script declares
+abbrev pub covers_all : Basis → List ℕ → Bool
+covers_all basis script = list_all (λ line. is_covered basis (move_of line)) (lines_of script)
+
 -- rows in memory, which a script can ask to refuse, and of which nothing is stored
 abbrev pub in_memory : Basis
-in_memory = record { may_refuse = true; before = λ name. record { epoch = 0; rows = [] } }
+in_memory = record { may_refuse = true; covers = λ name. true; before = λ name. record { epoch = 0; rows = [] } }

@@ -1,14 +1,15 @@
 //! Playing a script.
-ghost use Rattle.std.specs.Prelude.{◌≡◌, ◌≢◌, true, false, map, IfOk, IfSome};
+ghost use Rattle.std.specs.Prelude.{◌≡◌, ◌≢◌, ℕ, List, true, false, Some, map, IfErr, IfOk, IfSome, IsErrOf, OnOk};
 ghost use Rattle.script_lines.specs.declared.line.LineEnd.TheVariants.{EndOfInput, TooLong};
 ghost use Rattle.tip_branch.specs.Lots.{AreIn};
 ghost use Rattle.tip_branch.specs.declared.branch.Phase.TheVariants.{Active};
 ghost use Rattle.tip_script.specs.Scripts.{move_of};
-ghost use Rattle.tip_scene.specs.Acts.{Basis, Stage as AStage, acted, closing_of};
+ghost use Rattle.tip_scene.specs.Acts.{Basis, Stage as AStage, acted, closing_of, is_covered};
+ghost use Rattle.tip_scene.specs.Blaming.{Blames, HadTooFew, HasRefused, IsBlamed};
 ghost use Rattle.tip_scene.specs.Boxes.{AreWilling};
-ghost use Rattle.tip_scene.specs.Stages.{ComeWith, IsBasis, IsSound, IsStage, Trusts, store_of};
+ghost use Rattle.tip_scene.specs.Stages.{ComeWith, IsBasis, IsSound, IsStage, Trusts, has_started, store_of};
 ghost use Rattle.tip_play.specs.Endings.{ended, unflushed};
-ghost use Rattle.tip_play.specs.Transcripts.{Transcribes, TranscribesOn, in_memory};
+ghost use Rattle.tip_play.specs.Transcripts.{Transcribes, TranscribesOn, covers_all, in_memory};
 ghost use Rattle.tip_play.specs.Writing.{ActsOn, ClosesOn, HasCome};
 
 use crate::fault::PlayFault;
@@ -34,8 +35,9 @@ pub fn play<R: BufRead, W: Write>(
     input: &mut R,
     output: &mut W,
 ) -> Result<(), PlayFault>
-    ensures { IfSome (R.remaining input.old) (λ script. Transcribes in_memory script
+    ensures transcribes { IfSome (R.remaining input.old) (λ script. Transcribes in_memory script
         (R.remaining input.new) (W.contents output.old) (W.contents output.new) result) }
+    ensures unblamed { IsErrOf result PlayFault.Store → ⊥ }
 {
     ended(play_over(alloc, MemRows::new(alloc), &ByScript, input, output))
 }
@@ -62,9 +64,14 @@ pub fn play_on<S: RowLog + Drop, R: BufRead, W: Write>(
     ensures truth { Trusts S.keeping store (λ left. left) result }
     ensures transcribes { (basis : Basis) → basis.may_refuse ≡ false →
         IsBasis S.keeping basis store →
-        IfSome (R.remaining input.old) (λ script. TranscribesOn
+        IfSome (R.remaining input.old) (λ script. covers_all basis script ≡ true → TranscribesOn
         S.keeping basis script (R.remaining input.new)
         (W.contents output.old) (W.contents output.new) result) }
+    ensures blames { (basis : Basis) → basis.may_refuse ≡ false →
+        IsBasis S.keeping basis store → (script : List ℕ) →
+        R.remaining input.old ≡ Some script → covers_all basis script ≡ true →
+        Blames S.keeping PlayFault.Store (IsBlamed S.keeping basis store)
+        (HadTooFew S.keeping basis) result }
 {
     play_over(alloc, store, &ByItself, input, output)
 }
@@ -81,9 +88,14 @@ fn play_over<S: RowLog + Drop, F: Refuser<S>, R: BufRead, W: Write>(
     ensures truth { Trusts S.keeping store (λ left. left) result }
     ensures transcribes { (basis : Basis) → basis.may_refuse ≡ F.may →
         IsBasis S.keeping basis store →
-        IfSome (R.remaining input.old) (λ script. TranscribesOn
+        IfSome (R.remaining input.old) (λ script. covers_all basis script ≡ true → TranscribesOn
         S.keeping basis script (R.remaining input.new)
         (W.contents output.old) (W.contents output.new) result) }
+    ensures blames { F.may ≡ false → (basis : Basis) → basis.may_refuse ≡ F.may →
+        IsBasis S.keeping basis store → (script : List ℕ) →
+        R.remaining input.old ≡ Some script → covers_all basis script ≡ true →
+        Blames S.keeping PlayFault.Store (IsBlamed S.keeping basis store)
+        (HadTooFew S.keeping basis) result }
 {
     let end = play_lines(alloc, store, refuser, input, output);
     match output.flush() {
@@ -116,9 +128,14 @@ fn play_lines<S: RowLog + Drop, F: Refuser<S>, R: BufRead, W: Write>(
     ensures truth { Trusts S.keeping store (λ left. left) result }
     ensures transcribes { (basis : Basis) → basis.may_refuse ≡ F.may →
         IsBasis S.keeping basis store →
-        IfSome (R.remaining input.old) (λ script. TranscribesOn
+        IfSome (R.remaining input.old) (λ script. covers_all basis script ≡ true → TranscribesOn
         S.keeping basis script (R.remaining input.new)
         (W.contents output.old) (W.contents output.new) result) }
+    ensures blames { F.may ≡ false → (basis : Basis) → basis.may_refuse ≡ F.may →
+        IsBasis S.keeping basis store → (script : List ℕ) →
+        R.remaining input.old ≡ Some script → covers_all basis script ≡ true →
+        Blames S.keeping PlayFault.Store (IsBlamed S.keeping basis store)
+        (HadTooFew S.keeping basis) result }
 {
     let Ok(mut line) = ScriptLine::new(alloc) else {
         return Err((PlayFault::Memory, Some(store)));
@@ -205,6 +222,12 @@ fn next<S: RowLog + Drop, R: BufRead>(
         IsStage S.keeping basis stage.new now }
     ensures coming { HasCome (R.remaining input.old) (R.remaining input.new) number is_over
         line.new.octets.items result }
+    ensures counts { OnOk result (S.keeping.faults (store_of stage.new)
+        ≡ S.keeping.faults (store_of stage.old)) }
+    ensures blames { (basis : Basis) (now : AStage) →
+        IsStage S.keeping basis stage.old now → IsErrOf result PlayFault.Store →
+        S.keeping.is_true (store_of stage.new) →
+        HasRefused S.keeping (store_of stage.old) (store_of stage.new) }
 {
     if is_over {
         let willing = stage.wanted_at_start()?;
@@ -263,8 +286,14 @@ fn act<S: RowLog + Drop, F: Refuser<S>, W: Write>(
     ensures acts { (basis : Basis) (now : AStage) → basis.may_refuse ≡ F.may →
         IsStage S.keeping basis stage now →
         ComeWith (move_of line.now) (map standing boxes.items) →
+        is_covered basis (move_of line.now) ≡ true →
         ActsOn S.keeping basis number (acted basis now line.now)
         (W.contents output.old) (W.contents output.new) result }
+    ensures counts { F.may ≡ false → IfOk result (λ now. S.keeping.faults (store_of now)
+        ≡ S.keeping.faults (store_of stage)) }
+    ensures blames { F.may ≡ false → (basis : Basis) (now : AStage) →
+        IsStage S.keeping basis stage now → Blames S.keeping PlayFault.Store
+        (IsBlamed S.keeping basis (store_of stage)) (HadTooFew S.keeping basis) result }
 {
     printed.clear();
     match stage.act(alloc, refuser, line, boxes, pool, printed) {
@@ -281,7 +310,7 @@ fn act<S: RowLog + Drop, F: Refuser<S>, W: Write>(
     }
 }
 
-/// The script has ended: the realms start, if they have not.
+/// The script has ended: the realms start, if they have not. Once they have, only writing can fail.
 fn finish<S: RowLog + Drop, W: Write>(
     stage: Stage<Declared<S>, Playing<StoredCore<S>>>,
     alloc: Global,
@@ -297,6 +326,11 @@ fn finish<S: RowLog + Drop, W: Write>(
         IsStage S.keeping basis stage now →
         ClosesOn S.keeping (closing_of basis now)
         (W.contents output.old) (W.contents output.new) result }
+    ensures started { has_started stage ≡ true →
+        IfErr result (λ fault. fault.0 ≡ PlayFault.Write) }
+    ensures blames { (basis : Basis) (now : AStage) → IsStage S.keeping basis stage now →
+        Blames S.keeping PlayFault.Store (IsBlamed S.keeping basis (store_of stage))
+        (HadTooFew S.keeping basis) result }
 {
     printed.clear();
     match stage.finish(alloc, pool, printed) {

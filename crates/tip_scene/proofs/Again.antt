@@ -1,6 +1,6 @@
 -- Realms that start again over their rows.
 use Rattle.std.proofs.Common.{◌≡◌, ◌++◌, ◌==◌, ℕ, zero, suc, true, false, List, [], ◌∷◌, Option, Some, None, append-nil, append_assoc, length, map, option_map, refl, sym, ap, arith, subst, ◌∙◌}
-use Rattle.std.specs.Prelude.{◌||◌, Bool, Ok, slice_get}
+use Rattle.std.specs.Prelude.{◌||◌, Ok, slice_get}
 use Rattle.std.specs.List.{flat_map, list_any}
 use Rattle.std.specs.Option.{option_map_or}
 use Rattle.std.proofs.lemmas.Option.{none-some, same_Some}
@@ -17,7 +17,7 @@ use Rattle.tip_machine.specs.States.{State}
 use Rattle.tip_machine.specs.declared.head.Head.{Head}
 use Rattle.tip_recovery.specs.Adopting.{Recovery, Unfinished, adopted_all, given, loaded, unadopted, with_boxes}
 use Rattle.tip_rows.specs.Keys.{Key}
-use Rattle.tip_rows.specs.Logs.{Keeping, Log, is_rising, last_epoch}
+use Rattle.tip_rows.specs.Logs.{Keeping, is_rising, last_epoch}
 use Rattle.tip_rows.specs.declared.row.Row.{Row}
 use Rattle.tip_actor.proofs.Lists.{partner}
 use Rattle.tip_actor.specs.Acting.{Acting, boxes_in, is_at_end, restarts, willing_boxes}
@@ -68,12 +68,12 @@ given_at give (c ∷ bs) [] place b x here there = absurd (none-some x there)
 given_at give (c ∷ bs) (y ∷ xs) zero b x here there = ap (λ z. Some (give z y)) (same_Some c b here) ∙ ap (λ z. Some (give b z)) (same_Some y x there)
 given_at give (c ∷ bs) (y ∷ xs) (suc place) b x here there = given_at give bs xs place b x here there
 
-mapped_at : {X Y : Type 0} (f : X → Y) (xs : List X) (place : ℕ) (x : X) → slice_get xs place ≡ Some x → slice_get (map f xs) place ≡ Some (f x)
+pub mapped_at : {X Y : Type 0} (f : X → Y) (xs : List X) (place : ℕ) (x : X) → slice_get xs place ≡ Some x → slice_get (map f xs) place ≡ Some (f x)
 mapped_at f [] place x here = absurd (none-some x here)
 mapped_at f (y ∷ xs) zero x here = ap (λ z. Some (f z)) (same_Some y x here)
 mapped_at f (y ∷ xs) (suc place) x here = mapped_at f xs place x here
 
-unmapped_at : {X Y : Type 0} (f : X → Y) (xs : List X) (place : ℕ) (y : Y) → slice_get (map f xs) place ≡ Some y → (x : X) × (slice_get xs place ≡ Some x) × (y ≡ f x)
+pub unmapped_at : {X Y : Type 0} (f : X → Y) (xs : List X) (place : ℕ) (y : Y) → slice_get (map f xs) place ≡ Some y → (x : X) × (slice_get xs place ≡ Some x) × (y ≡ f x)
 unmapped_at f [] place y here = absurd (none-some y here)
 unmapped_at f (x ∷ xs) zero y here = (x, refl, sym (same_Some (f x) y here))
 unmapped_at f (x ∷ xs) (suc place) y here = unmapped_at f xs place y here
@@ -152,7 +152,7 @@ new_again kept stored_core olds scene is = λ news are. all_anew news olds scene
 
 -- The last epoch
 
-same_lists : {X : Type 0} (xs ys : List X) → ((place : ℕ) → slice_get xs place ≡ slice_get ys place) → xs ≡ ys
+pub same_lists : {X : Type 0} (xs ys : List X) → ((place : ℕ) → slice_get xs place ≡ slice_get ys place) → xs ≡ ys
 same_lists [] [] same = refl
 same_lists [] (y ∷ ys) same = absurd (none-some y (same 0))
 same_lists (x ∷ xs) [] same = absurd (none-some x (sym (same 0)))

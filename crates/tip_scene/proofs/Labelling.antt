@@ -127,8 +127,8 @@ module _ (declarations : List Declaration) (name : List ℕ) (labels : List (Lis
   labels_none : with_labels labels declaration ≡ None → labelled name labels declarations ≡ None
   labels_none none = labelled_is ∙ ap (option_map (λ d. slice_set declarations place d)) none
 
-  pub labelled_so : (now : Declaration) (result : Result (Unit {0}) LineFault) → OnOk result (with_labels labels declaration ≡ Some now) → (IsErrOf result NotUnderstood → with_labels labels declaration ≡ None) → Declares (labelled name labels declarations) (slice_set declarations place now) result
-  labelled_so now (Ok done) ok bad = labels_one now ok
-  labelled_so now (Err NotUnderstood) ok bad = labels_none (bad refl)
-  labelled_so now (Err Memory) ok bad = tt
-  labelled_so now (Err Store) ok bad = tt
+  pub labelled_so : (now : Declaration) (result : Result (Unit {0}) LineFault) → OnOk result (with_labels labels declaration ≡ Some now) → (IsErrOf result NotUnderstood → with_labels labels declaration ≡ None) → (IsErrOf result Store → ⊥) → Declares (labelled name labels declarations) (slice_set declarations place now) result
+  labelled_so now (Ok done) ok bad unasked = labels_one now ok
+  labelled_so now (Err NotUnderstood) ok bad unasked = labels_none (bad refl)
+  labelled_so now (Err Memory) ok bad unasked = tt
+  labelled_so now (Err Store) ok bad unasked = unasked refl

@@ -10,5 +10,6 @@ pub mod Begun
 pub mod Starting
 pub mod Again
 pub mod Renewed
+pub mod Blaming
 pub mod Staging
 pub mod Dialling

@@ -1,5 +1,5 @@
 -- One realm that starts again while the others run.
-use Rattle.std.proofs.Common.{◌≡◌, ◌≢◌, ◌+◌, ◌++◌, if◌then◌else◌, ◌==◌, ◌∷◌, ℕ, Bool, true, false, List, [], Option, Some, None, append-nil, append_assoc, map, refl, sym, ap, subst, ◌∙◌}
+use Rattle.std.proofs.Common.{◌≡◌, ◌≢◌, ◌+◌, ◌++◌, if◌then◌else◌, ◌==◌, ℕ, Bool, true, false, List, [], Option, Some, None, append-nil, append_assoc, map, refl, sym, ap, subst, ◌∙◌}
 use Rattle.std.specs.Prelude.{Err, IsTrue, Ok, OnOk, Result}
 use Rattle.std.specs.List.{flat_map}
 use Rattle.std.specs.Option.{option_and_then}

@@ -1,9 +1,9 @@
 -- Declared realms, and what a line makes of a stage.
 use Rattle.tip_rows.specs.Logs.{Keeping}
-use Rattle.std.proofs.Common.{◌≡◌, ◌≢◌, ◌<◌, ◌++◌, ◌∷◌, [], ℕ, List, true, false, ◌==◌, nat_lt, Some, option_map, length, arith, refl, sym, ap, subst, ◌∙◌}
-use Rattle.std.specs.Prelude.{Err, Ok, Option, Result, if◌then◌else◌}
-use Rattle.std.specs.List.{list_all}
-use Rattle.std.proofs.lemmas.Bool.{false≢true}
+use Rattle.std.proofs.Common.{◌≡◌, ◌≢◌, ◌<◌, ◌++◌, ◌∷◌, [], ℕ, zero, suc, List, Bool, true, false, ◌==◌, nat_lt, None, Some, map, option_map, length, arith, refl, sym, ap, subst, ◌∙◌}
+use Rattle.std.specs.Prelude.{◌&&◌, Err, Ok, Option, Result, if◌then◌else◌, slice_get, slice_set}
+use Rattle.std.specs.List.{list_all, position_or_len}
+use Rattle.std.proofs.lemmas.Bool.{and_from, false≢true}
 use Rattle.std.proofs.lemmas.Bool.Decides.{nat_tests}
 use Rattle.std.proofs.lemmas.List.{append-nil, append_assoc}
 use Rattle.tip_line.specs.Words.{is_address, is_realm}
@@ -11,10 +11,12 @@ use Rattle.tip_machine.specs.Heads.{are_allowed}
 use Rattle.tip_machine.specs.declared.head.Limits.{Limits}
 use Rattle.tip_script.specs.Moves.{move_by}
 use Rattle.tip_script.specs.Scripts.{Move, is_start, move_of, realm_of}
-use Rattle.std.proofs.lemmas.Option.{none-some}
+use Rattle.std.proofs.lemmas.List.Folds.{list_all-append}
+use Rattle.std.proofs.lemmas.Option.{none-some, same_Some}
+use Rattle.tip_scene.proofs.Adopted.{both}
 use Rattle.tip_script.specs.declared.instruction.Instruction.{Instruction}
 use Rattle.tip_script.specs.declared.instruction.Instruction.TheVariants as instruction
-use Rattle.tip_scene.specs.Acts.{Stage, Declaring, Playing, Acted, Basis, acted, acted_by, acts, acts_if, declaration_of, declared, is_count, is_other, may_say, not_understood, scene_of, starts_text}
+use Rattle.tip_scene.specs.Acts.{Stage, Declaring, Playing, Acted, Basis, acted, acted_by, acts, acts_if, are_covered, declaration_of, declared, is_declared, labelled, labelled_at, may_be_declared, may_be_labelled, numbered, is_count, is_other, may_say, not_understood, scene_of, starts_text}
 use Rattle.tip_scene.specs.Scenes.{Scene, moved}
 use Rattle.tip_scene.specs.Stages.{APlaying, AStage, ActsSo, Declared, Declares, IsDeclared, IsBasis, IsReliable, IsStage, Moves}
 use Rattle.tip_scene.specs.Standing.{IsScene, IsMoved}
@@ -32,6 +34,45 @@ declares declarations name address branches limits new few some allowed named re
     let short : nat_lt (length declarations) 64 ≡ true = grind (arith, nat_tests) in
     rw (new, short, some, allowed, named, reached) refl
 
+-- Realms that a basis covers
+
+module _ (basis : Basis) where
+  pub declared_covered : (name address : List ℕ) (branches : ℕ) (limits : Limits) → basis.covers name ≡ true → (before now : List Declaration) → declared name address branches limits before ≡ Some now → are_covered basis before ≡ true → are_covered basis now ≡ true
+  declared_covered name address branches limits covers before now is all = by (may_be_declared name address branches limits before) is where
+    one : are_covered basis (before ++ declaration_of name address branches limits ∷ []) ≡ true
+    one = list_all-append (λ (declaration : Declaration). basis.covers declaration.name) before (declaration_of name address branches limits ∷ []) ∙ and_from (are_covered basis before) (basis.covers name && true) all (and_from (basis.covers name) true covers refl)
+
+    by : (may : Bool) → (if may then Some (before ++ declaration_of name address branches limits ∷ []) else None) ≡ Some now → are_covered basis now ≡ true
+    by true some = subst (λ l. are_covered basis l ≡ true) (same_Some (before ++ declaration_of name address branches limits ∷ []) now some) one
+    by false none = absurd (none-some now none)
+
+  covered_at : (declarations : List Declaration) (place : ℕ) (declaration : Declaration) → slice_get declarations place ≡ Some declaration → are_covered basis declarations ≡ true → basis.covers declaration.name ≡ true
+  covered_at [] place declaration here all = absurd (none-some declaration here)
+  covered_at (d ∷ declarations) zero declaration here all = subst (λ (x : Declaration). basis.covers x.name ≡ true) (same_Some d declaration here) (both (basis.covers d.name) (are_covered basis declarations) all).0
+  covered_at (d ∷ declarations) (suc place) declaration here all = covered_at declarations place declaration here (both (basis.covers d.name) (are_covered basis declarations) all).1
+
+  covered_set : (declarations : List Declaration) (place : ℕ) (now : Declaration) → are_covered basis declarations ≡ true → basis.covers now.name ≡ true → are_covered basis (slice_set declarations place now) ≡ true
+  covered_set [] place now all is = refl
+  covered_set (d ∷ declarations) zero now all is = and_from (basis.covers now.name) (are_covered basis declarations) is (both (basis.covers d.name) (are_covered basis declarations) all).1
+  covered_set (d ∷ declarations) (suc place) now all is =
+      let parts = both (basis.covers d.name) (are_covered basis declarations) all in
+      and_from (basis.covers d.name) (are_covered basis (slice_set declarations place now)) parts.0 (covered_set declarations place now parts.1 is)
+
+  pub labelled_covered : (name : List ℕ) (labels : List (List ℕ)) (before now : List Declaration) → labelled name labels before ≡ Some now → are_covered basis before ≡ true → are_covered basis now ≡ true
+  labelled_covered name labels before now is all = at (position_or_len (is_declared name) before) (slice_get before (position_or_len (is_declared name) before)) refl is where
+    set : (place : ℕ) (old : Declaration) (may : Bool) → slice_get before place ≡ Some old → option_map (λ d. slice_set before place d) (if may then Some (record old { branches = numbered 1 labels; is_labelled = true }) else None) ≡ Some now → are_covered basis now ≡ true
+    set place old true here some = subst (λ l. are_covered basis l ≡ true) (same_Some (slice_set before place (record old { branches = numbered 1 labels; is_labelled = true })) now some) (covered_set before place (record old { branches = numbered 1 labels; is_labelled = true }) all (covered_at before place old here all))
+    set place old false here none = absurd (none-some now none)
+
+    at : (place : ℕ) (found : Option Declaration) → slice_get before place ≡ found → labelled_at labels place found before ≡ Some now → are_covered basis now ≡ true
+    at place None here none = absurd (none-some now none)
+    at place (Some old) here some = set place old (may_be_labelled labels old) here some
+
+  pub name_covered : (declarations : List Declaration) (place : ℕ) (name : List ℕ) → slice_get (map (λ (declaration : Declaration). declaration.name) declarations) place ≡ Some name → are_covered basis declarations ≡ true → basis.covers name ≡ true
+  name_covered [] place name here all = absurd (none-some name here)
+  name_covered (d ∷ declarations) zero name here all = subst (λ n. basis.covers n ≡ true) (same_Some d.name name here) (both (basis.covers d.name) (are_covered basis declarations) all).0
+  name_covered (d ∷ declarations) (suc place) name here all = name_covered declarations place name here (both (basis.covers d.name) (are_covered basis declarations) all).1
+
 -- One line
 
 module _ {S : Type 0} (kept : Keeping S) (basis : Basis) where
@@ -41,13 +82,14 @@ module _ {S : Type 0} (kept : Keeping S) (basis : Basis) where
   obeys_first realms printed printed' move result (Playing scene) is obeys = absurd is
 
   -- a realm was declared, or labelled
-  pub declares_so : (realms realms' : Declared S) (declarations : List Declaration) (printed : List ℕ) (more : List Declaration → Option (List Declaration)) (result : Result (Unit {0}) LineFault) (done : Unit {0}) → IsDeclared kept basis realms declarations → realms'.store ≡ realms.store → Declares (more realms.declarations.items) realms'.declarations.items result → result ≡ Ok done →
+  pub declares_so : (realms realms' : Declared S) (declarations : List Declaration) (printed : List ℕ) (more : List Declaration → Option (List Declaration)) (result : Result (Unit {0}) LineFault) (done : Unit {0}) → ((before now : List Declaration) → more before ≡ Some now → are_covered basis before ≡ true → are_covered basis now ≡ true) → IsDeclared kept basis realms declarations → realms'.store ≡ realms.store → Declares (more realms.declarations.items) realms'.declarations.items result → result ≡ Ok done →
       ActsSo kept basis printed printed (record { printed = []; stage = option_map Declaring (more declarations) }) (Ok (stage.Declaring realms'))
-  declares_so realms realms' declarations printed more result done is store said ok = λ truth.
-      let items = subst (Declares (more realms.declarations.items) realms'.declarations.items) ok said in (
+  declares_so realms realms' declarations printed more result done covering is store said ok = λ truth.
+      let items = subst (Declares (more realms.declarations.items) realms'.declarations.items) ok said in
+      let now = ap more (sym is.declared) ∙ items in (
         Declaring realms'.declarations.items,
-        ap (option_map Declaring) (ap more (sym is.declared) ∙ items),
-        record { founded = subst (IsBasis kept basis) (sym store) is.founded; declared = refl },
+        ap (option_map Declaring) now,
+        record { founded = subst (IsBasis kept basis) (sym store) is.founded; declared = refl; covered = covering declarations realms'.declarations.items now is.covered },
         sym (append-nil printed),
       )
 

@@ -94,10 +94,19 @@ pub record Before : Type 0 where
   pub epoch : ℕ
   pub rows : List (Key × Row)
 
--- WHAT A SCRIPT IS PLAYED ON: whether its store can be asked to refuse, and what it has of each realm
+-- WHAT A SCRIPT IS PLAYED ON: whether its store can be asked to refuse, and what it has of each realm that this covers
 pub record Basis : Type 0 where
   pub may_refuse : Bool
+  pub covers : List ℕ → Bool
   pub before : List ℕ → Before
+
+-- it covers the realm that a line declares
+abbrev pub is_covered : Basis → Option Move → Bool
+is_covered basis (Some (Declare name address branches limits)) = basis.covers name
+is_covered basis other = true
+
+abbrev pub are_covered : Basis → List Declaration → Bool
+are_covered basis declarations = list_all (λ declaration. basis.covers declaration.name) declarations
 
 -- a realm starts in the epoch after its last one
 abbrev pub start_of : Before → Declaration → Start

@@ -5,7 +5,10 @@ use Rattle.tip_branch.specs.declared.branch.Phase.TheVariants.{Ready}
 use Rattle.tip_branch.specs.declared.branch.Plan.TheVariants.{Yes}
 use Rattle.tip_branch.specs.declared.branch.Standing.{Standing}
 use Rattle.tip_recovery.specs.Adopting.{Recovery, Unfinished}
+use Rattle.tip_rows.specs.Keys.{Key}
 use Rattle.tip_rows.specs.Rows.{branches_of}
+use Rattle.tip_rows.specs.declared.row.Row.{Row}
+use Rattle.tip_actor.specs.Acting.{Acting}
 
 -- a branch of a row that waits for its outcome, and promises to commit
 abbrev pub willing_branch : Standing
@@ -24,3 +27,12 @@ row_count (row ∷ rows) = length (branches_of row.row) + row_count rows
 abbrev pub branch_count : List Recovery → ℕ
 branch_count [] = 0
 branch_count (recovery ∷ realms) = row_count recovery.rows + branch_count realms
+
+-- the same of rows that are stored, and of those of all realms of a scene
+abbrev pub boxes_for : List (Key × Row) → ℕ
+boxes_for [] = 0
+boxes_for (stored ∷ rows) = length (branches_of stored.1) + boxes_for rows
+
+abbrev pub box_count : List Acting → ℕ
+box_count [] = 0
+box_count (acting ∷ scene) = boxes_for acting.world.rows + box_count scene

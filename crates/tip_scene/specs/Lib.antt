@@ -6,3 +6,4 @@ pub mod Acts
 pub mod Standing
 pub mod Rising
 pub mod Stages
+pub mod Blaming

@@ -1,5 +1,5 @@
 -- How the code's stage stands for the script's.
-use Rattle.std.specs.Prelude.{◌≡◌, ℕ, List, ◌++◌, true, false, Option, Some, None, Result, Ok, Err}
+use Rattle.std.specs.Prelude.{◌≡◌, ℕ, List, ◌++◌, Bool, true, false, Option, Some, None, Result, Ok, Err}
 use Rattle.std.specs.List.{list_all}
 use Rattle.tip_actor.specs.Acting.{boxes_of}
 use Rattle.tip_actor.specs.Standing.{Actor, StoredCore}
@@ -9,7 +9,7 @@ use Rattle.tip_branch.specs.Lots.{badges_of}
 use Rattle.tip_branch.specs.declared.branch.Standing.{Standing}
 use Rattle.tip_rows.specs.Logs.{Keeping, IsPart, Log}
 use Rattle.tip_script.specs.Scripts.{Move, plans_of, plans_with}
-use Rattle.tip_scene.specs.Acts.{Stage, Declaring, Playing, Acted, Basis}
+use Rattle.tip_scene.specs.Acts.{Stage, Declaring, Playing, Acted, Basis, are_covered}
 use Rattle.tip_scene.specs.Hosting.{may_be_hosted}
 use Rattle.tip_scene.specs.Scenes.{Moved}
 use Rattle.tip_scene.specs.Standing.{IsScene, IsMoved}
@@ -37,6 +37,11 @@ abbrev pub store_of : {S : Type 0} → AStage S → S
 store_of (stage.Declaring realms) = realms.store
 store_of (stage.Playing playing) = playing.stored_core.store
 
+-- the realms are at work
+abbrev pub has_started : {S : Type 0} → AStage S → Bool
+has_started (stage.Declaring realms) = false
+has_started (stage.Playing playing) = true
+
 -- realms that are declared may be hosted so, and the stored core of those at work was not stopped
 abbrev pub IsSound : {S : Type 0} → AStage S → Type 0
 IsSound (stage.Declaring realms) = list_all may_be_hosted realms.declarations.items ≡ true
@@ -48,12 +53,12 @@ spec_of declaration = record { name = declaration.name; address = declaration.ad
 
 -- The store
 
--- a store that has of each realm what the basis says, and of which no refusal was asked
+-- a store that has what the basis says of each realm that it covers, and of which no refusal was asked for these
 pub record IsBasis {S : Type 0} (kept : Keeping S) (basis : Basis) (store : S) : Type 0 where
   pub log : Log
   pub stood : kept.stands store log
-  pub before : (name : List ℕ) → IsPart log name (basis.before name).epoch (basis.before name).rows
-  pub none_due : (name : List ℕ) → kept.is_due store name ≡ false
+  pub before : (name : List ℕ) → basis.covers name ≡ true → IsPart log name (basis.before name).epoch (basis.before name).rows
+  pub none_due : (name : List ℕ) → basis.covers name ≡ true → kept.is_due store name ≡ false
 
 -- a store that comes back may be relied on; of one that does not, where memory ended in a start, nothing is known
 abbrev pub IsReliable : {S : Type 0} → Keeping S → Option S → Type 0
@@ -70,6 +75,7 @@ Trusts kept old store (Err fault) = IsReliable kept fault.1 → kept.is_true old
 pub record IsDeclared {S : Type 0} (kept : Keeping S) (basis : Basis) (realms : Declared S) (declarations : List Declaration) : Type 0 where
   pub founded : IsBasis kept basis realms.store
   pub declared : realms.declarations.items ≡ declarations
+  pub covered : are_covered basis declarations ≡ true
 
 abbrev pub IsStage : {S : Type 0} → Keeping S → Basis → AStage S → Stage → Type 0
 IsStage kept basis (stage.Declaring realms) (Declaring declarations) = IsDeclared kept basis realms declarations
@@ -77,12 +83,12 @@ IsStage kept basis (stage.Declaring realms) (Playing scene) = ⊥
 IsStage kept basis (stage.Playing playing) (Declaring declarations) = ⊥
 IsStage kept basis (stage.Playing playing) (Playing scene) = IsScene kept playing.stored_core playing.actors.items scene
 
--- a realm more was declared, or may not be; where memory ends nothing is said
+-- a realm more was declared, or may not be; where memory ends nothing is said. The store is not asked, and not blamed
 abbrev pub Declares : Option (List Declaration) → List Declaration → Result (Unit {0}) LineFault → Type 0
 Declares more now (Ok done) = more ≡ Some now
 Declares more now (Err NotUnderstood) = more ≡ None
 Declares more now (Err Memory) = Unit {0}
-Declares more now (Err Store) = Unit {0}
+Declares more now (Err Store) = ⊥
 
 -- a line was done, or may not stand here; where memory ends, or the store refuses, nothing is said
 abbrev pub Serves : {S : Type 0} → Keeping S → List ℕ → List ℕ → Moved → APlaying S → Result (Unit {0}) LineFault → Type 0

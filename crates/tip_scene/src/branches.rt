@@ -3,7 +3,7 @@ ghost use Rattle.std.specs.Prelude.{◌≡◌, ◌≤◌, true, false, IfOk, IsE
 ghost use Rattle.tip_line.specs.Fields.{fields_of};
 ghost use Rattle.tip_rows.specs.Rows.{first_label};
 ghost use Rattle.tip_scene.specs.Acts.{are_labels, first_branches, numbered};
-ghost use Rattle.tip_scene.specs.declared.fault.LineFault.TheVariants.{NotUnderstood};
+ghost use Rattle.tip_scene.specs.declared.fault.LineFault.TheVariants.{NotUnderstood, Store};
 
 use crate::fault::LineFault;
 use std::alloc::{AllocError, Global};
@@ -34,6 +34,7 @@ pub fn labelled_branches(alloc: Global, labels: &[u8]) -> Result<Branches, LineF
     ensures ok { IfOk result (λ branches. (branches ≡ numbered 1 (fields_of 32 labels.now))
         × (are_labels (fields_of 32 labels.now) ≡ true)) }
     ensures bad { IsErrOf result NotUnderstood → are_labels (fields_of 32 labels.now) ≡ false }
+    ensures unblamed { IsErrOf result Store → ⊥ }
 {
     let mut fields: Fields<'_, b' '> = Fields::of(labels);
     let mut items = Vec::new(alloc);

@@ -1,6 +1,8 @@
 //! How many boxes the rows of realms want that start.
-ghost use Rattle.std.specs.Prelude.{◌≡◌, List, ℕ};
+ghost use Rattle.std.specs.Prelude.{◌≡◌, List, ℕ, [], ◌∷◌, map, IsErrOf, OnOk};
+ghost use Rattle.tip_actor.specs.declared.fault.ActFault.TheVariants.{Store};
 ghost use Rattle.tip_rows.specs.Logs.{Log};
+ghost use Rattle.tip_scene.specs.Blaming.{AreUnread};
 
 use crate::boxes::count_branches;
 use crate::declared::Declaration;
@@ -18,6 +20,9 @@ pub(crate) fn count_declared<S: RowLog + Drop>(
     ensures stands { (log : Log) → S.keeping.stands store.old log → S.keeping.stands store.new log }
     ensures due { (r : List ℕ) → S.keeping.is_due store.new r ≡ S.keeping.is_due store.old r }
     ensures truth { S.keeping.is_true store.new → S.keeping.is_true store.old }
+    ensures counts { OnOk result (S.keeping.faults store.new ≡ S.keeping.faults store.old) }
+    ensures unread { IsErrOf result Store → AreUnread S.keeping store.old store.new
+        (map (λ declaration. declaration.name) declarations.now) }
 {
     let mut count: usize = 0;
     for declaration in declarations {
@@ -36,6 +41,9 @@ pub(crate) fn count_acting<S: RowLog + Drop>(
     ensures stands { (log : Log) → S.keeping.stands store.old log → S.keeping.stands store.new log }
     ensures due { (r : List ℕ) → S.keeping.is_due store.new r ≡ S.keeping.is_due store.old r }
     ensures truth { S.keeping.is_true store.new → S.keeping.is_true store.old }
+    ensures counts { OnOk result (S.keeping.faults store.new ≡ S.keeping.faults store.old) }
+    ensures unread { IsErrOf result Store → AreUnread S.keeping store.old store.new
+        (map (λ actor. actor.name) actors.now) }
 {
     let mut count: usize = 0;
     for actor in actors {
@@ -55,6 +63,9 @@ fn count_more<S: RowLog + Drop>(
     ensures stands { (log : Log) → S.keeping.stands store.old log → S.keeping.stands store.new log }
     ensures due { (r : List ℕ) → S.keeping.is_due store.new r ≡ S.keeping.is_due store.old r }
     ensures truth { S.keeping.is_true store.new → S.keeping.is_true store.old }
+    ensures counts { OnOk result (S.keeping.faults store.new ≡ S.keeping.faults store.old) }
+    ensures unread { IsErrOf result Store → AreUnread S.keeping store.old store.new
+        (realm.now ∷ []) }
 {
     if !is_meant(realm, only) {
         return Ok(count);
@@ -62,7 +73,8 @@ fn count_more<S: RowLog + Drop>(
     match store.load(realm) {
         Ok(loaded) => Ok(count.saturating_add(count_branches(&loaded.rows))),
         Err(LoadFault::Memory) => Err(ActFault::Memory),
-        Err(LoadFault::Refused | LoadFault::BadRow) => Err(ActFault::Store),
+        Err(LoadFault::Refused) => Err(ActFault::Store),
+        Err(LoadFault::BadRow) => Err(ActFault::Store),
     }
 }
 

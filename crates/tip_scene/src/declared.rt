@@ -1,16 +1,17 @@
 //! The realms of a script, before they start.
-ghost use Rattle.std.specs.Prelude.{◌≡◌, ◌≤◌, ◌++◌, ◌&&◌, true, false, List, [], None, Some, map, IfOk, OnErr, OnOk, IsErrOf, string_bytes};
+ghost use Rattle.std.specs.Prelude.{◌≡◌, ◌≤◌, ◌<◌, ◌++◌, ◌&&◌, true, false, List, [], None, Some, length, map, IfOk, OnErr, OnOk, IsErrOf, string_bytes};
 ghost use Rattle.std.specs.List.{list_all, position_or_len};
 ghost use Rattle.tip_branch.specs.Always.{Always};
 ghost use Rattle.tip_line.specs.Fields.{fields_of};
 ghost use Rattle.tip_line.specs.Words.{is_address, is_realm};
-ghost use Rattle.tip_scene.specs.Acts.{Basis, declaration_of, declared, is_count, is_declared, is_other, labelled, scene_of, starts_text, with_labels};
-ghost use Rattle.tip_scene.specs.Boxes.{AreWilling};
+ghost use Rattle.tip_scene.specs.Acts.{Basis, Declaring as Begins, declaration_of, declared, is_count, is_declared, is_other, labelled, scene_of, starts_text, with_labels};
+ghost use Rattle.tip_scene.specs.Blaming.{Blames, HasRefused, IsAtFault};
+ghost use Rattle.tip_scene.specs.Boxes.{AreWilling, box_count};
 ghost use Rattle.tip_scene.specs.Hosting.{may_be_hosted};
 ghost use Rattle.tip_scene.specs.Rising.{AreNew};
 ghost use Rattle.tip_scene.specs.Stages.{Declares, IsDeclared, IsBasis, Trusts, spec_of};
 ghost use Rattle.tip_scene.specs.Standing.{IsScene};
-ghost use Rattle.tip_scene.specs.declared.fault.LineFault.TheVariants.{NotUnderstood};
+ghost use Rattle.tip_scene.specs.declared.fault.LineFault.TheVariants.{NotUnderstood, Store};
 
 use crate::branches::{first_branches, labelled_branches};
 use crate::counting::count_declared;
@@ -125,6 +126,12 @@ impl<S: RowLog + Drop> Declared<S, Core> {
         ensures running { IfOk result (λ playing. playing.stored_core.is_stopped ≡ false) }
         ensures truth { Trusts S.keeping self.store
             (λ playing. playing.stored_core.store) result }
+        ensures counts { IfOk result (λ playing. S.keeping.faults playing.stored_core.store
+            ≡ S.keeping.faults self.store) }
+        ensures blames { (basis : Basis) (declarations : List Declaration) →
+            IsDeclared S.keeping basis self declarations → Blames S.keeping ActFault.Store
+            (IsAtFault S.keeping (length pool.old.items) self.store (Begins declarations))
+            (length pool.old.items < box_count (scene_of basis declarations)) result }
         ensures text { (basis : Basis) (declarations : List Declaration) →
             IsDeclared S.keeping basis self declarations →
             IfOk result (λ playing. S.keeping.is_true playing.stored_core.store →
@@ -161,6 +168,12 @@ impl<S: RowLog + Drop> Declared<S, Core> {
         ensures stands { (basis : Basis) (declarations : List Declaration) →
             IsDeclared S.keeping basis self.old declarations →
             IsDeclared S.keeping basis self.new declarations }
+        ensures counts { OnOk result (S.keeping.faults self.new.store
+            ≡ S.keeping.faults self.old.store) }
+        ensures blames { (basis : Basis) (declarations : List Declaration) →
+            IsDeclared S.keeping basis self.old declarations → IsErrOf result ActFault.Store →
+            S.keeping.is_true self.new.store →
+            HasRefused S.keeping self.old.store self.new.store }
     {
         count_declared(&mut self.store, &self.declarations, only)
     }
@@ -172,6 +185,7 @@ impl Declaration {
         ensures ok { OnOk result (with_labels (fields_of 32 labels.now) self.old ≡ Some self.new) }
         ensures bad { IsErrOf result NotUnderstood →
             with_labels (fields_of 32 labels.now) self.old ≡ None }
+        ensures unblamed { IsErrOf result Store → ⊥ }
         ensures same { OnErr result (self.new ≡ self.old) }
     {
         if self.is_labelled {
@@ -247,6 +261,7 @@ fn declaration_of(
         × (is_address address.now ≡ true)) }
     ensures bad { IsErrOf result NotUnderstood →
         (is_realm name.now && is_address address.now) ≡ false }
+    ensures unblamed { IsErrOf result Store → ⊥ }
 {
     Ok(Declaration {
         name: Realm::new(alloc, name.as_bytes())?,

@@ -1,15 +1,16 @@
 //! The realms of a script at work.
-ghost use Rattle.std.specs.Prelude.{◌≡◌, Some, None, true, false, map, IfOk, string_bytes};
+ghost use Rattle.std.specs.Prelude.{◌≡◌, ◌<◌, ◌==◌, Some, None, true, false, length, map, IfOk, IsErrOf, OnOk, string_bytes};
 ghost use Rattle.std.specs.List.{position_or_len};
 ghost use Rattle.tip_branch.specs.Always.{Always};
-ghost use Rattle.tip_actor.specs.Acting.{Acting, boxes_of};
-ghost use Rattle.tip_actor.specs.Standing.{IsActing, Tells};
+ghost use Rattle.tip_actor.specs.Acting.{Acting, boxes_of, count_of, takes};
+ghost use Rattle.tip_actor.specs.Standing.{Acts, IsActing, Tells};
 ghost use Rattle.tip_script.specs.Moves.{move_by};
 ghost use Rattle.tip_script.specs.Scripts.{Renew as Renews, is_start, plans_with, realm_of};
 ghost use Rattle.tip_branch.specs.Lots.{AreIn};
 ghost use Rattle.tip_branch.specs.declared.branch.Phase.TheVariants.{Active};
-ghost use Rattle.tip_scene.specs.Acts.{may_say};
-ghost use Rattle.tip_scene.specs.Boxes.{AreWilling};
+ghost use Rattle.tip_scene.specs.Acts.{Playing as AtWork, may_say};
+ghost use Rattle.tip_scene.specs.Blaming.{Blames, HasRefused, IsAtFault, judged};
+ghost use Rattle.tip_scene.specs.Boxes.{AreWilling, box_count};
 ghost use Rattle.tip_scene.specs.Scenes.{Scene, does, elsewhere, moved, moved_in};
 ghost use Rattle.tip_scene.specs.Standing.{has_name, IsScene};
 ghost use Rattle.tip_scene.specs.Stages.{ComeWith, Moves, Prints, Serves, Trusts};
@@ -61,6 +62,14 @@ impl<S: RowLog + Drop> Playing<StoredCore<S>, Actor> {
             ComeWith (Some (move_by instruction.entry)) (map standing boxes.items) →
             Moves S.keeping (string_bytes printed.old)
             (string_bytes printed.new) (moved (move_by instruction.entry) scene) result }
+        ensures counts { R.may ≡ false →
+            IfOk result (λ playing. S.keeping.faults playing.stored_core.store
+            ≡ S.keeping.faults self.stored_core.store) }
+        ensures blames { R.may ≡ false → (scene : Scene) →
+            IsScene S.keeping self.stored_core self.actors.items scene →
+            Blames S.keeping LineFault.Store (IsAtFault S.keeping (length pool.old.items)
+            self.stored_core.store (AtWork scene)) (length pool.old.items < box_count scene)
+            result }
     {
         let Some(realm) = instruction.realm() else {
             return restart(self, alloc, pool, printed);
@@ -96,18 +105,26 @@ impl<S: RowLog + Drop> Playing<StoredCore<S>, Actor> {
             S.keeping.is_true self.new.stored_core.store → Serves S.keeping
             (string_bytes printed.old) (string_bytes printed.new)
             (moved (move_by instruction.entry) scene) self.new result }
+        ensures counts { R.may ≡ false → OnOk result (S.keeping.faults self.new.stored_core.store
+            ≡ S.keeping.faults self.old.stored_core.store) }
+        ensures blames { R.may ≡ false → (scene : Scene) → IsScene S.keeping
+            self.old.stored_core self.old.actors.items scene →
+            S.keeping.is_true self.new.stored_core.store → IsErrOf result LineFault.Store →
+            IsAtFault S.keeping (length pool.old.items) self.old.stored_core.store (AtWork scene)
+            self.new.stored_core.store }
     {
         if let Instruction::Renew { .. } = instruction {
-            return self.renew(alloc, realm, pool, printed);
+            return self.renew(alloc, refuser, realm, pool, printed);
         }
         let boxes = fresh(alloc, boxes)?;
-        self.act_in(alloc, refuser, realm, instruction, boxes, printed)
+        self.act_judged(alloc, refuser, realm, instruction, boxes, printed)
     }
 
     /// This realm starts again while the others run.
-    fn renew(
+    fn renew<R: Refuser<S>>(
         &mut self,
         alloc: Global,
+        refuser: &R,
         name: &str,
         pool: &mut Vec<Box<dyn Branch + Send>>,
         printed: &mut String,
@@ -123,6 +140,13 @@ impl<S: RowLog + Drop> Playing<StoredCore<S>, Actor> {
             Serves S.keeping (string_bytes printed.old)
             (string_bytes printed.new) (moved_in (Renews name.now) (Some name.now) scene)
             self.new result }
+        ensures counts { R.may ≡ false → OnOk result (S.keeping.faults self.new.stored_core.store
+            ≡ S.keeping.faults self.old.stored_core.store) }
+        ensures blames { R.may ≡ false → (scene : Scene) → IsScene S.keeping
+            self.old.stored_core self.old.actors.items scene →
+            S.keeping.is_true self.new.stored_core.store → IsErrOf result LineFault.Store →
+            IsAtFault S.keeping (length pool.old.items) self.old.stored_core.store (AtWork scene)
+            self.new.stored_core.store }
     {
         let place = self.place_of(name);
         let Some(actor) = self.actors.get_mut(place) else {
@@ -130,9 +154,52 @@ impl<S: RowLog + Drop> Playing<StoredCore<S>, Actor> {
             return Ok(());
         };
         let stored_core = &mut self.stored_core;
+        let before = stored_core.store.faults();
         renew(actor, alloc, stored_core, place, pool, printed)?;
-        actor.settle(alloc, stored_core, place, printed)?;
-        Ok(())
+        let end = settle(actor, alloc, stored_core, place, printed);
+        judge(
+            end,
+            refuser.may_refuse(),
+            before,
+            stored_core.store.faults(),
+        )
+    }
+
+    /// Does what a line says that is of this realm, and starts none again. Its fault is judged by the store's count.
+    fn act_judged<R: Refuser<S>>(
+        &mut self,
+        alloc: Global,
+        refuser: &R,
+        realm: &str,
+        instruction: Instruction<'_>,
+        boxes: HeldFresh,
+        printed: &mut String,
+    ) -> Result<(), LineFault>
+        requires same { is_start (move_by instruction) ≡ false }
+        requires running { self.old.stored_core.is_stopped ≡ false }
+        ensures running { self.new.stored_core.is_stopped ≡ false }
+        ensures truth { S.keeping.is_true self.new.stored_core.store →
+            S.keeping.is_true self.old.stored_core.store }
+        ensures serves { (scene : Scene) → IsScene S.keeping
+            self.old.stored_core self.old.actors.items scene →
+            may_say R.may (move_by instruction.entry) ≡ true →
+            boxes ≡ boxes_of (plans_with (move_by instruction.entry)) →
+            Serves S.keeping (string_bytes printed.old)
+            (string_bytes printed.new)
+            (moved_in (move_by instruction.entry) (Some realm.now) scene) self.new result }
+        ensures counts { R.may ≡ false → OnOk result (S.keeping.faults self.new.stored_core.store
+            ≡ S.keeping.faults self.old.stored_core.store) }
+        ensures blames { R.may ≡ false → IsErrOf result LineFault.Store →
+            HasRefused S.keeping self.old.stored_core.store self.new.stored_core.store }
+    {
+        let before = self.stored_core.store.faults();
+        let end = self.act_in(alloc, refuser, realm, instruction, boxes, printed);
+        judge(
+            end,
+            refuser.may_refuse(),
+            before,
+            self.stored_core.store.faults(),
+        )
     }
 
     /// Does what a line says that is of this realm, and starts none again.
@@ -182,6 +249,12 @@ impl<S: RowLog + Drop> Playing<StoredCore<S>, Actor> {
     /// How many boxes a start wants: a willing one for each branch of each stored row, of one realm or of all.
     pub(crate) fn willing(&mut self, only: Option<&str>) -> Result<usize, ActFault>
         requires { Always }
+        ensures counts { OnOk result (S.keeping.faults self.new.stored_core.store
+            ≡ S.keeping.faults self.old.stored_core.store) }
+        ensures blames { (scene : Scene) → IsScene S.keeping
+            self.old.stored_core self.old.actors.items scene → IsErrOf result ActFault.Store →
+            S.keeping.is_true self.new.stored_core.store →
+            HasRefused S.keeping self.old.stored_core.store self.new.stored_core.store }
         ensures running { self.new.stored_core.is_stopped ≡ self.old.stored_core.is_stopped }
         ensures truth { S.keeping.is_true self.new.stored_core.store →
             S.keeping.is_true self.old.stored_core.store }
@@ -204,6 +277,47 @@ impl<S: RowLog + Drop> Playing<StoredCore<S>, Actor> {
         }
         self.actors.len()
     }
+}
+
+/// How a line has ended, by the count that its store keeps of the calls that it refused: a store that nobody can ask to refuse is to
+/// blame where it has refused one, and nowhere else.
+fn judge(
+    end: Result<(), LineFault>,
+    may_refuse: bool,
+    before: u64,
+    after: u64,
+) -> Result<(), LineFault>
+    ensures { result ≡ judged may_refuse (before == after) end }
+{
+    if may_refuse {
+        return end;
+    }
+    match end {
+        Ok(()) if before != after => Err(LineFault::Store),
+        Err(LineFault::Store) if before == after => Err(LineFault::Memory),
+        _ => end,
+    }
+}
+
+/// All lines of a realm that may be taken are taken.
+fn settle<S: RowLog + Drop>(
+    actor: &mut Actor,
+    alloc: Global,
+    stored_core: &mut StoredCore<S>,
+    place: usize,
+    printed: &mut String,
+) -> Result<(), LineFault>
+    requires { stored_core.old.is_stopped ≡ false }
+    ensures running { stored_core.new.is_stopped ≡ false }
+    ensures truth { S.keeping.is_true stored_core.new.store →
+        S.keeping.is_true stored_core.old.store }
+    ensures understood { IsErrOf result LineFault.NotUnderstood → ⊥ }
+    ensures acts { OnOk result (Acts S.keeping stored_core.old stored_core.new place
+        actor.old actor.new (string_bytes printed.old) (string_bytes printed.new)
+        (λ acting. takes (count_of acting.readings) acting)) }
+{
+    actor.settle(alloc, stored_core, place, printed)?;
+    Ok(())
 }
 
 /// Does what a line says to the realm that it is of, which has this place. It says whether the line may stand here.

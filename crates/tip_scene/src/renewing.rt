@@ -1,5 +1,5 @@
 //! One realm of a script starts again while the others run.
-ghost use Rattle.std.specs.Prelude.{◌≡◌, ◌+◌, ◌++◌, Some, OnOk, map, string_bytes};
+ghost use Rattle.std.specs.Prelude.{◌≡◌, ◌⊎◌, ◌+◌, ◌++◌, false, Some, length, IsErrOf, OnOk, map, string_bytes};
 ghost use Rattle.std.specs.List.{flat_map};
 ghost use Rattle.tip_actor.specs.Acting.{Acting, renewed, renews};
 ghost use Rattle.tip_actor.specs.Standing.{Acts, IsActing, IsDone};
@@ -9,6 +9,8 @@ ghost use Rattle.tip_machine.specs.Moves.{drops_at};
 ghost use Rattle.tip_machine.specs.States.{State};
 ghost use Rattle.tip_rows.specs.Rows.{branches_of};
 ghost use Rattle.tip_transcript.specs.Printing.{adopted_text, shown_text, start_text};
+ghost use Rattle.tip_actor.specs.declared.fault.ActFault.TheVariants.{Store};
+ghost use Rattle.tip_scene.specs.Blaming.{HasNoRenewal, HasRefused, IsNotRenewed};
 ghost use Rattle.tip_scene.specs.Boxes.{AreWilling};
 ghost use Rattle.tip_scene.specs.Rising.{IsWilling};
 
@@ -41,6 +43,12 @@ pub(crate) fn renew<S: RowLog + Drop>(
     ensures acts { S.keeping.is_true stored_core.new.store → OnOk result (Acts
         S.keeping stored_core.old stored_core.new place actor.old actor.new
         (string_bytes printed.old) (string_bytes printed.new) renews) }
+    ensures blames { (acting : Acting) →
+        IsActing S.keeping stored_core.old place actor.old acting →
+        stored_core.old.is_stopped ≡ false → S.keeping.is_true stored_core.new.store →
+        IsErrOf result Store → HasRefused S.keeping stored_core.old.store stored_core.new.store
+        ⊎ HasNoRenewal S.keeping (length pool.old.items) stored_core.old.store
+        stored_core.new.store acting }
 {
     let Some(epoch) = next_epoch(stored_core.core.heads(), place) else {
         print_refusal(printed, actor.name.as_str(), Refusal::EpochEnd)?;
@@ -74,6 +82,12 @@ fn renew_by<S: RowLog + Drop>(
         OnOk result (IsDone S.keeping stored_core.old stored_core.new place actor.old
         actor.new (string_bytes printed.old) (string_bytes printed.new)
         (renewed acting.due acting)) }
+    ensures blames { (acting : Acting) →
+        IsActing S.keeping stored_core.old place actor.old acting →
+        stored_core.old.is_stopped ≡ false → IsWilling recovery acting →
+        S.keeping.is_true stored_core.new.store → IsErrOf result Store →
+        HasRefused S.keeping stored_core.old.store stored_core.new.store
+        ⊎ IsNotRenewed S.keeping stored_core.old.store stored_core.new.store acting }
 {
     let mut opening = String::new(alloc);
     let name = actor.name.as_str();

@@ -1,11 +1,13 @@
 //! The process of a script starts again.
-ghost use Rattle.std.specs.Prelude.{◌≡◌, ◌++◌, ◌==◌, ℕ, false, map, IfOk, OnOk, option_map, slice_get, string_bytes};
+ghost use Rattle.std.specs.Prelude.{◌≡◌, ◌<◌, ◌++◌, ◌==◌, ℕ, false, length, map, IsErrOf, IfOk, OnOk, option_map, slice_get, string_bytes};
 ghost use Rattle.std.specs.List.{flat_map, list_any};
 ghost use Rattle.tip_actor.specs.Acting.{is_at_end, restarts};
 ghost use Rattle.tip_core.specs.Hosted.{realm as realm_at};
 ghost use Rattle.tip_stored.specs.Loading.{spec_of as spec_of_head};
 ghost use Rattle.tip_machine.specs.States.{State};
-ghost use Rattle.tip_scene.specs.Boxes.{AreWilling};
+ghost use Rattle.tip_scene.specs.Acts.{Playing as AtWork};
+ghost use Rattle.tip_scene.specs.Blaming.{Blames, IsAtFault};
+ghost use Rattle.tip_scene.specs.Boxes.{AreWilling, box_count};
 ghost use Rattle.tip_scene.specs.Rising.{AreAgain, AreWaiting};
 ghost use Rattle.tip_rows.specs.Logs.{last_epoch};
 ghost use Rattle.tip_scene.specs.Scenes.{Scene, openings_text, restarted};
@@ -34,6 +36,13 @@ pub(crate) fn restart<S: RowLog + Drop>(
     ensures running { IfOk result (λ again. again.stored_core.is_stopped ≡ false) }
     ensures truth { Trusts S.keeping playing.stored_core.store
         (λ again. again.stored_core.store) result }
+    ensures counts { IfOk result (λ again. S.keeping.faults again.stored_core.store
+        ≡ S.keeping.faults playing.stored_core.store) }
+    ensures blames { (scene : Scene) →
+        IsScene S.keeping playing.stored_core playing.actors.items scene →
+        Blames S.keeping LineFault.Store (IsAtFault S.keeping (length pool.old.items)
+        playing.stored_core.store (AtWork scene)) (length pool.old.items < box_count scene)
+        result }
     ensures moves { (scene : Scene) →
         IsScene S.keeping playing.stored_core playing.actors.items scene →
         Moves S.keeping (string_bytes printed.old)
@@ -87,6 +96,8 @@ fn rise_again<S: RowLog + Drop>(
 ) -> Result<Playing<StoredCore<S>>, ActFault>
     requires { AreWilling (map standing pool.old.items) }
     ensures running { IfOk result (λ playing. playing.stored_core.is_stopped ≡ false) }
+    ensures few { (scene : Scene) → AreWaiting S.keeping recovering scene →
+        IsErrOf result ActFault.Store → length pool.old.items < box_count scene }
     ensures store { IfOk result (λ playing. playing.stored_core.store ≡ recovering.store) }
     ensures text { (scene : Scene) → AreAgain actors.items scene →
         AreWaiting S.keeping recovering scene →

@@ -1,12 +1,13 @@
 //! Realms that have started, and are put to work.
-ghost use Rattle.std.specs.Prelude.{◌≡◌, ◌++◌, ℕ, [], false, true, map, IfOk, OnOk, string_bytes};
+ghost use Rattle.std.specs.Prelude.{◌≡◌, ◌<◌, ◌++◌, ℕ, [], false, true, length, map, IfOk, IsErrOf, OnOk, string_bytes};
 ghost use Rattle.std.specs.List.{flat_map};
 ghost use Rattle.tip_machine.specs.Answers.{identifier};
 ghost use Rattle.tip_rows.specs.Rows.{branches_of};
 ghost use Rattle.tip_transcript.specs.Printing.{adopted_text};
 ghost use Rattle.tip_actor.specs.Acting.{Acting, opening_text};
+ghost use Rattle.tip_actor.specs.declared.fault.ActFault.TheVariants.{Store};
 ghost use Rattle.tip_stored.specs.Recovering.{all_adopted};
-ghost use Rattle.tip_scene.specs.Boxes.{AreWilling};
+ghost use Rattle.tip_scene.specs.Boxes.{AreWilling, box_count};
 ghost use Rattle.tip_scene.specs.Rising.{AreAnew, AreNew, AreRising, AreWaiting, IsRising};
 ghost use Rattle.tip_scene.specs.Scenes.{Scene, openings_text};
 ghost use Rattle.tip_scene.specs.Standing.{IsScene};
@@ -32,6 +33,8 @@ pub(crate) fn rise<S: RowLog + Drop>(
     requires { AreWilling (map standing pool.old.items) }
     ensures willing { OnOk result (AreWilling (map standing pool.new.items)) }
     ensures running { IfOk result (λ playing. playing.stored_core.is_stopped ≡ false) }
+    ensures few { (scene : Scene) → AreWaiting S.keeping recovering scene → IsErrOf result Store →
+        length pool.old.items < box_count scene }
     ensures store { IfOk result (λ playing. playing.stored_core.store ≡ recovering.store) }
     ensures text { (scene : Scene) → AreNew actors.items scene →
         AreWaiting S.keeping recovering scene →

@@ -1,15 +1,16 @@
 //! A script as far as it was played.
-ghost use Rattle.std.specs.Prelude.{◌≡◌, ◌++◌, [], List, Some, map, IfOk, true, string_bytes};
+ghost use Rattle.std.specs.Prelude.{◌≡◌, ◌++◌, [], List, Some, map, IfOk, IsErrOf, IsOk, OnOk, true, false, string_bytes};
 ghost use Rattle.tip_branch.specs.Always.{Always};
 ghost use Rattle.tip_script.specs.Moves.{move_by};
 ghost use Rattle.tip_script.specs.Scripts.{move_of};
-ghost use Rattle.tip_scene.specs.Acts.{Basis, Stage as AStage, Declaring as Begins, acted, acts, closing_of, may_say};
+ghost use Rattle.tip_scene.specs.Acts.{Basis, Stage as AStage, Declaring as Begins, acted, acts, closing_of, is_covered, may_say};
 ghost use Rattle.tip_branch.specs.Lots.{AreIn};
 ghost use Rattle.tip_branch.specs.declared.branch.Phase.TheVariants.{Active};
 ghost use Rattle.std.specs.List.{list_all};
+ghost use Rattle.tip_scene.specs.Blaming.{Blames, HadTooFew, HasRefused, IsBlamed};
 ghost use Rattle.tip_scene.specs.Boxes.{AreWilling};
 ghost use Rattle.tip_scene.specs.Hosting.{may_be_hosted};
-ghost use Rattle.tip_scene.specs.Stages.{ActsSo, AreWanted, ComeWith, IsDeclared, IsBasis, IsSound, IsStage, Trusts, store_of};
+ghost use Rattle.tip_scene.specs.Stages.{ActsSo, AreWanted, ComeWith, IsDeclared, IsBasis, IsSound, IsStage, Trusts, has_started, store_of};
 
 use crate::boxes::Wanted;
 use crate::declared::{Declaration, Declared};
@@ -62,8 +63,14 @@ impl<S: RowLog + Drop> Stage<Declared<S>, Playing<StoredCore<S>>> {
         ensures acts { (basis : Basis) (stage : AStage) → basis.may_refuse ≡ R.may →
             IsStage S.keeping basis self stage →
             ComeWith (move_of line.now) (map standing boxes.items) →
+            is_covered basis (move_of line.now) ≡ true →
             ActsSo S.keeping basis (string_bytes printed.old)
             (string_bytes printed.new) (acted basis stage line.now) result }
+        ensures counts { R.may ≡ false → IfOk result (λ now. S.keeping.faults (store_of now)
+            ≡ S.keeping.faults (store_of self)) }
+        ensures blames { R.may ≡ false → (basis : Basis) (stage : AStage) →
+            IsStage S.keeping basis self stage → Blames S.keeping LineFault.Store
+            (IsBlamed S.keeping basis (store_of self)) (HadTooFew S.keeping basis) result }
     {
         if line.is_empty() {
             return Ok(self);
@@ -77,7 +84,7 @@ impl<S: RowLog + Drop> Stage<Declared<S>, Playing<StoredCore<S>>> {
     }
 
     /// The script has ended: the realms start, if they have not, and the store comes back. At a fault it does, too, but where
-    /// memory ends in the start.
+    /// memory ends in the start. Once they have started nothing grows here, and there is no fault.
     pub fn finish(
         self,
         alloc: Global,
@@ -88,10 +95,14 @@ impl<S: RowLog + Drop> Stage<Declared<S>, Playing<StoredCore<S>>> {
         requires willing { AreWilling (map standing pool.old.items) }
         ensures truth { Trusts S.keeping (store_of self)
             (λ store. store) result }
+        ensures started { has_started self ≡ true → IsOk result }
         ensures closes { (basis : Basis) (stage : AStage) →
             IsStage S.keeping basis self stage →
             IfOk result (λ store. S.keeping.is_true store →
             string_bytes printed.new ≡ string_bytes printed.old ++ closing_of basis stage) }
+        ensures blames { (basis : Basis) (stage : AStage) →
+            IsStage S.keeping basis self stage → Blames S.keeping ActFault.Store
+            (IsBlamed S.keeping basis (store_of self)) (HadTooFew S.keeping basis) result }
     {
         match self {
             Stage::Declaring(declared) => {
@@ -122,6 +133,12 @@ impl<S: RowLog + Drop> Stage<Declared<S>, Playing<StoredCore<S>>> {
         ensures stands { (basis : Basis) (stage : AStage) →
             IsStage S.keeping basis self.old stage →
             IsStage S.keeping basis self.new stage }
+        ensures counts { OnOk result (S.keeping.faults (store_of self.new)
+            ≡ S.keeping.faults (store_of self.old)) }
+        ensures blames { (basis : Basis) (stage : AStage) →
+            IsStage S.keeping basis self.old stage → IsErrOf result ActFault.Store →
+            S.keeping.is_true (store_of self.new) →
+            HasRefused S.keeping (store_of self.old) (store_of self.new) }
         ensures wanted { IfOk result (AreWanted (move_of line.now)) }
     {
         match Instruction::parse(line) {
@@ -142,6 +159,12 @@ impl<S: RowLog + Drop> Stage<Declared<S>, Playing<StoredCore<S>>> {
         ensures stands { (basis : Basis) (stage : AStage) →
             IsStage S.keeping basis self.old stage →
             IsStage S.keeping basis self.new stage }
+        ensures counts { OnOk result (S.keeping.faults (store_of self.new)
+            ≡ S.keeping.faults (store_of self.old)) }
+        ensures blames { (basis : Basis) (stage : AStage) →
+            IsStage S.keeping basis self.old stage → IsErrOf result ActFault.Store →
+            S.keeping.is_true (store_of self.new) →
+            HasRefused S.keeping (store_of self.old) (store_of self.new) }
     {
         match self {
             Stage::Declaring(declared) => declared.willing(None),
@@ -158,6 +181,12 @@ impl<S: RowLog + Drop> Stage<Declared<S>, Playing<StoredCore<S>>> {
         ensures stands { (basis : Basis) (stage : AStage) →
             IsStage S.keeping basis self.old stage →
             IsStage S.keeping basis self.new stage }
+        ensures counts { OnOk result (S.keeping.faults (store_of self.new)
+            ≡ S.keeping.faults (store_of self.old)) }
+        ensures blames { (basis : Basis) (stage : AStage) →
+            IsStage S.keeping basis self.old stage → IsErrOf result ActFault.Store →
+            S.keeping.is_true (store_of self.new) →
+            HasRefused S.keeping (store_of self.old) (store_of self.new) }
     {
         let again = match instruction {
             Instruction::Realm { .. } | Instruction::Labels { .. } => return Ok(0),
@@ -176,6 +205,12 @@ impl<S: RowLog + Drop> Stage<Declared<S>, Playing<StoredCore<S>>> {
         ensures stands { (basis : Basis) (stage : AStage) →
             IsStage S.keeping basis self.old stage →
             IsStage S.keeping basis self.new stage }
+        ensures counts { OnOk result (S.keeping.faults (store_of self.new)
+            ≡ S.keeping.faults (store_of self.old)) }
+        ensures blames { (basis : Basis) (stage : AStage) →
+            IsStage S.keeping basis self.old stage → IsErrOf result ActFault.Store →
+            S.keeping.is_true (store_of self.new) →
+            HasRefused S.keeping (store_of self.old) (store_of self.new) }
     {
         match self {
             Stage::Declaring(declared) => declared.willing(only),
@@ -203,8 +238,14 @@ impl<S: RowLog + Drop> Stage<Declared<S>, Playing<StoredCore<S>>> {
             IsStage S.keeping basis self stage →
             may_say R.may (move_by instruction.entry) ≡ true →
             ComeWith (Some (move_by instruction.entry)) (map standing boxes.items) →
+            is_covered basis (Some (move_by instruction.entry)) ≡ true →
             ActsSo S.keeping basis (string_bytes printed.old)
             (string_bytes printed.new) (acts basis stage (move_by instruction.entry)) result }
+        ensures counts { R.may ≡ false → IfOk result (λ now. S.keeping.faults (store_of now)
+            ≡ S.keeping.faults (store_of self)) }
+        ensures blames { R.may ≡ false → (basis : Basis) (stage : AStage) →
+            IsStage S.keeping basis self stage → Blames S.keeping LineFault.Store
+            (IsBlamed S.keeping basis (store_of self)) (HadTooFew S.keeping basis) result }
     {
         match self {
             Stage::Declaring(declared) => {
@@ -237,9 +278,15 @@ fn declare<S: RowLog + Drop, R: Refuser<S>>(
         IsDeclared S.keeping basis declared declarations →
         may_say R.may (move_by instruction.entry) ≡ true →
         ComeWith (Some (move_by instruction.entry)) (map standing boxes.items) →
+        is_covered basis (Some (move_by instruction.entry)) ≡ true →
         ActsSo S.keeping basis (string_bytes printed.old)
         (string_bytes printed.new)
         (acts basis (Begins declarations) (move_by instruction.entry)) result }
+    ensures counts { R.may ≡ false → IfOk result (λ now. S.keeping.faults (store_of now)
+        ≡ S.keeping.faults declared.store) }
+    ensures blames { R.may ≡ false → (basis : Basis) (declarations : List Declaration) →
+        IsDeclared S.keeping basis declared declarations → Blames S.keeping LineFault.Store
+        (IsBlamed S.keeping basis declared.store) (HadTooFew S.keeping basis) result }
 {
     let noted = match instruction {
         Instruction::Realm {

@@ -1,5 +1,5 @@
 -- Lines that are read and played, one after another.
-use Rattle.std.proofs.Common.{◌∙◌, ◌++◌, ◌∷◌, [], ap, arith, map, refl, subst, sym, Err, Ok}
+use Rattle.std.proofs.Common.{◌∙◌, ◌++◌, ◌∷◌, [], ap, arith, inl, map, refl, subst, sym, Err, Ok}
 use Rattle.std.proofs.lemmas.Result.{err_from_is_err_and}
 use Rattle.tip_scene.specs.Stages.{IsReliable, IsStage, store_of}
 use Rattle.script_lines.specs.Lines.{Reads}
@@ -11,7 +11,8 @@ use Rattle.tip_script.specs.Scripts.{move_of, plans_of}
 use Rattle.tip_play.specs.Transcripts.{IsFront, IsReadTo, Transcribes, in_memory}
 use Rattle.tip_scene.proofs.Dealing.{join}
 use Rattle.tip_play.proofs.Making.{all_alike, all_made, fresh_active, fresh_known, fresh_of, no_other, one_alike, one_made, read_of, when_ok}
-use Rattle.tip_play.proofs.Reading.{HasEnded, a_line, closes_on, goes_front, goes_on, gone, line_fails, no_line, no_number, not_come, reads_none, relying, still_going, trusts_back}
+use Rattle.tip_play.proofs.Reading.{HasEnded, a_line, closes_on, goes_front, goes_on, gone, line_covered, line_fails, no_line, no_number, not_come, reads_none, relying, stands_so, still_going, trusts_back}
+use Rattle.tip_play.proofs.Blaming.{blames_back, blames_back_err, is_err_of, refused_here}
 use Rattle.tip_play.proofs.player.play_lines.Goals as goal
 
 pub loop-number-init : goal.loop-number-init
@@ -19,7 +20,8 @@ loop-number-init g c = record {
   numbered = omega arith;
   sound = c.new-stage.ensures.sound;
   truth = λ is. subst g.S.RowLog.keeping.is_true c.new-stage.ensures.store is;
-  goes = λ basis may on is. reads_none g.S.RowLog.keeping basis c.new-stage.result (g.R.Read.remaining c.args.input.now) (g.W.Write.contents c.args.output.now) (c.new-stage.ensures.none basis on);
+  counts = λ may. ap g.S.RowLog.keeping.faults c.new-stage.ensures.store;
+  goes = λ basis may on covers is. reads_none g.S.RowLog.keeping basis c.new-stage.result (g.R.Read.remaining c.args.input.now) (g.W.Write.contents c.args.output.now) (c.new-stage.ensures.none basis on);
 }
 
 pub returns-then-is_beyond-clause-truth : goal.returns-then-is_beyond-clause-truth
@@ -32,7 +34,7 @@ returns-then-is_beyond-clause-transcribes g c = λ basis may on.
     let old = g.W.Write.contents c.args.output.now in
     let new = g.W.Write.contents c.loop-number.output in
     relying g.S.RowLog.keeping basis whole (λ script. IsReadTo basis script left old new) (g.S.RowLog.keeping.is_true c.shut.result)
-    (λ is. no_number g.S.RowLog.keeping basis c.loop-number.is_over c.loop-number.stage c.loop-number.number whole left old new (c.is_beyond.ensures.yes c.if-is_beyond.true) (c.loop-number.invariant.goes basis may on (subst g.S.RowLog.keeping.is_true c.shut.ensures is)))
+    (λ covers is. no_number g.S.RowLog.keeping basis c.loop-number.is_over c.loop-number.stage c.loop-number.number whole left old new (c.is_beyond.ensures.yes c.if-is_beyond.true) (c.loop-number.invariant.goes basis may on covers (subst g.S.RowLog.keeping.is_true c.shut.ensures is)))
 
 pub returns-in-Err-clause-truth : goal.returns-in-Err-clause-truth
 returns-in-Err-clause-truth g c = λ is. c.loop-number.invariant.truth (c.next.ensures.truth (subst g.S.RowLog.keeping.is_true c.shut-in-Err.ensures is))
@@ -44,8 +46,8 @@ returns-in-Err-clause-transcribes g c = λ basis may on.
     let old = g.W.Write.contents c.args.output.now in
     let new = g.W.Write.contents c.loop-number.output in
     relying g.S.RowLog.keeping basis whole (λ script. Transcribes basis script left' old new (Err c.in-Err.fault)) (g.S.RowLog.keeping.is_true c.shut-in-Err.result)
-    (λ is. not_come g.S.RowLog.keeping basis c.loop-number.is_over c.loop-number.stage c.loop-number.number whole (g.R.Read.remaining c.loop-number.input) left' old new c.next.new.line.octets.items c.in-Err.fault
-    (c.loop-number.invariant.goes basis may on (c.next.ensures.truth (subst g.S.RowLog.keeping.is_true c.shut-in-Err.ensures is))) c.in-Err.ensures.coming)
+    (λ covers is. not_come g.S.RowLog.keeping basis c.loop-number.is_over c.loop-number.stage c.loop-number.number whole (g.R.Read.remaining c.loop-number.input) left' old new c.next.new.line.octets.items c.in-Err.fault
+    (c.loop-number.invariant.goes basis may on covers (c.next.ensures.truth (subst g.S.RowLog.keeping.is_true c.shut-in-Err.ensures is))) c.in-Err.ensures.coming)
 
 pub loop-kind-init : goal.loop-kind-init
 loop-kind-init g c = record { same = refl; made = ap (map (read_of (λ s. s.standing))) c.new-boxes.ensures.items }
@@ -75,8 +77,8 @@ returns-in_default-new-clause-transcribes g c = λ basis may on.
     let old = g.W.Write.contents c.args.output.now in
     let new = g.W.Write.contents c.loop-number.output in
     relying g.S.RowLog.keeping basis whole (λ script. IsFront basis script old new) (g.S.RowLog.keeping.is_true c.shut-in_default-new.result)
-    (λ is. goes_front g.S.RowLog.keeping basis c.loop-number.is_over c.loop-number.stage c.loop-number.number whole (g.R.Read.remaining c.loop-number.input) old new
-    (c.loop-number.invariant.goes basis may on (c.next.ensures.truth (subst g.S.RowLog.keeping.is_true c.shut-in_default-new.ensures is))))
+    (λ covers is. goes_front g.S.RowLog.keeping basis c.loop-number.is_over c.loop-number.stage c.loop-number.number whole (g.R.Read.remaining c.loop-number.input) old new
+    (c.loop-number.invariant.goes basis may on covers (c.next.ensures.truth (subst g.S.RowLog.keeping.is_true c.shut-in_default-new.ensures is))))
 
 pub returns-then-is_err-clause-transcribes : goal.returns-then-is_err-clause-transcribes
 returns-then-is_err-clause-transcribes g c = λ basis may on.
@@ -84,8 +86,8 @@ returns-then-is_err-clause-transcribes g c = λ basis may on.
     let old = g.W.Write.contents c.args.output.now in
     let new = g.W.Write.contents c.loop-number.output in
     relying g.S.RowLog.keeping basis whole (λ script. IsFront basis script old new) (g.S.RowLog.keeping.is_true c.shut-then-is_err.result)
-    (λ is. goes_front g.S.RowLog.keeping basis c.loop-number.is_over c.loop-number.stage c.loop-number.number whole (g.R.Read.remaining c.loop-number.input) old new
-    (c.loop-number.invariant.goes basis may on (c.next.ensures.truth (subst g.S.RowLog.keeping.is_true c.shut-then-is_err.ensures is))))
+    (λ covers is. goes_front g.S.RowLog.keeping basis c.loop-number.is_over c.loop-number.stage c.loop-number.number whole (g.R.Read.remaining c.loop-number.input) old new
+    (c.loop-number.invariant.goes basis may on covers (c.next.ensures.truth (subst g.S.RowLog.keeping.is_true c.shut-then-is_err.ensures is))))
 
 pub returns-in_default-new-2-clause-transcribes : goal.returns-in_default-new-2-clause-transcribes
 returns-in_default-new-2-clause-transcribes g c = λ basis may on.
@@ -93,8 +95,8 @@ returns-in_default-new-2-clause-transcribes g c = λ basis may on.
     let old = g.W.Write.contents c.args.output.now in
     let new = g.W.Write.contents c.loop-number.output in
     relying g.S.RowLog.keeping basis whole (λ script. IsFront basis script old new) (g.S.RowLog.keeping.is_true c.shut-in_default-new-2.result)
-    (λ is. goes_front g.S.RowLog.keeping basis c.loop-number.is_over c.loop-number.stage c.loop-number.number whole (g.R.Read.remaining c.loop-number.input) old new
-    (c.loop-number.invariant.goes basis may on (c.next.ensures.truth (subst g.S.RowLog.keeping.is_true c.shut-in_default-new-2.ensures is))))
+    (λ covers is. goes_front g.S.RowLog.keeping basis c.loop-number.is_over c.loop-number.stage c.loop-number.number whole (g.R.Read.remaining c.loop-number.input) old new
+    (c.loop-number.invariant.goes basis may on covers (c.next.ensures.truth (subst g.S.RowLog.keeping.is_true c.shut-in_default-new-2.ensures is))))
 
 pub returns-then-is_err-2-clause-transcribes : goal.returns-then-is_err-2-clause-transcribes
 returns-then-is_err-2-clause-transcribes g c = λ basis may on.
@@ -102,8 +104,8 @@ returns-then-is_err-2-clause-transcribes g c = λ basis may on.
     let old = g.W.Write.contents c.args.output.now in
     let new = g.W.Write.contents c.loop-number.output in
     relying g.S.RowLog.keeping basis whole (λ script. IsFront basis script old new) (g.S.RowLog.keeping.is_true c.shut-then-is_err-2.result)
-    (λ is. goes_front g.S.RowLog.keeping basis c.loop-number.is_over c.loop-number.stage c.loop-number.number whole (g.R.Read.remaining c.loop-number.input) old new
-    (c.loop-number.invariant.goes basis may on (c.next.ensures.truth (subst g.S.RowLog.keeping.is_true c.shut-then-is_err-2.ensures is))))
+    (λ covers is. goes_front g.S.RowLog.keeping basis c.loop-number.is_over c.loop-number.stage c.loop-number.number whole (g.R.Read.remaining c.loop-number.input) old new
+    (c.loop-number.invariant.goes basis may on covers (c.next.ensures.truth (subst g.S.RowLog.keeping.is_true c.shut-then-is_err-2.ensures is))))
 
 pub finish-requires-clause-willing : goal.finish-requires-clause-willing
 finish-requires-clause-willing g c = subst AreWilling (sym (all_alike _ (λ s. s.standing) no_other (λ box value. refl) c.loop.pool.items)) c.loop.invariant.made
@@ -136,7 +138,7 @@ returns-then-is_over-clause-transcribes g c = λ basis may on.
     let over = c.loop-number.is_over in
     let same = no_line g.S.RowLog.keeping basis over left left' c.loop-number.number c.next.new.line.octets.items c.in-Ok-next.coming c.if-is_over.true c.in-Ok-next.ensures.coming in
     closes_on g.S.RowLog.keeping basis stage whole left' old mid new c.finish.result (trusts_back g.S.RowLog.keeping basis (store_of stage) _ (λ store. store) c.finish.result c.finish.ensures.truth (λ is. c.next.ensures.truth (subst (λ s. g.S.RowLog.keeping.is_true (store_of s)) (c.loop.invariant.same ∙ c.loop-kind.invariant.same) is)))
-    (λ is. subst (λ l. HasEnded g.S.RowLog.keeping basis stage whole l old mid) (sym same) (gone g.S.RowLog.keeping basis over stage c.loop-number.number whole left old mid c.if-is_over.true (c.loop-number.invariant.goes basis may on is)))
+    (λ covers is. subst (λ l. HasEnded g.S.RowLog.keeping basis stage whole l old mid) (sym same) (gone g.S.RowLog.keeping basis over stage c.loop-number.number whole left old mid c.if-is_over.true (c.loop-number.invariant.goes basis may on covers is)))
     (λ now is. c.finish.ensures.closes basis now (subst (λ s. IsStage g.S.RowLog.keeping basis s now) (sym (c.loop.invariant.same ∙ c.loop-kind.invariant.same)) (c.next.ensures.stands basis now is)))
 
 pub returns-in_err-stage-clause-truth : goal.returns-in_err-stage-clause-truth
@@ -160,10 +162,12 @@ returns-in_err-stage-clause-transcribes g c = λ basis may on.
     let come = a_line g.S.RowLog.keeping basis c.loop-number.is_over left left' c.loop-number.number c.next.new.line.octets.items c.in-Ok-next.coming c.if-is_over.false c.in-Ok-next.ensures.coming in
     let reads : Reads left left' text (Ok c.in-Ok-next.coming.end) = subst (λ l. Reads left left' l (Ok c.in-Ok-next.coming.end)) (sym c.as_slice-text.ensures) come.0 in
     rw (e.1, e.2) (relying g.S.RowLog.keeping basis whole (λ script. Transcribes basis script left' old new (Err why.0)) (IsReliable g.S.RowLog.keeping why.1)
-    (λ is. line_fails g.S.RowLog.keeping basis stage c.loop-number.number whole left left' old mid new text c.in-Ok-next.coming.end why.0
-    (still_going g.S.RowLog.keeping basis c.loop-number.is_over stage c.loop-number.number whole left old mid c.if-is_over.false (c.loop-number.invariant.goes basis may on (c.next.ensures.truth (subst (λ s. g.S.RowLog.keeping.is_true (store_of s)) (c.loop.invariant.same ∙ c.loop-kind.invariant.same) (c.in_err-stage.ensures.truth is)))))
-    come.1 reads
-    (λ now there. c.in_err-stage.ensures.acts basis now may (subst (λ s. IsStage g.S.RowLog.keeping basis s now) (sym (c.loop.invariant.same ∙ c.loop-kind.invariant.same)) (c.next.ensures.stands basis now there)) (λ move said. ap badges_of (all_alike _ (λ s. s.standing) no_other (λ box value. refl) c.loop-kind.boxes.items ∙ all_made letters c.loop-kind.kind-index _ c.loop-kind-test.false c.loop-kind.invariant.made) ∙ fresh_known (plans_of letters) ∙ ap (λ l. boxes_of (plans_of l)) c.deref-kind-items.ensures.value ∙ ap boxes_of (come.2 move (ap move_of (sym c.as_slice-text.ensures) ∙ said))) is)))
+    (λ covers is.
+    let going = still_going g.S.RowLog.keeping basis c.loop-number.is_over stage c.loop-number.number whole left old mid c.if-is_over.false (c.loop-number.invariant.goes basis may on covers (c.next.ensures.truth (subst (λ s. g.S.RowLog.keeping.is_true (store_of s)) (c.loop.invariant.same ∙ c.loop-kind.invariant.same) (c.in_err-stage.ensures.truth is)))) in
+    line_fails g.S.RowLog.keeping basis stage c.loop-number.number whole left left' old mid new text c.in-Ok-next.coming.end why.0
+    going come.1 reads
+    (λ now there. c.in_err-stage.ensures.acts basis now may (subst (λ s. IsStage g.S.RowLog.keeping basis s now) (sym (c.loop.invariant.same ∙ c.loop-kind.invariant.same)) (c.next.ensures.stands basis now there)) (λ move said. ap badges_of (all_alike _ (λ s. s.standing) no_other (λ box value. refl) c.loop-kind.boxes.items ∙ all_made letters c.loop-kind.kind-index _ c.loop-kind-test.false c.loop-kind.invariant.made) ∙ fresh_known (plans_of letters) ∙ ap (λ l. boxes_of (plans_of l)) c.deref-kind-items.ensures.value ∙ ap boxes_of (come.2 move (ap move_of (sym c.as_slice-text.ensures) ∙ said)))
+    (line_covered g.S.RowLog.keeping basis stage c.loop-number.number whole left left' old mid text c.in-Ok-next.coming.end going covers come.1 reads) is)))
 
 pub loop-number-preserved : goal.loop-number-preserved
 loop-number-preserved g c =
@@ -174,7 +178,8 @@ loop-number-preserved g c =
       numbered = omega (arith, beyond, before);
       sound = c.in_ok-stage.ensures.sound;
       truth = λ is. c.loop-number.invariant.truth (back is);
-      goes = λ basis may on is.
+      counts = λ may. c.in_ok-stage.ensures.counts may ∙ ap (λ s. g.S.RowLog.keeping.faults (store_of s)) (sym (c.loop.invariant.same ∙ c.loop-kind.invariant.same)) ∙ c.in-Ok-next.ensures.counts ∙ c.loop-number.invariant.counts may;
+      goes = λ basis may on covers is.
           let whole = g.R.Read.remaining c.args.input.now in
           let left = g.R.Read.remaining c.loop-number.input in
           let left' = g.R.Read.remaining c.next.new.input in
@@ -186,8 +191,35 @@ loop-number-preserved g c =
           let letters = c.deref-kind-items.result.now in
           let come = a_line g.S.RowLog.keeping basis c.loop-number.is_over left left' c.loop-number.number c.next.new.line.octets.items c.in-Ok-next.coming c.if-is_over.false c.in-Ok-next.ensures.coming in
           let reads : Reads left left' text (Ok c.in-Ok-next.coming.end) = subst (λ l. Reads left left' l (Ok c.in-Ok-next.coming.end)) (sym c.as_slice-text.ensures) come.0 in
+          let going = still_going g.S.RowLog.keeping basis c.loop-number.is_over stage c.loop-number.number whole left old mid c.if-is_over.false (c.loop-number.invariant.goes basis may on covers (back is)) in
           goes_on g.S.RowLog.keeping basis c.is_last-is_over.result stage c.in_ok-stage.stage c.loop-number.number whole left left' old mid new text c.in-Ok-next.coming.end
-          (still_going g.S.RowLog.keeping basis c.loop-number.is_over stage c.loop-number.number whole left old mid c.if-is_over.false (c.loop-number.invariant.goes basis may on (back is)))
-          come.1 c.is_last-is_over.ensures.yes c.is_last-is_over.ensures.no reads
-          (λ now there. c.in_ok-stage.ensures.acts basis now may (subst (λ s. IsStage g.S.RowLog.keeping basis s now) (sym (c.loop.invariant.same ∙ c.loop-kind.invariant.same)) (c.next.ensures.stands basis now there)) (λ move said. ap badges_of (all_alike _ (λ s. s.standing) no_other (λ box value. refl) c.loop-kind.boxes.items ∙ all_made letters c.loop-kind.kind-index _ c.loop-kind-test.false c.loop-kind.invariant.made) ∙ fresh_known (plans_of letters) ∙ ap (λ l. boxes_of (plans_of l)) c.deref-kind-items.ensures.value ∙ ap boxes_of (come.2 move (ap move_of (sym c.as_slice-text.ensures) ∙ said))) is);
+          going come.1 c.is_last-is_over.ensures.yes c.is_last-is_over.ensures.no reads
+          (λ now there. c.in_ok-stage.ensures.acts basis now may (subst (λ s. IsStage g.S.RowLog.keeping basis s now) (sym (c.loop.invariant.same ∙ c.loop-kind.invariant.same)) (c.next.ensures.stands basis now there)) (λ move said. ap badges_of (all_alike _ (λ s. s.standing) no_other (λ box value. refl) c.loop-kind.boxes.items ∙ all_made letters c.loop-kind.kind-index _ c.loop-kind-test.false c.loop-kind.invariant.made) ∙ fresh_known (plans_of letters) ∙ ap (λ l. boxes_of (plans_of l)) c.deref-kind-items.ensures.value ∙ ap boxes_of (come.2 move (ap move_of (sym c.as_slice-text.ensures) ∙ said)))
+          (line_covered g.S.RowLog.keeping basis stage c.loop-number.number whole left left' old mid text c.in-Ok-next.coming.end going covers come.1 reads) is);
     }
+
+-- The store is blamed
+
+pub returns-in-Err-clause-blames : goal.returns-in-Err-clause-blames
+returns-in-Err-clause-blames g c = λ asks basis may on script whole covers is truth.
+    let kept = g.S.RowLog.keeping in
+    let left = subst kept.is_true c.shut-in-Err.ensures truth in
+    let now = stands_so kept basis c.loop-number.is_over c.loop-number.stage c.loop-number.number (g.R.Read.remaining c.args.input.now) (g.R.Read.remaining c.loop-number.input) (g.W.Write.contents c.args.output.now) (g.W.Write.contents c.loop-number.output) (c.loop-number.invariant.goes basis may on (script, whole, covers) (c.next.ensures.truth left)) in
+    inl (refused_here kept c.args.store (store_of c.loop-number.stage) (store_of c.next.new.stage) _ (c.loop-number.invariant.counts asks) c.shut-in-Err.ensures (c.next.ensures.blames basis now.0 now.1 (is_err_of c.next.result c.in-Err.fault _ c.in-Err.is is) left))
+
+pub returns-then-is_over-clause-blames : goal.returns-then-is_over-clause-blames
+returns-then-is_over-clause-blames g c = λ asks basis may on script whole covers.
+    let kept = g.S.RowLog.keeping in
+    let same = c.loop.invariant.same ∙ c.loop-kind.invariant.same in
+    blames_back kept basis c.args.store _ (λ store. store) c.finish.result c.finish.ensures.truth (ap (λ s. kept.faults (store_of s)) (sym same) ∙ c.in-Ok-next.ensures.counts ∙ c.loop-number.invariant.counts asks) (λ left.
+    let now = stands_so kept basis c.loop-number.is_over c.loop-number.stage c.loop-number.number (g.R.Read.remaining c.args.input.now) (g.R.Read.remaining c.loop-number.input) (g.W.Write.contents c.args.output.now) (g.W.Write.contents c.loop-number.output) (c.loop-number.invariant.goes basis may on (script, whole, covers) (c.next.ensures.truth (subst (λ s. kept.is_true (store_of s)) same left))) in
+    c.finish.ensures.blames basis now.0 (subst (λ s. IsStage kept basis s now.0) (sym same) (c.next.ensures.stands basis now.0 now.1)))
+
+pub returns-in_err-stage-clause-blames : goal.returns-in_err-stage-clause-blames
+returns-in_err-stage-clause-blames g c = λ asks basis may on script whole covers.
+    let e = err_from_is_err_and c.from_residual.result c.from_residual.ensures.1 in
+    let kept = g.S.RowLog.keeping in
+    let same = c.loop.invariant.same ∙ c.loop-kind.invariant.same in
+    rw (e.1, e.2) (blames_back_err kept basis c.args.store _ c.in_err-stage.field-0.0 c.in_err-stage.ensures.truth (ap (λ s. kept.faults (store_of s)) (sym same) ∙ c.in-Ok-next.ensures.counts ∙ c.loop-number.invariant.counts asks) (λ left.
+    let now = stands_so kept basis c.loop-number.is_over c.loop-number.stage c.loop-number.number (g.R.Read.remaining c.args.input.now) (g.R.Read.remaining c.loop-number.input) (g.W.Write.contents c.args.output.now) (g.W.Write.contents c.loop-number.output) (c.loop-number.invariant.goes basis may on (script, whole, covers) (c.next.ensures.truth (subst (λ s. kept.is_true (store_of s)) same left))) in
+    c.in_err-stage.ensures.blames asks basis now.0 (subst (λ s. IsStage kept basis s now.0) (sym same) (c.next.ensures.stands basis now.0 now.1))))

@@ -1,7 +1,10 @@
 -- What was written stays, and is not known to be there where it was not flushed.
-use Rattle.std.proofs.Common.{subst, sym}
+use Rattle.std.proofs.Common.{◌≡◌, subst, sym, true}
 use Rattle.std.specs.Prelude.{IfSome}
-use Rattle.tip_play.specs.Transcripts.{TranscribesOn}
+use Rattle.tip_play.specs.Transcripts.{TranscribesOn, covers_all}
+use Rattle.tip_scene.specs.Blaming.{Blames, HadTooFew, IsBlamed}
+use Rattle.tip_play.specs.declared.fault.PlayFault.TheVariants.{Store}
+use Rattle.tip_play.proofs.Blaming.{blames_unflushed}
 use Rattle.tip_play.proofs.Ending.{all_kept, all_unflushed}
 use Rattle.tip_play.proofs.player.play_over.Goals as goal
 
@@ -12,7 +15,12 @@ returns-in-Ok-clause-transcribes g c = λ basis may on.
 
 pub returns-in-Err-clause-transcribes : goal.returns-in-Err-clause-transcribes
 returns-in-Err-clause-transcribes g c = λ basis may on.
-    subst (λ r. IfSome (g.R.Read.remaining c.args.input.now) (λ script. TranscribesOn g.S.RowLog.keeping basis script (g.R.Read.remaining c.play_lines-end.new.input) (g.W.Write.contents c.args.output.now) (g.W.Write.contents c.flush.new.self) r)) (sym c.unflushed.ensures)
+    subst (λ r. IfSome (g.R.Read.remaining c.args.input.now) (λ script. covers_all basis script ≡ true → TranscribesOn g.S.RowLog.keeping basis script (g.R.Read.remaining c.play_lines-end.new.input) (g.W.Write.contents c.args.output.now) (g.W.Write.contents c.flush.new.self) r)) (sym c.unflushed.ensures)
     (all_unflushed g.S.RowLog.keeping basis (g.R.Read.remaining c.args.input.now) (g.R.Read.remaining c.play_lines-end.new.input) (g.W.Write.contents c.args.output.now) (g.W.Write.contents c.flush.new.self) c.play_lines-end.result
     (all_kept g.S.RowLog.keeping basis (g.R.Read.remaining c.args.input.now) (g.R.Read.remaining c.play_lines-end.new.input) (g.W.Write.contents c.args.output.now) (g.W.Write.contents c.play_lines-end.new.output) (g.W.Write.contents c.flush.new.self) c.play_lines-end.result c.flush.ensures.bytes
     (c.play_lines-end.ensures.transcribes basis may on)))
+
+pub returns-in-Err-clause-blames : goal.returns-in-Err-clause-blames
+returns-in-Err-clause-blames g c = λ asks basis may on script whole covers.
+    subst (Blames g.S.RowLog.keeping Store (IsBlamed g.S.RowLog.keeping basis c.args.store) (HadTooFew g.S.RowLog.keeping basis)) (sym c.unflushed.ensures)
+    (blames_unflushed g.S.RowLog.keeping basis (IsBlamed g.S.RowLog.keeping basis c.args.store) (HadTooFew g.S.RowLog.keeping basis) c.play_lines-end.result (c.play_lines-end.ensures.blames asks basis may on script whole covers))

@@ -7,5 +7,6 @@ abbrev pub invariant-loop-declaration : goal.invariant-loop-declaration
 invariant-loop-declaration g l = record {
   stands : (log : Log) → g.S.RowLog.keeping.stands l.fn.store log → g.S.RowLog.keeping.stands l.store log;
   due : (r : List ℕ) → g.S.RowLog.keeping.is_due l.store r ≡ g.S.RowLog.keeping.is_due l.fn.store r;
+  counts : g.S.RowLog.keeping.faults l.store ≡ g.S.RowLog.keeping.faults l.fn.store;
   truth : g.S.RowLog.keeping.is_true l.store → g.S.RowLog.keeping.is_true l.fn.store;
 }

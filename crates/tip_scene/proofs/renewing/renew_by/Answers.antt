@@ -1,5 +1,6 @@
 -- The realm has started again, or the store was to refuse that.
 use Rattle.std.proofs.Common.{◌≡◌, ◌==◌, ◌∙◌, ◌++◌, ℕ, List, false, refl, ap, arith, string_bytes, subst, sym}
+use Rattle.std.proofs.lemmas.Bool.{false≢true}
 use Rattle.std.proofs.lemmas.Bool.Decides.{nat_tests}
 use Rattle.tip_stored.specs.Renewing.{SpendsFor}
 use Rattle.tip_line.specs.declared.refusal.Refusal.TheVariants.{Refused}
@@ -7,7 +8,9 @@ use Rattle.tip_rows.specs.Logs.{last_epoch}
 use Rattle.std.specs.List.{flat_map}
 use Rattle.tip_actor.proofs.Leaving.{left_here}
 use Rattle.tip_transcript.specs.Printing.{refusal_text, start_text}
+use Rattle.tip_actor.specs.Faults.{of_renew_fault}
 use Rattle.tip_scene.proofs.Begun.{row_text}
+use Rattle.tip_scene.proofs.Blaming.{err_same, not_renewed}
 use Rattle.tip_scene.proofs.Renewed.{not_due, refuses_so, renews_so, said_anew}
 use Rattle.tip_scene.proofs.renewing.renew_by.Goals as goal
 
@@ -37,3 +40,9 @@ returns-in-Err-NotRaised-default-clause-done g c = λ truth acting acts willing 
     let spent = subst (λ fault. SpendsFor fault name (g.S.RowLog.keeping.is_due stored_core.store) (g.S.RowLog.keeping.is_due c.renew.new.self.store)) c.in-Err-NotRaised-default.field-0-0-is (rises.due acts.stored.log acts.stored.stood) in
     refuses_so g.S.RowLog.keeping stored_core c.renew.new.self c.args.place c.args.actor.now _ acting acts rises.rows spent c.in-Err-NotRaised-default.ensures.same c.if-actor.true
     refl refl refl refl (string_bytes c.args.printed.now) (string_bytes c.print_refusal.new.printed) (c.in_ok-print_refusal-in-Err-NotRaised-default.ensures ∙ ap (λ n. string_bytes c.args.printed.now ++ refusal_text n Refused) c.as_str.ensures.same)
+
+pub returns-clause-blames : goal.returns-clause-blames
+returns-clause-blames g c = λ acting acts runs willing truth is.
+    let kept = g.S.RowLog.keeping in
+    not_renewed kept c.args.stored_core.now.store c.renew.new.self.store acting c.args.recovery c.in-Err.fault willing (λ stopped. false≢true (sym runs ∙ c.in-Err.ensures.stopping.0 stopped))
+    (c.in-Err.ensures.store acting.world.state acts.served.state_is).counts (λ log stood now. c.in-Err.ensures.reason log acting.world.state stood acts.served.state_is now) (ap of_renew_fault (sym c.in-Err.fault-is) ∙ sym c.from.ensures ∙ err_same is)

@@ -1,12 +1,16 @@
 -- A declaration, or the start of the realms.
-use Rattle.std.proofs.Common.{◌∙◌, Err, Ok, Some, sym, string_bytes, subst}
+use Rattle.std.proofs.Common.{◌≡◌, ◌<◌, ◌∙◌, true, Err, Ok, Some, ap, length, refl, sym, string_bytes, subst}
 use Rattle.std.proofs.lemmas.Result.{err_from_is_err_and}
 use Rattle.tip_line.specs.Fields.{fields_of}
-use Rattle.tip_scene.specs.Acts.{Declaring, acts, declared, labelled, scene_of}
+use Rattle.tip_scene.specs.Acts.{Declaring, acts, declared, is_covered, labelled, scene_of}
 use Rattle.tip_scene.specs.Stages.{ActsSo}
 use Rattle.tip_scene.specs.declared.stage.Stage.TheVariants as stage
 use Rattle.tip_script.specs.Moves.{move_by}
-use Rattle.tip_scene.proofs.Staging.{declares_not, declares_so, fails_first, plays_first}
+use Rattle.tip_scene.proofs.Blaming.{at_fault, never_asked, play_accused_at, told_on, too_few}
+use Rattle.tip_scene.specs.Blaming.{HadTooFew, IsAtFault, IsBlamed}
+use Rattle.tip_scene.specs.Boxes.{box_count}
+use Rattle.tip_scene.specs.Faults.{of_act_fault}
+use Rattle.tip_scene.proofs.Staging.{declared_covered, declares_not, declares_so, fails_first, labelled_covered, plays_first}
 use Rattle.tip_scene.proofs.stage.declare.Goals.{in-Realm, in-Labels}
 use Rattle.tip_scene.proofs.stage.declare.Goals as goal
 
@@ -16,37 +20,55 @@ returns-in_err-playing-in_default g c =
     rw (e.1, e.2) (record {
       sound = tt;
       truth = λ reliable. c.in-Ok.ensures.truth (c.in_err-playing-in_default.ensures.truth reliable);
-      acts = λ basis declarations is may boxes. fails_first g.S.RowLog.keeping basis declarations (string_bytes c.args.printed.now) (string_bytes c.start.new.printed) (string_bytes c.act.new.printed) c.args.instruction c.in_default.not-Realm c.in_default.not-Labels c.in_err-playing-in_default.field-0.0
+      acts = λ basis declarations is may boxes covers. fails_first g.S.RowLog.keeping basis declarations (string_bytes c.args.printed.now) (string_bytes c.start.new.printed) (string_bytes c.act.new.printed) c.args.instruction c.in_default.not-Realm c.in_default.not-Labels c.in_err-playing-in_default.field-0.0
           (λ reliable. c.in-Ok.ensures.text basis declarations is (c.in_err-playing-in_default.ensures.truth reliable))
           (λ reliable. c.in_err-playing-in_default.ensures.moves (scene_of basis declarations) (c.in-Ok.ensures.scene basis declarations is (c.in_err-playing-in_default.ensures.truth reliable)) may boxes);
+      counts = λ may. tt;
+      blames = λ may basis declarations is. play_accused_at g.S.RowLog.keeping _ basis c.in-Ok.playing (scene_of basis declarations) c.args.declared.store _ c.in_err-playing-in_default.field-0.0 c.in_err-playing-in_default.ensures.truth c.in-Ok.ensures.counts (c.in-Ok.ensures.scene basis declarations is) (c.in_err-playing-in_default.ensures.blames may (scene_of basis declarations));
     })
 
 pub returns-in_default : goal.returns-in_default
 returns-in_default g c = record {
   sound = c.in_ok-playing-in_default.ensures.running;
   truth = λ truth. c.in-Ok.ensures.truth (c.in_ok-playing-in_default.ensures.truth truth);
-  acts = λ basis declarations is may boxes. plays_first g.S.RowLog.keeping basis declarations (string_bytes c.args.printed.now) (string_bytes c.start.new.printed) (string_bytes c.act.new.printed) c.args.instruction c.in_default.not-Realm c.in_default.not-Labels c.in_ok-playing-in_default.playing
+  acts = λ basis declarations is may boxes covers. plays_first g.S.RowLog.keeping basis declarations (string_bytes c.args.printed.now) (string_bytes c.start.new.printed) (string_bytes c.act.new.printed) c.args.instruction c.in_default.not-Realm c.in_default.not-Labels c.in_ok-playing-in_default.playing
       (λ truth. (let before = c.in_ok-playing-in_default.ensures.truth truth in (c.in-Ok.ensures.text basis declarations is before, c.in_ok-playing-in_default.ensures.moves (scene_of basis declarations) (c.in-Ok.ensures.scene basis declarations is before) may boxes truth)));
+  counts = λ may. c.in_ok-playing-in_default.ensures.counts may ∙ c.in-Ok.ensures.counts;
+  blames = λ may basis declarations is. tt;
 }
 
 pub returns-in-Ok-noted-clause-acts : goal.returns-in-Ok-noted-clause-acts
-returns-in-Ok-noted-clause-acts g c = λ basis declarations is may boxes.
+returns-in-Ok-noted-clause-acts g c = λ basis declarations is may boxes covers.
     let printed = string_bytes c.args.printed.now in
     elim c.match-instruction.branch [
       | in-Realm w ↦ subst (λ d. ActsSo g.S.RowLog.keeping basis printed printed (acts basis (Declaring declarations) (move_by c.args.instruction)) (Ok (stage.Declaring d))) (sym w.declared-is)
           (subst (λ i. ActsSo g.S.RowLog.keeping basis printed printed (acts basis (Declaring declarations) (move_by i)) (Ok (stage.Declaring w.add-noted.new.self))) (sym w.in-Realm.is)
-          (declares_so g.S.RowLog.keeping basis c.args.declared w.add-noted.new.self declarations printed (declared w.in-Realm.name.now w.in-Realm.address.now w.in-Realm.branches w.in-Realm.limits) w.add-noted.result c.in-Ok-noted.field-0 is w.add-noted.ensures.store w.add-noted.ensures.declares (sym w.noted-is ∙ c.in-Ok-noted.is)))
+          (declares_so g.S.RowLog.keeping basis c.args.declared w.add-noted.new.self declarations printed (declared w.in-Realm.name.now w.in-Realm.address.now w.in-Realm.branches w.in-Realm.limits) w.add-noted.result c.in-Ok-noted.field-0 (declared_covered basis w.in-Realm.name.now w.in-Realm.address.now w.in-Realm.branches w.in-Realm.limits (subst (λ i. is_covered basis (Some (move_by i)) ≡ true) w.in-Realm.is covers)) is w.add-noted.ensures.store w.add-noted.ensures.declares (sym w.noted-is ∙ c.in-Ok-noted.is)))
       | in-Labels w ↦ subst (λ d. ActsSo g.S.RowLog.keeping basis printed printed (acts basis (Declaring declarations) (move_by c.args.instruction)) (Ok (stage.Declaring d))) (sym w.declared-is)
           (subst (λ i. ActsSo g.S.RowLog.keeping basis printed printed (acts basis (Declaring declarations) (move_by i)) (Ok (stage.Declaring w.label-noted.new.self))) (sym w.in-Labels.is)
-          (declares_so g.S.RowLog.keeping basis c.args.declared w.label-noted.new.self declarations printed (labelled w.in-Labels.realm.now (fields_of 32 w.in-Labels.labels.now)) w.label-noted.result c.in-Ok-noted.field-0 is w.label-noted.ensures.store w.label-noted.ensures.declares (sym w.noted-is ∙ c.in-Ok-noted.is)))
+          (declares_so g.S.RowLog.keeping basis c.args.declared w.label-noted.new.self declarations printed (labelled w.in-Labels.realm.now (fields_of 32 w.in-Labels.labels.now)) w.label-noted.result c.in-Ok-noted.field-0 (labelled_covered basis w.in-Labels.realm.now (fields_of 32 w.in-Labels.labels.now)) is w.label-noted.ensures.store w.label-noted.ensures.declares (sym w.noted-is ∙ c.in-Ok-noted.is)))
     ]
 
 pub returns-in-Err-noted-clause-acts : goal.returns-in-Err-noted-clause-acts
-returns-in-Err-noted-clause-acts g c = λ basis declarations is may boxes.
+returns-in-Err-noted-clause-acts g c = λ basis declarations is may boxes covers.
     let printed = string_bytes c.args.printed.now in
     elim c.match-instruction.branch [
       | in-Realm w ↦ subst (λ i. ActsSo g.S.RowLog.keeping basis printed printed (acts basis (Declaring declarations) (move_by i)) (Err (c.in-Err-noted.fault, Some c.match-instruction.declared.store))) (sym w.in-Realm.is)
           (declares_not g.S.RowLog.keeping basis c.args.declared w.add-noted.new.self declarations printed (declared w.in-Realm.name.now w.in-Realm.address.now w.in-Realm.branches w.in-Realm.limits) w.add-noted.result c.in-Err-noted.fault (Some c.match-instruction.declared.store) is w.add-noted.ensures.declares (sym w.noted-is ∙ c.in-Err-noted.is))
       | in-Labels w ↦ subst (λ i. ActsSo g.S.RowLog.keeping basis printed printed (acts basis (Declaring declarations) (move_by i)) (Err (c.in-Err-noted.fault, Some c.match-instruction.declared.store))) (sym w.in-Labels.is)
           (declares_not g.S.RowLog.keeping basis c.args.declared w.label-noted.new.self declarations printed (labelled w.in-Labels.realm.now (fields_of 32 w.in-Labels.labels.now)) w.label-noted.result c.in-Err-noted.fault (Some c.match-instruction.declared.store) is w.label-noted.ensures.declares (sym w.noted-is ∙ c.in-Err-noted.is))
+    ]
+
+pub returns-in-Err-clause-blames : goal.returns-in-Err-clause-blames
+returns-in-Err-clause-blames g c = λ may basis declarations is.
+    told_on g.S.RowLog.keeping (IsAtFault g.S.RowLog.keeping (length c.args.pool.now.items) c.args.declared.store (Declaring declarations)) (IsBlamed g.S.RowLog.keeping basis c.args.declared.store) (length c.args.pool.now.items < box_count (scene_of basis declarations)) (HadTooFew g.S.RowLog.keeping basis) c.in-Err.fault c.in-Err.store c.from.result (c.from.ensures ∙ ap of_act_fault c.in-Err.fault-is)
+    (λ new. at_fault g.S.RowLog.keeping basis (stage.Declaring c.args.declared) (Declaring declarations) (length c.args.pool.now.items) c.args.declared.store new is refl)
+    (too_few g.S.RowLog.keeping basis (stage.Declaring c.args.declared) (Declaring declarations) (length c.args.pool.now.items) is)
+    (c.in-Err.ensures.blames basis declarations is)
+
+pub returns-in-Err-noted-clause-blames : goal.returns-in-Err-noted-clause-blames
+returns-in-Err-noted-clause-blames g c = λ may basis declarations is bad truth.
+    elim c.match-instruction.branch [
+      | in-Realm w ↦ absurd (never_asked (declared w.in-Realm.name.now w.in-Realm.address.now w.in-Realm.branches w.in-Realm.limits c.args.declared.declarations.items) w.add-noted.new.self.declarations.items w.add-noted.result c.in-Err-noted.fault w.add-noted.ensures.declares (sym w.noted-is ∙ c.in-Err-noted.is) bad)
+      | in-Labels w ↦ absurd (never_asked (labelled w.in-Labels.realm.now (fields_of 32 w.in-Labels.labels.now) c.args.declared.declarations.items) w.label-noted.new.self.declarations.items w.label-noted.result c.in-Err-noted.fault w.label-noted.ensures.declares (sym w.noted-is ∙ c.in-Err-noted.is) bad)
     ]

@@ -15,7 +15,7 @@ returns-clause-declares g c =
     let place = c.place_of-place.result in
     let here : place ≡ position_or_len (is_declared c.args.name.now) all = c.place_of-place.ensures ∙ ap (position_or_len (is_declared c.args.name.now)) c.deref.ensures.value in
     let there : slice_get all place ≡ Some c.in-Some.declaration.now = some_at all place c.in-Some.declaration.now c.in-Some.ensures.item.3.0 c.in-Some.ensures.item.3.1 in
-    labelled_so all c.args.name.now (fields_of 32 c.args.labels.now) place c.in-Some.declaration.now here there c.label.new.self c.label.result c.label.ensures.ok c.label.ensures.bad
+    labelled_so all c.args.name.now (fields_of 32 c.args.labels.now) place c.in-Some.declaration.now here there c.label.new.self c.label.result c.label.ensures.ok c.label.ensures.bad c.label.ensures.unblamed
 
 pub returns-clause-hostable : goal.returns-clause-hostable
 returns-clause-hostable g c = λ all.

@@ -1,9 +1,13 @@
 -- A realm that is to start again, and one that is not there.
-use Rattle.std.proofs.Common.{refl, string_bytes}
-use Rattle.tip_actor.proofs.Lists.{none_at, some_at}
+use Rattle.std.proofs.Common.{◌∙◌, Err, Some, ap, inl, length, refl, string_bytes, subst, sym}
+use Rattle.std.proofs.lemmas.Result.{err_from_is_err_and}
+use Rattle.tip_actor.proofs.Lists.{length_set, none_at, partner, some_at}
 use Rattle.tip_script.specs.Scripts.{Renew}
 use Rattle.tip_transcript.specs.Printing.{nowhere_text}
-use Rattle.std.specs.Prelude.{Ok}
+use Rattle.std.specs.Prelude.{Ok, slice_set}
+use Rattle.tip_scene.specs.Scenes.{moved_in}
+use Rattle.tip_scene.specs.Stages.{APlaying, Serves}
+use Rattle.tip_scene.proofs.Blaming.{act_store, err_same, judged_counts, judged_refused, renew_blamed, serves_judged, serves_when}
 use Rattle.tip_scene.proofs.Scening.{has_moved, moved_elsewhere}
 use Rattle.tip_scene.proofs.playing.Playing+StoredCore+S+Actor.renew.Goals as goal
 
@@ -13,14 +17,36 @@ returns-in_default-clause-serves g c = λ scene is truth.
     c.place_of-place.ensures (none_at c.args.self.now.actors.items c.place_of-place.result c.in_default.ensures.item.3) (nowhere_text c.args.name.now, refl, c.in_ok-print_nowhere.ensures)
 
 pub returns-clause-truth : goal.returns-clause-truth
-returns-clause-truth g c = λ truth. c.renew.ensures.truth (c.settle.ensures.truth truth)
+returns-clause-truth g c = λ truth. c.renew.ensures.truth (c.settle-end.ensures.truth truth)
 
 pub returns-clause-serves : goal.returns-clause-serves
 returns-clause-serves g c = λ scene is truth.
     let actors = c.args.self.now.actors.items in
     let place = c.place_of-place.result in
     let actor = c.in-Some.actor.now in
-    has_moved g.S.RowLog.keeping c.args.self.now.stored_core c.renew.new.stored_core c.settle.new.stored_core actors scene (Renew c.args.name.now) c.args.name.now place actor c.renew.new.actor c.settle.new.self (string_bytes c.args.printed.now) (string_bytes c.renew.new.printed) (string_bytes c.settle.new.printed) is
+    let playing : APlaying g.row.S.Denot = record { stored_core = c.settle-end.new.stored_core; actors = record c.args.self.now.actors { items = slice_set actors place c.settle-end.new.actor; ok = (c.args.self.now.actors.ok.0 ∙ sym (length_set actors place c.settle-end.new.actor), c.args.self.now.actors.ok.1) } } in
+    let moved = moved_in (Renew c.args.name.now) (Some c.args.name.now) scene in
+    subst (Serves g.S.RowLog.keeping (string_bytes c.args.printed.now) (string_bytes c.settle-end.new.printed) moved playing) (sym c.judge.ensures)
+    (serves_judged g.S.RowLog.keeping _ _ moved playing _ _ c.settle-end.result (serves_when g.S.RowLog.keeping _ _ moved playing c.settle-end.result c.settle-end.ensures.understood c.settle-end.ensures.acts (λ settles.
+    has_moved g.S.RowLog.keeping c.args.self.now.stored_core c.renew.new.stored_core c.settle-end.new.stored_core actors scene (Renew c.args.name.now) c.args.name.now place actor c.renew.new.actor c.settle-end.new.actor (string_bytes c.args.printed.now) (string_bytes c.renew.new.printed) (string_bytes c.settle-end.new.printed) is
     c.place_of-place.ensures (some_at actors place actor c.in-Some.ensures.item.3.0 c.in-Some.ensures.item.3.1)
-    (c.in_ok-renew.ensures.acts (c.settle.ensures.truth truth))
-    c.in_ok-settle.ensures.acts
+    (c.in_ok-renew.ensures.acts (c.settle-end.ensures.truth truth))
+    settles)))
+
+pub returns-in_err-renew-clause-blames : goal.returns-in_err-renew-clause-blames
+returns-in_err-renew-clause-blames g c = λ may scene is truth.
+    let e = err_from_is_err_and c.from_residual-in_err-renew.result c.from_residual-in_err-renew.ensures.1 in
+    let kept = g.S.RowLog.keeping in
+    let actors = c.args.self.now.actors.items in
+    let place = c.place_of-place.result in
+    let actor = c.in-Some.actor.now in
+    let here = some_at actors place actor c.in-Some.ensures.item.3.0 c.in-Some.ensures.item.3.1 in
+    let mate = partner actors scene place actor is.count here in
+    rw (e.1, e.2) (λ bad. renew_blamed kept (length c.args.pool.now.items) c.args.self.now.stored_core.store c.renew.new.stored_core.store scene place mate.0 mate.1
+    (c.in_err-renew.ensures.blames mate.0 (is.each place actor mate.0 here mate.1) c.requires.running truth (ap Err (act_store c.in_err-renew.field-0.0 (err_same bad)))))
+
+pub returns-clause-counts : goal.returns-clause-counts
+returns-clause-counts g c = λ may. judged_counts g.S.RowLog.keeping c.args.self.now.stored_core.store c.settle-end.new.stored_core.store _ _ _ c.settle-end.result c.judge.result (c.may_refuse.ensures ∙ may) c.faults-before.ensures c.faults.ensures c.judge.ensures
+
+pub returns-clause-blames : goal.returns-clause-blames
+returns-clause-blames g c = λ may scene is truth bad. inl (judged_refused g.S.RowLog.keeping c.args.self.now.stored_core.store c.settle-end.new.stored_core.store _ _ _ c.settle-end.result (c.may_refuse.ensures ∙ may) c.faults-before.ensures c.faults.ensures (sym c.judge.ensures ∙ bad))

@@ -1,12 +1,25 @@
 -- A line before and after the realms have started.
-use Rattle.std.proofs.Common.{subst, string_bytes}
+use Rattle.std.proofs.Common.{subst, string_bytes, sym}
+use Rattle.tip_scene.specs.Blaming.{Accuses, Blames, HadTooFew, IsBlamed}
+use Rattle.tip_scene.specs.declared.fault.LineFault.TheVariants.{Store}
 use Rattle.tip_script.specs.Moves.{move_by}
-use Rattle.tip_scene.specs.Stages.{IsStage}
+use Rattle.tip_scene.specs.Stages.{IsStage, store_of}
+use Rattle.std.proofs.lemmas.Result.{err_from_is_err_and}
+use Rattle.tip_scene.proofs.Blaming.{of_declared, play_accused}
 use Rattle.tip_scene.proofs.Staging.{obeys_first, plays_on}
 use Rattle.tip_scene.proofs.stage.Stage+Declared+S+Playing+StoredCore+S.obey.Goals as goal
 
 pub returns-in-Declaring-clause-acts : goal.returns-in-Declaring-clause-acts
-returns-in-Declaring-clause-acts g c = λ basis now is may boxes. obeys_first g.S.RowLog.keeping basis c.in-Declaring.declared (string_bytes c.args.printed.now) (string_bytes c.declare.new.printed) (move_by c.args.instruction) c.declare.result now (subst (λ s. IsStage g.S.RowLog.keeping basis s now) c.in-Declaring.is is) (λ declarations declared. c.declare.ensures.acts basis declarations declared may boxes)
+returns-in-Declaring-clause-acts g c = λ basis now is may boxes covers. obeys_first g.S.RowLog.keeping basis c.in-Declaring.declared (string_bytes c.args.printed.now) (string_bytes c.declare.new.printed) (move_by c.args.instruction) c.declare.result now (subst (λ s. IsStage g.S.RowLog.keeping basis s now) c.in-Declaring.is is) (λ declarations declared. c.declare.ensures.acts basis declarations declared may boxes covers)
 
 pub returns-in_ok-playing-in-Playing-clause-acts : goal.returns-in_ok-playing-in-Playing-clause-acts
-returns-in_ok-playing-in-Playing-clause-acts g c = λ basis now is may boxes. plays_on g.S.RowLog.keeping basis c.in-Playing.playing c.in_ok-playing-in-Playing.playing (string_bytes c.args.printed.now) (string_bytes c.act.new.printed) (move_by c.args.instruction) now (subst (λ s. IsStage g.S.RowLog.keeping basis s now) c.in-Playing.is is) (λ scene kept. c.in_ok-playing-in-Playing.ensures.moves scene kept may boxes)
+returns-in_ok-playing-in-Playing-clause-acts g c = λ basis now is may boxes covers. plays_on g.S.RowLog.keeping basis c.in-Playing.playing c.in_ok-playing-in-Playing.playing (string_bytes c.args.printed.now) (string_bytes c.act.new.printed) (move_by c.args.instruction) now (subst (λ s. IsStage g.S.RowLog.keeping basis s now) c.in-Playing.is is) (λ scene kept. c.in_ok-playing-in-Playing.ensures.moves scene kept may boxes)
+
+pub returns-in_err-playing-in-Playing-clause-blames : goal.returns-in_err-playing-in-Playing-clause-blames
+returns-in_err-playing-in-Playing-clause-blames g c = λ may basis stage is.
+    let e = err_from_is_err_and c.from_residual.result c.from_residual.ensures.1 in
+    rw (e.1, e.2) (subst (λ s. Accuses g.S.RowLog.keeping Store (IsBlamed g.S.RowLog.keeping basis (store_of s)) (HadTooFew g.S.RowLog.keeping basis) c.in_err-playing-in-Playing.field-0.0) (sym c.in-Playing.is) (play_accused g.S.RowLog.keeping Store basis c.in-Playing.playing stage _ c.in_err-playing-in-Playing.field-0.0 (subst (λ s. IsStage g.S.RowLog.keeping basis s stage) c.in-Playing.is is) (λ scene kept. c.in_err-playing-in-Playing.ensures.blames may scene kept)))
+
+pub returns-in-Declaring-clause-blames : goal.returns-in-Declaring-clause-blames
+returns-in-Declaring-clause-blames g c = λ may basis stage is.
+    subst (λ s. Blames g.S.RowLog.keeping Store (IsBlamed g.S.RowLog.keeping basis (store_of s)) (HadTooFew g.S.RowLog.keeping basis) c.declare.result) (sym c.in-Declaring.is) (of_declared g.S.RowLog.keeping basis c.in-Declaring.declared stage (subst (λ s. IsStage g.S.RowLog.keeping basis s stage) c.in-Declaring.is is) (λ declarations declared. c.declare.ensures.blames may basis declarations declared))
