@@ -7,7 +7,7 @@ use Rattle.tip_scene.specs.Acts.{Basis, is_covered}
 use Rattle.tip_script.specs.Scripts.{Move, Declare, Label, Open, Dial, Feed, Lose, Push, Pull, Go, Drop, Resume, Refuse, Renew, Restart, move_of}
 use Rattle.tip_scene.specs.Stages.{IsBasis, IsReliable, Trusts}
 use Rattle.std.specs.Io.KnownBytes.{Appends, Keeps}
-use Rattle.std.specs.Prelude.{IsErrOf, false, true}
+use Rattle.std.specs.Prelude.{IfOk, IsErrOf, false, true}
 use Rattle.std.specs.List.{list_all}
 use Rattle.std.proofs.lemmas.Bool.{and_from}
 use Rattle.tip_play.specs.Endings.{ended, unflushed}
@@ -62,6 +62,14 @@ module _ {S : Type 0} (kept : Keeping S) (basis : Basis) where
   pub all_unflushed : (whole rest old new : Option (List ℕ)) (result : Result S (PlayFault × Option S)) → IfSome whole (λ script. covers_all basis script ≡ true → TranscribesOn kept basis script rest old new result) → IfSome whole (λ script. covers_all basis script ≡ true → TranscribesOn kept basis script rest old new (unflushed result))
   all_unflushed None rest old new result is = tt
   all_unflushed (Some script) rest old new result is = λ covers. one_unflushed script rest old new result (is covers)
+
+pub never_unflushed : {S : Type 0} (P : S → Type 0) (result : Result S (PlayFault × Option S)) → IfOk (unflushed result) P
+never_unflushed P (Ok store) = tt
+never_unflushed P (Err (fault.Script line, store)) = tt
+never_unflushed P (Err (fault.Read, store)) = tt
+never_unflushed P (Err (fault.Write, store)) = tt
+never_unflushed P (Err (fault.Memory, store)) = tt
+never_unflushed P (Err (fault.Store, store)) = tt
 
 -- Rows in memory
 

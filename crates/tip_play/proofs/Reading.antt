@@ -5,7 +5,7 @@ use Rattle.std.proofs.lemmas.List.{append-nil, append_assoc}
 use Rattle.std.specs.Io.KnownBytes.{Consumes, IsAtEnd}
 use Rattle.std.proofs.KnownBytes.{Consumes-nil, Consumes-trans, Consumes-whole}
 use Rattle.std.specs.List.{list_all}
-use Rattle.std.specs.Prelude.{◌&&◌}
+use Rattle.std.specs.Prelude.{◌&&◌, IfOk}
 use Rattle.std.proofs.lemmas.List.Folds.{list_all-append}
 use Rattle.tip_line.proofs.StopLemmas.{and_left, and_right}
 use Rattle.script_lines.specs.Lines.{AreOfLine, Reads, is_inner}
@@ -16,13 +16,17 @@ use Rattle.script_lines.specs.declared.line.LineFault.TheVariants as line_fault
 use Rattle.tip_scene.specs.Acts.{Stage, Declaring, Basis, acted, closing_of, is_covered}
 use Rattle.tip_scene.specs.Stages.{AStage, IsReliable, IsStage, Trusts, store_of}
 use Rattle.tip_play.specs.Faults.{of_line}
-use Rattle.tip_play.specs.Transcripts.{IsFront, IsReadTo, Transcribes, TranscribesOn, covers_all, ended, unended}
+use Rattle.tip_play.specs.Transcripts.{IsFront, IsReadTo, Played, Reached, Transcribes, TranscribesOn, all_played, covers_all, ended, unended}
 use Rattle.tip_play.specs.Writing.{Acts, Closes, ClosesOn, HasCome}
 use Rattle.tip_play.specs.declared.fault.PlayFault.{PlayFault}
 use Rattle.tip_play.specs.declared.player.Coming.{Coming}
 use Rattle.tip_play.specs.declared.fault.PlayFault.TheVariants as fault
 use Rattle.tip_script.specs.Scripts.{move_of}
 use Rattle.tip_play.proofs.Cutting.{all_lines, last_line, lines_from, unended_line}
+use Rattle.tip_scene.specs.Blaming.{starting_from}
+use Rattle.tip_scene.specs.Leaving.{IsLeft}
+use Rattle.tip_play.specs.Leaving.{Leaves}
+use Rattle.tip_play.proofs.Transcribing.{played_last}
 use Rattle.tip_play.proofs.Lines as lines
 use Rattle.tip_play.proofs.Lines.{HasPlayed}
 
@@ -176,6 +180,18 @@ module _ {S : Type 0} (kept : Keeping S) (basis : Basis) where
   script_closes stage whole left old mid new result so closes =
       Consumes-whole whole left so.read (λ script. Transcribes basis script left old new result) so.consumed so.end
       (lines.closes kept basis stage so.number so.read old mid new left result so.played (closes so.played.now so.played.stands))
+
+  -- so it has reached this stage
+  pub ended_at : (stage : AStage S) (whole left old new : Option (List ℕ)) (script : List ℕ) → whole ≡ Some script → (so : HasEnded stage whole left old new) → (all_played basis script).ending ≡ Reached so.played.now
+  ended_at stage whole left old new script is so =
+      let P = λ (script : List ℕ). (all_played basis script).ending ≡ Reached so.played.now in
+      subst (λ w. IfSome w P) is (Consumes-whole whole left so.read P so.consumed so.end (ap (λ (p : Played). p.ending) (played_last basis so.read) ∙ so.played.reached))
+
+  -- and its realms are stored as they are there
+  pub leaves_end : {E : Type 0} (P : Stage → Type 0) (script : List ℕ) (old mid : S) (result : Result S (E × Option S)) → Trusts kept mid (λ store. store) result → (kept.is_true mid → (now : Stage) × P now × ((all_played basis script).ending ≡ Reached now)) →
+      ((now : Stage) → P now → IfOk result (λ store. kept.is_true store → IsLeft kept (starting_from basis now) old store)) → IfOk result (λ left. kept.is_true left → Leaves kept basis script left)
+  leaves_end P script old mid (Ok left) trusts so leaves = λ truth. (let at = so (trusts truth) in record { stage = at.0; reached = at.2; stored = (leaves at.0 at.1 truth).stored })
+  leaves_end P script old mid (Err why) trusts so leaves = tt
 
   -- Before the next line
 

@@ -2,3 +2,4 @@ pub mod Faults
 pub mod Endings
 pub mod Transcripts
 pub mod Writing
+pub mod Leaving

@@ -5,10 +5,12 @@ ghost use Rattle.tip_branch.specs.Lots.{AreIn};
 ghost use Rattle.tip_branch.specs.declared.branch.Phase.TheVariants.{Active};
 ghost use Rattle.tip_script.specs.Scripts.{move_of};
 ghost use Rattle.tip_scene.specs.Acts.{Basis, Stage as AStage, acted, closing_of, is_covered};
-ghost use Rattle.tip_scene.specs.Blaming.{Blames, HadTooFew, HasRefused, IsBlamed};
+ghost use Rattle.tip_scene.specs.Blaming.{Blames, HadTooFew, HasRefused, IsBlamed, starting_from};
 ghost use Rattle.tip_scene.specs.Boxes.{AreWilling};
+ghost use Rattle.tip_scene.specs.Leaving.{IsLeft};
 ghost use Rattle.tip_scene.specs.Stages.{ComeWith, IsBasis, IsSound, IsStage, Trusts, has_started, store_of};
 ghost use Rattle.tip_play.specs.Endings.{ended, unflushed};
+ghost use Rattle.tip_play.specs.Leaving.{Leaves};
 ghost use Rattle.tip_play.specs.Transcripts.{Transcribes, TranscribesOn, covers_all, in_memory};
 ghost use Rattle.tip_play.specs.Writing.{ActsOn, ClosesOn, HasCome};
 
@@ -67,6 +69,10 @@ pub fn play_on<S: RowLog + Drop, R: BufRead, W: Write>(
         IfSome (R.remaining input.old) (λ script. covers_all basis script ≡ true → TranscribesOn
         S.keeping basis script (R.remaining input.new)
         (W.contents output.old) (W.contents output.new) result) }
+    ensures leaves { (basis : Basis) → basis.may_refuse ≡ false →
+        IsBasis S.keeping basis store → (script : List ℕ) →
+        R.remaining input.old ≡ Some script → covers_all basis script ≡ true →
+        IfOk result (λ left. S.keeping.is_true left → Leaves S.keeping basis script left) }
     ensures blames { (basis : Basis) → basis.may_refuse ≡ false →
         IsBasis S.keeping basis store → (script : List ℕ) →
         R.remaining input.old ≡ Some script → covers_all basis script ≡ true →
@@ -91,6 +97,10 @@ fn play_over<S: RowLog + Drop, F: Refuser<S>, R: BufRead, W: Write>(
         IfSome (R.remaining input.old) (λ script. covers_all basis script ≡ true → TranscribesOn
         S.keeping basis script (R.remaining input.new)
         (W.contents output.old) (W.contents output.new) result) }
+    ensures leaves { (basis : Basis) → basis.may_refuse ≡ F.may →
+        IsBasis S.keeping basis store → (script : List ℕ) →
+        R.remaining input.old ≡ Some script → covers_all basis script ≡ true →
+        IfOk result (λ left. S.keeping.is_true left → Leaves S.keeping basis script left) }
     ensures blames { F.may ≡ false → (basis : Basis) → basis.may_refuse ≡ F.may →
         IsBasis S.keeping basis store → (script : List ℕ) →
         R.remaining input.old ≡ Some script → covers_all basis script ≡ true →
@@ -131,6 +141,10 @@ fn play_lines<S: RowLog + Drop, F: Refuser<S>, R: BufRead, W: Write>(
         IfSome (R.remaining input.old) (λ script. covers_all basis script ≡ true → TranscribesOn
         S.keeping basis script (R.remaining input.new)
         (W.contents output.old) (W.contents output.new) result) }
+    ensures leaves { (basis : Basis) → basis.may_refuse ≡ F.may →
+        IsBasis S.keeping basis store → (script : List ℕ) →
+        R.remaining input.old ≡ Some script → covers_all basis script ≡ true →
+        IfOk result (λ left. S.keeping.is_true left → Leaves S.keeping basis script left) }
     ensures blames { F.may ≡ false → (basis : Basis) → basis.may_refuse ≡ F.may →
         IsBasis S.keeping basis store → (script : List ℕ) →
         R.remaining input.old ≡ Some script → covers_all basis script ≡ true →
@@ -326,6 +340,9 @@ fn finish<S: RowLog + Drop, W: Write>(
         IsStage S.keeping basis stage now →
         ClosesOn S.keeping (closing_of basis now)
         (W.contents output.old) (W.contents output.new) result }
+    ensures leaves { (basis : Basis) (now : AStage) → IsStage S.keeping basis stage now →
+        IfOk result (λ store. S.keeping.is_true store →
+        IsLeft S.keeping (starting_from basis now) (store_of stage) store) }
     ensures started { has_started stage ≡ true →
         IfErr result (λ fault. fault.0 ≡ PlayFault.Write) }
     ensures blames { (basis : Basis) (now : AStage) → IsStage S.keeping basis stage now →

@@ -11,5 +11,6 @@ pub mod Starting
 pub mod Again
 pub mod Renewed
 pub mod Blaming
+pub mod Leaving
 pub mod Staging
 pub mod Dialling

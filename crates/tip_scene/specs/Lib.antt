@@ -7,3 +7,4 @@ pub mod Standing
 pub mod Rising
 pub mod Stages
 pub mod Blaming
+pub mod Leaving

@@ -1,5 +1,5 @@
 //! The realms of a script, before they start.
-ghost use Rattle.std.specs.Prelude.{◌≡◌, ◌≤◌, ◌<◌, ◌++◌, ◌&&◌, true, false, List, [], None, Some, length, map, IfOk, OnErr, OnOk, IsErrOf, string_bytes};
+ghost use Rattle.std.specs.Prelude.{◌≡◌, ◌≤◌, ◌<◌, ◌++◌, ◌&&◌, true, false, ℕ, List, [], None, Some, length, map, IfOk, OnErr, OnOk, IsErrOf, string_bytes};
 ghost use Rattle.std.specs.List.{list_all, position_or_len};
 ghost use Rattle.tip_branch.specs.Always.{Always};
 ghost use Rattle.tip_line.specs.Fields.{fields_of};
@@ -8,6 +8,7 @@ ghost use Rattle.tip_scene.specs.Acts.{Basis, Declaring as Begins, declaration_o
 ghost use Rattle.tip_scene.specs.Blaming.{Blames, HasRefused, IsAtFault};
 ghost use Rattle.tip_scene.specs.Boxes.{AreWilling, box_count};
 ghost use Rattle.tip_scene.specs.Hosting.{may_be_hosted};
+ghost use Rattle.tip_scene.specs.Leaving.{OthersStay};
 ghost use Rattle.tip_scene.specs.Rising.{AreNew};
 ghost use Rattle.tip_scene.specs.Stages.{Declares, IsDeclared, IsBasis, Trusts, spec_of};
 ghost use Rattle.tip_scene.specs.Standing.{IsScene};
@@ -126,6 +127,9 @@ impl<S: RowLog + Drop> Declared<S, Core> {
         ensures running { IfOk result (λ playing. playing.stored_core.is_stopped ≡ false) }
         ensures truth { Trusts S.keeping self.store
             (λ playing. playing.stored_core.store) result }
+        ensures leaves { IfOk result (λ playing. S.keeping.is_true playing.stored_core.store →
+            (names : List (List ℕ)) →
+            OthersStay S.keeping 1 names self.store playing.stored_core.store) }
         ensures counts { IfOk result (λ playing. S.keeping.faults playing.stored_core.store
             ≡ S.keeping.faults self.store) }
         ensures blames { (basis : Basis) (declarations : List Declaration) →

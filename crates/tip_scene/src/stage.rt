@@ -7,9 +7,10 @@ ghost use Rattle.tip_scene.specs.Acts.{Basis, Stage as AStage, Declaring as Begi
 ghost use Rattle.tip_branch.specs.Lots.{AreIn};
 ghost use Rattle.tip_branch.specs.declared.branch.Phase.TheVariants.{Active};
 ghost use Rattle.std.specs.List.{list_all};
-ghost use Rattle.tip_scene.specs.Blaming.{Blames, HadTooFew, HasRefused, IsBlamed};
+ghost use Rattle.tip_scene.specs.Blaming.{Blames, HadTooFew, HasRefused, IsBlamed, starting_from};
 ghost use Rattle.tip_scene.specs.Boxes.{AreWilling};
 ghost use Rattle.tip_scene.specs.Hosting.{may_be_hosted};
+ghost use Rattle.tip_scene.specs.Leaving.{IsLeft};
 ghost use Rattle.tip_scene.specs.Stages.{ActsSo, AreWanted, ComeWith, IsDeclared, IsBasis, IsSound, IsStage, Trusts, has_started, store_of};
 
 use crate::boxes::Wanted;
@@ -100,6 +101,9 @@ impl<S: RowLog + Drop> Stage<Declared<S>, Playing<StoredCore<S>>> {
             IsStage S.keeping basis self stage →
             IfOk result (λ store. S.keeping.is_true store →
             string_bytes printed.new ≡ string_bytes printed.old ++ closing_of basis stage) }
+        ensures leaves { (basis : Basis) (stage : AStage) → IsStage S.keeping basis self stage →
+            IfOk result (λ store. S.keeping.is_true store →
+            IsLeft S.keeping (starting_from basis stage) (store_of self) store) }
         ensures blames { (basis : Basis) (stage : AStage) →
             IsStage S.keeping basis self stage → Blames S.keeping ActFault.Store
             (IsBlamed S.keeping basis (store_of self)) (HadTooFew S.keeping basis) result }

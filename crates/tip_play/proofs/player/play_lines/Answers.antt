@@ -11,7 +11,7 @@ use Rattle.tip_script.specs.Scripts.{move_of, plans_of}
 use Rattle.tip_play.specs.Transcripts.{IsFront, IsReadTo, Transcribes, in_memory}
 use Rattle.tip_scene.proofs.Dealing.{join}
 use Rattle.tip_play.proofs.Making.{all_alike, all_made, fresh_active, fresh_known, fresh_of, no_other, one_alike, one_made, read_of, when_ok}
-use Rattle.tip_play.proofs.Reading.{HasEnded, a_line, closes_on, goes_front, goes_on, gone, line_covered, line_fails, no_line, no_number, not_come, reads_none, relying, stands_so, still_going, trusts_back}
+use Rattle.tip_play.proofs.Reading.{HasEnded, a_line, closes_on, ended_at, goes_front, goes_on, gone, leaves_end, line_covered, line_fails, no_line, no_number, not_come, reads_none, relying, stands_so, still_going, trusts_back}
 use Rattle.tip_play.proofs.Blaming.{blames_back, blames_back_err, is_err_of, refused_here}
 use Rattle.tip_play.proofs.player.play_lines.Goals as goal
 
@@ -223,3 +223,16 @@ returns-in_err-stage-clause-blames g c = λ asks basis may on script whole cover
     rw (e.1, e.2) (blames_back_err kept basis c.args.store _ c.in_err-stage.field-0.0 c.in_err-stage.ensures.truth (ap (λ s. kept.faults (store_of s)) (sym same) ∙ c.in-Ok-next.ensures.counts ∙ c.loop-number.invariant.counts asks) (λ left.
     let now = stands_so kept basis c.loop-number.is_over c.loop-number.stage c.loop-number.number (g.R.Read.remaining c.args.input.now) (g.R.Read.remaining c.loop-number.input) (g.W.Write.contents c.args.output.now) (g.W.Write.contents c.loop-number.output) (c.loop-number.invariant.goes basis may on (script, whole, covers) (c.next.ensures.truth (subst (λ s. kept.is_true (store_of s)) same left))) in
     c.in_err-stage.ensures.blames asks basis now.0 (subst (λ s. IsStage kept basis s now.0) (sym same) (c.next.ensures.stands basis now.0 now.1))))
+
+-- What is left of the store
+
+pub returns-then-is_over-clause-leaves : goal.returns-then-is_over-clause-leaves
+returns-then-is_over-clause-leaves g c = λ basis may on script whole covers.
+    let kept = g.S.RowLog.keeping in
+    let same = c.loop.invariant.same ∙ c.loop-kind.invariant.same in
+    let stage = c.loop-number.stage in
+    leaves_end kept basis _ script _ _ c.finish.result c.finish.ensures.truth
+    (λ left.
+    let so = gone kept basis c.loop-number.is_over stage c.loop-number.number (g.R.Read.remaining c.args.input.now) (g.R.Read.remaining c.loop-number.input) (g.W.Write.contents c.args.output.now) (g.W.Write.contents c.loop-number.output) c.if-is_over.true (c.loop-number.invariant.goes basis may on (script, whole, covers) (c.next.ensures.truth (subst (λ s. kept.is_true (store_of s)) same left))) in
+    (so.played.now, subst (λ s. IsStage kept basis s so.played.now) (sym same) (c.next.ensures.stands basis so.played.now so.played.stands), ended_at kept basis stage (g.R.Read.remaining c.args.input.now) (g.R.Read.remaining c.loop-number.input) (g.W.Write.contents c.args.output.now) (g.W.Write.contents c.loop-number.output) script whole so))
+    (c.finish.ensures.leaves basis)

@@ -1,11 +1,12 @@
 -- What was written stays, and is not known to be there where it was not flushed.
 use Rattle.std.proofs.Common.{◌≡◌, subst, sym, true}
-use Rattle.std.specs.Prelude.{IfSome}
+use Rattle.std.specs.Prelude.{IfOk, IfSome}
 use Rattle.tip_play.specs.Transcripts.{TranscribesOn, covers_all}
 use Rattle.tip_scene.specs.Blaming.{Blames, HadTooFew, IsBlamed}
 use Rattle.tip_play.specs.declared.fault.PlayFault.TheVariants.{Store}
 use Rattle.tip_play.proofs.Blaming.{blames_unflushed}
-use Rattle.tip_play.proofs.Ending.{all_kept, all_unflushed}
+use Rattle.tip_play.specs.Leaving.{Leaves}
+use Rattle.tip_play.proofs.Ending.{all_kept, all_unflushed, never_unflushed}
 use Rattle.tip_play.proofs.player.play_over.Goals as goal
 
 pub returns-in-Ok-clause-transcribes : goal.returns-in-Ok-clause-transcribes
@@ -24,3 +25,7 @@ pub returns-in-Err-clause-blames : goal.returns-in-Err-clause-blames
 returns-in-Err-clause-blames g c = λ asks basis may on script whole covers.
     subst (Blames g.S.RowLog.keeping Store (IsBlamed g.S.RowLog.keeping basis c.args.store) (HadTooFew g.S.RowLog.keeping basis)) (sym c.unflushed.ensures)
     (blames_unflushed g.S.RowLog.keeping basis (IsBlamed g.S.RowLog.keeping basis c.args.store) (HadTooFew g.S.RowLog.keeping basis) c.play_lines-end.result (c.play_lines-end.ensures.blames asks basis may on script whole covers))
+
+pub returns-in-Err-clause-leaves : goal.returns-in-Err-clause-leaves
+returns-in-Err-clause-leaves g c = λ basis may on script whole covers.
+    subst (λ r. IfOk r (λ left. g.S.RowLog.keeping.is_true left → Leaves g.S.RowLog.keeping basis script left)) (sym c.unflushed.ensures) (never_unflushed (λ left. g.S.RowLog.keeping.is_true left → Leaves g.S.RowLog.keeping basis script left) c.play_lines-end.result)

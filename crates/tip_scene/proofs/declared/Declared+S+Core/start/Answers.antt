@@ -5,6 +5,8 @@ use Rattle.tip_scene.specs.Acts.{Declaring, scene_of}
 use Rattle.tip_scene.specs.Rising.{AreNew}
 use Rattle.tip_scene.specs.Stages.{spec_of}
 use Rattle.tip_scene.proofs.Blaming.{start_blamed}
+use Rattle.tip_scene.specs.Leaving.{OthersStay}
+use Rattle.tip_scene.proofs.Leaving.{start_leaves}
 use Rattle.tip_scene.proofs.Starting.{all_wait}
 use Rattle.tip_scene.proofs.declared.Declared+S+Core.start.Goals as goal
 
@@ -30,3 +32,8 @@ pub returns-in-Err-clause-blames : goal.returns-in-Err-clause-blames
 returns-in-Err-clause-blames g c = λ basis declarations is same truth.
     start_blamed g.S.RowLog.keeping (length c.args.pool.now.items) c.args.self.store c.in-Err.store (Declaring declarations) c.in-Ok.specs.items (c.in-Ok.ensures.1 ∙ ap (map spec_of) is.declared) c.in-Err.fault c.in-Err.ensures.err.counts c.in-Err.ensures.reason
     (ap of_load_fault (sym c.in-Err.fault-is) ∙ sym c.from.ensures ∙ same)
+
+pub returns-in-Ok-rise-clause-leaves : goal.returns-in-Ok-rise-clause-leaves
+returns-in-Ok-rise-clause-leaves g c = λ truth names.
+    subst (OthersStay g.S.RowLog.keeping 1 names c.args.self.store) (sym c.in-Ok-rise.ensures.store)
+    (start_leaves g.S.RowLog.keeping c.in-Ok.specs.items c.args.self.store c.in-Ok-load.recovering names c.in-Ok-load.ensures (subst g.S.RowLog.keeping.is_true c.in-Ok-rise.ensures.store truth))

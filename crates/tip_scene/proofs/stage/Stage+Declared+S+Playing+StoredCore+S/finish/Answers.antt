@@ -1,7 +1,9 @@
 -- The realms could not start.
 use Rattle.std.proofs.Common.{subst, sym}
 use Rattle.tip_actor.specs.declared.fault.ActFault.TheVariants.{Store}
-use Rattle.tip_scene.specs.Blaming.{Accuses, HadTooFew, IsBlamed}
+use Rattle.tip_scene.specs.Blaming.{Accuses, HadTooFew, IsBlamed, starting_from}
+use Rattle.tip_scene.specs.Leaving.{IsLeft}
+use Rattle.tip_scene.proofs.Leaving.{left_first, left_then}
 use Rattle.std.proofs.lemmas.Result.{err_from_is_err_and}
 use Rattle.tip_scene.specs.Stages.{IsStage, store_of}
 use Rattle.tip_scene.proofs.Blaming.{start_accused}
@@ -11,3 +13,16 @@ pub returns-in_err-playing-in-Declaring-clause-blames : goal.returns-in_err-play
 returns-in_err-playing-in-Declaring-clause-blames g c = λ basis stage is.
     let e = err_from_is_err_and c.from_residual.result c.from_residual.ensures.1 in
     rw (e.1, e.2) (subst (λ s. Accuses g.S.RowLog.keeping Store (IsBlamed g.S.RowLog.keeping basis (store_of s)) (HadTooFew g.S.RowLog.keeping basis) c.in_err-playing-in-Declaring.field-0.0) (sym c.in-Declaring.is) (start_accused g.S.RowLog.keeping Store basis c.in-Declaring.declared stage _ c.in_err-playing-in-Declaring.field-0.0 (subst (λ s. IsStage g.S.RowLog.keeping basis s stage) c.in-Declaring.is is) (λ declarations declared. c.in_err-playing-in-Declaring.ensures.blames basis declarations declared)))
+
+pub returns-in_ok-playing-in-Declaring-clause-leaves : goal.returns-in_ok-playing-in-Declaring-clause-leaves
+returns-in_ok-playing-in-Declaring-clause-leaves g c = λ basis stage is truth.
+    let kept = g.S.RowLog.keeping in
+    let store = subst kept.is_true c.shut.ensures truth in
+    subst (λ s. IsLeft kept (starting_from basis stage) (store_of s) c.shut.result) (sym c.in-Declaring.is)
+    (left_first kept basis c.in-Declaring.declared stage c.in_ok-playing-in-Declaring.playing c.shut.result c.shut.ensures (subst (λ s. IsStage kept basis s stage) c.in-Declaring.is is) (λ declarations declared. c.in_ok-playing-in-Declaring.ensures.scene basis declarations declared store) (c.in_ok-playing-in-Declaring.ensures.leaves store))
+
+pub returns-in-Playing-clause-leaves : goal.returns-in-Playing-clause-leaves
+returns-in-Playing-clause-leaves g c = λ basis stage is truth.
+    let kept = g.S.RowLog.keeping in
+    subst (λ s. IsLeft kept (starting_from basis stage) (store_of s) c.shut-in-Playing.result) (sym c.in-Playing.is)
+    (left_then kept basis c.in-Playing.playing stage c.shut-in-Playing.result c.shut-in-Playing.ensures (subst (λ s. IsStage kept basis s stage) c.in-Playing.is is))

@@ -1,0 +1,162 @@
+-- What is stored of realms that do nothing.
+use Rattle.std.proofs.Common.{◌≡◌, ◌≢◌, ◌+◌, ◌<◌, ◌≤◌, ℕ, zero, suc, Bool, true, false, cond, List, [], ◌∷◌, length, map, Option, Some, None, arith, inl, inr, refl, sym, ap, ◌∙◌, subst}
+use Rattle.std.specs.Prelude.{◌||◌, ℤ, pos, is_some, nat_lt, option_map, slice_get, slice_set, unwrap_or}
+use Rattle.std.specs.List.{list_any}
+use Rattle.std.specs.Str.{bytes_eq}
+use Rattle.std.proofs.lemmas.Bool.Decides.{nat_tests}
+use Rattle.std.proofs.lemmas.Option.{none-some, same_Some}
+use Rattle.tip_rows.specs.Keys.{Key}
+use Rattle.tip_rows.specs.Logs.{IsAtEnd, IsPart, IsSpoiled, Keeping, Log, known, last_epoch, raised, raised_number, with_all_raised, with_known}
+use Rattle.tip_rows.specs.declared.row.Row.{Row}
+use Rattle.tip_stored.specs.Loading.{Loads, known_all, names_of, opened}
+use Rattle.tip_stored.proofs.Parts.{number_of}
+use Rattle.tip_stored.specs.Recovering.{Recovering}
+use Rattle.tip_stored.specs.declared.realm_spec.RealmSpec.{RealmSpec}
+use Rattle.std.specs.Prelude.{Ok}
+use Rattle.tip_actor.specs.Acting.{Acting}
+use Rattle.tip_actor.specs.Standing.{Actor, IsStored, Leaves, StoredCore}
+use Rattle.tip_actor.proofs.Lists.{partner}
+use Rattle.tip_scene.specs.Leaving.{AreStored, IsLeft, OthersStay, is_among}
+use Rattle.tip_scene.specs.Acts.{Basis, Declaring, Playing, Stage, scene_of}
+use Rattle.tip_scene.specs.Blaming.{starting_from}
+use Rattle.tip_scene.specs.Scenes.{Scene}
+use Rattle.tip_scene.specs.Stages.{APlaying, Declared, IsDeclared, IsStage}
+use Rattle.tip_scene.specs.declared.declared.Declaration.{Declaration}
+use Rattle.tip_scene.specs.declared.stage.Stage.TheVariants as stage
+use Rattle.tip_scene.specs.Standing.{IsScene}
+
+-- One that is known, in the log in which realms start
+
+-- its number stays where others become known
+known_stays : (names : List (List ℕ)) (log : Log) (other : List ℕ) (z : ℤ) → log.epochs other ≡ Some z → (known_all names log).epochs other ≡ Some z
+known_stays [] log other z is = is
+known_stays (name ∷ names) log other z is = known_stays names (with_known name log) other z (by (bytes_eq name other)) where
+  by : (b : Bool) → cond b (known (log.epochs other)) (log.epochs other) ≡ Some z
+  by true = ap known is
+  by false = is
+
+rows_known : (names : List (List ℕ)) (log : Log) → (known_all names log).rows ≡ log.rows
+rows_known [] log = refl
+rows_known (name ∷ names) log = rows_known names (with_known name log)
+
+unreadable_known : (names : List (List ℕ)) (log : Log) → (known_all names log).unreadable ≡ log.unreadable
+unreadable_known [] log = refl
+unreadable_known (name ∷ names) log = unreadable_known names (with_known name log)
+
+strays_known : (names : List (List ℕ)) (log : Log) → (known_all names log).strays ≡ log.strays
+strays_known [] log = refl
+strays_known (name ∷ names) log = strays_known names (with_known name log)
+
+number_is : (found : Option ℤ) (epoch : ℕ) → is_some found ≡ true → unwrap_or found (pos 0) ≡ pos epoch → found ≡ Some (pos epoch)
+number_is None epoch some is = absurd cc
+number_is (Some z) epoch some is = ap Some is
+
+module _ (names : List (List ℕ)) (log : Log) (other : List ℕ) (epoch : ℕ) (rows : List (Key × Row)) (part : IsPart log other epoch rows) (here : is_some (log.epochs other) ≡ true) (below : ¬ IsAtEnd (known_all names log) other) where
+  was : log.epochs other ≡ Some (pos epoch)
+  was = number_is (log.epochs other) epoch here part.epoch
+
+  within : epoch ≤ last_epoch
+  within = by (nat_lt last_epoch epoch) refl where
+    by : (past : Bool) → nat_lt last_epoch epoch ≡ past → epoch ≤ last_epoch
+    by true e = absurd (part.sound (inl (pos epoch, was, λ n few same. (let one : epoch ≡ n = number_of same in absurd (grind (arith, nat_tests, e, few, one))))))
+    by false e = grind (arith, nat_tests, e)
+
+  less : nat_lt epoch last_epoch ≡ true
+  less = by (nat_lt epoch last_epoch) refl where
+    by : (is : Bool) → nat_lt epoch last_epoch ≡ is → is ≡ true
+    by true e = refl
+    by false e = let last : epoch ≡ last_epoch = grind (arith, nat_tests, e, within) in absurd (below (known_stays names log other (pos epoch) was ∙ ap (λ n. Some (pos n)) last))
+
+  now : (opened names log).epochs other ≡ Some (pos (epoch + 1))
+  now = ap (option_map raised) (known_stays names log other (pos epoch) was) ∙ ap (λ b. Some (pos (cond b (epoch + 1) epoch))) less
+
+  still_sound : ¬ IsSpoiled (opened names log) other
+  still_sound (inl bad) = let number : bad.0 ≡ pos (epoch + 1) = same_Some bad.0 (pos (epoch + 1)) (sym bad.1 ∙ now) in absurd (bad.2 (epoch + 1) (grind (arith, nat_tests, less)) number)
+  still_sound (inr (inl stray)) = part.sound (inr (inl (ap (λ (f : List ℕ → Bool). f other) (sym (strays_known names log)) ∙ stray)))
+  still_sound (inr (inr unread)) = part.sound (inr (inr (unread.0, ap (λ (f : List ℕ → Key → Bool). f other unread.0) (sym (unreadable_known names log)) ∙ unread.1)))
+
+  pub other_opened : IsPart (opened names log) other (epoch + 1) rows
+  other_opened = record {
+    epoch = ap (λ found. unwrap_or found (pos 0)) now;
+    rising = part.rising;
+    same = λ key. part.same key ∙ ap (λ (f : List ℕ → Key → Option Row). f other key) (sym (rows_known names log));
+    sound = still_sound;
+  }
+
+-- Other realms
+
+module _ {S : Type 0} (kept : Keeping S) where
+  -- where realms start, every other known epoch rises too
+  pub start_leaves : (specs : List RealmSpec) (store : S) (recovering : Recovering S) (names : List (List ℕ)) → Loads kept specs store (Ok recovering) → kept.is_true recovering.store → OthersStay kept 1 names store recovering.store
+  start_leaves specs store recovering names loads truth name epoch rows apart stored =
+      let way = loads.ok.rows stored.log stored.stood in
+      let below = loads.risen stored.log stored.stood truth name in
+      record {
+        log = way.0;
+        stood = way.2;
+        part = subst (λ l. IsPart l name (epoch + 1) rows) (sym way.1) (other_opened (names_of specs) stored.log name epoch rows stored.part stored.known below);
+        known = ap (λ (l : Log). is_some (l.epochs name)) way.1 ∙ ap is_some (now (names_of specs) stored.log name epoch rows stored.part stored.known below);
+      }
+
+  same_stored : (store : S) (name : List ℕ) (rows : List (Key × Row)) (a b : ℕ) → a ≡ b → IsStored kept store name a rows → IsStored kept store name b rows
+  same_stored store name rows a b same stored = subst (λ e. IsStored kept store name e rows) same stored
+
+  -- nothing was done
+  pub none_done : (names : List (List ℕ)) (store : S) → OthersStay kept 0 names store store
+  none_done names store name epoch rows apart stored = same_stored store name rows epoch (epoch + 0) (omega arith) stored
+
+  -- what was read stays
+  pub still_others : (names : List (List ℕ)) (old new : S) → ((log : Log) → kept.stands old log → kept.stands new log) → OthersStay kept 0 names old new
+  still_others names old new stood name epoch rows apart stored = same_stored new name rows epoch (epoch + 0) (omega arith) (record { log = stored.log; stood = stood stored.log stored.stood; part = stored.part; known = stored.known })
+
+  -- one after another
+  pub others_on : (starts more : ℕ) (names later : List (List ℕ)) (old mid new : S) → ((name : List ℕ) → is_among later name ≡ false → is_among names name ≡ false) → OthersStay kept starts names old mid → OthersStay kept more later mid new → OthersStay kept (starts + more) later old new
+  others_on starts more names later old mid new grows first second name epoch rows apart stored =
+      same_stored new name rows (epoch + starts + more) (epoch + (starts + more)) (omega arith) (second name (epoch + starts) rows apart (first name epoch rows (grows name apart) stored))
+
+  either : (a b : Bool) → (a || b) ≡ false → (a ≡ false) × (b ≡ false)
+  either true b e = absurd cc
+  either false b e = (refl, e)
+
+  apart_at : (actors : List Actor) (place : ℕ) (actor : Actor) (name : List ℕ) → slice_get actors place ≡ Some actor → is_among (map (λ (a : Actor). a.name) actors) name ≡ false → bytes_eq actor.name name ≡ false
+  apart_at [] place actor name here apart = absurd (none-some actor here)
+  apart_at (a ∷ actors) zero actor name here apart = subst (λ (x : Actor). bytes_eq x.name name ≡ false) (same_Some a actor here) (either (bytes_eq a.name name) (is_among (map (λ (x : Actor). x.name) actors) name) apart).0
+  apart_at (a ∷ actors) (suc place) actor name here apart = apart_at actors place actor name here (either (bytes_eq a.name name) (is_among (map (λ (x : Actor). x.name) actors) name) apart).1
+
+  -- one of them has done something
+  pub one_leaves : (old new : StoredCore S) (actors : List Actor) (place : ℕ) (actor : Actor) → slice_get actors place ≡ Some actor → Leaves kept old new place actor.name → OthersStay kept 0 (map (λ (a : Actor). a.name) actors) old.store new.store
+  one_leaves old new actors place actor here leaves name epoch rows apart stored = same_stored new.store name rows epoch (epoch + 0) (omega arith) (leaves.stored name epoch rows (apart_at actors place actor name here apart) stored)
+
+  pub same_names : (actors : List Actor) (place : ℕ) (actor actor' : Actor) → slice_get actors place ≡ Some actor → actor'.name ≡ actor.name → map (λ (a : Actor). a.name) (slice_set actors place actor') ≡ map (λ (a : Actor). a.name) actors
+  same_names [] place actor actor' here named = refl
+  same_names (a ∷ actors) zero actor actor' here named = ap (λ n. n ∷ map (λ (x : Actor). x.name) actors) (named ∙ ap (λ (x : Actor). x.name) (sym (same_Some a actor here)))
+  same_names (a ∷ actors) (suc place) actor actor' here named = ap (λ l. a.name ∷ l) (same_names actors place actor actor' here named)
+
+  -- The realms at work
+
+  pub scene_stored : (stored_core : StoredCore S) (actors : List Actor) (scene : Scene) → IsScene kept stored_core actors scene → AreStored kept stored_core.store scene
+  scene_stored stored_core actors scene is place acting here =
+      let mate = partner scene actors place acting (sym is.count) here in
+      let acts = is.each place mate.0 acting mate.1 here in
+      subst (λ n. IsStored kept stored_core.store n acting.world.state.head.epoch acting.world.rows) acts.named acts.stored
+
+  pub scene_names : (stored_core : StoredCore S) (actors : List Actor) (scene : Scene) → IsScene kept stored_core actors scene → map (λ (a : Actor). a.name) actors ≡ map (λ (a : Acting). a.name) scene
+  scene_names stored_core actors scene is = by actors scene is.count (λ place actor acting a s. (is.each place actor acting a s).own.name) where
+    by : (actors : List Actor) (scene : Scene) → length actors ≡ length scene → ((place : ℕ) (actor : Actor) (acting : Acting) → slice_get actors place ≡ Some actor → slice_get scene place ≡ Some acting → actor.name ≡ acting.name) → map (λ (a : Actor). a.name) actors ≡ map (λ (a : Acting). a.name) scene
+    by [] [] count named = refl
+    by [] (s ∷ scene) count named = absurd (omega (arith, count))
+    by (a ∷ actors) [] count named = absurd (omega (arith, count))
+    by (a ∷ actors) (s ∷ scene) count named = ap (λ n. n ∷ map (λ (x : Actor). x.name) actors) (named 0 a s refl refl) ∙ ap (λ l. s.name ∷ l) (by actors scene (omega (arith, count)) (λ place. named (suc place)))
+
+  left_by : (stored_core : StoredCore S) (actors : List Actor) (scene : Scene) (starts : ℕ) (old : S) → IsScene kept stored_core actors scene → OthersStay kept starts (map (λ (a : Acting). a.name) scene) old stored_core.store → IsLeft kept scene old stored_core.store
+  left_by stored_core actors scene starts old is others = record { stored = scene_stored stored_core actors scene is; starts = starts; others = others }
+
+  -- where a script ends
+  pub left_first : (basis : Basis) (realms : Declared S) (now : Stage) (playing : APlaying S) (new : S) → new ≡ playing.stored_core.store → IsStage kept basis (stage.Declaring realms) now → ((declarations : List Declaration) → IsDeclared kept basis realms declarations → IsScene kept playing.stored_core playing.actors.items (scene_of basis declarations)) →
+      ((names : List (List ℕ)) → OthersStay kept 1 names realms.store playing.stored_core.store) → IsLeft kept (starting_from basis now) realms.store new
+  left_first basis realms (Declaring declarations) playing new same is scene others = subst (IsLeft kept (scene_of basis declarations) realms.store) (sym same) (left_by playing.stored_core playing.actors.items (scene_of basis declarations) 1 realms.store (scene declarations is) (others (map (λ (a : Acting). a.name) (scene_of basis declarations))))
+  left_first basis realms (Playing scene) playing new same is stands others = absurd is
+
+  pub left_then : (basis : Basis) (playing : APlaying S) (now : Stage) (new : S) → new ≡ playing.stored_core.store → IsStage kept basis (stage.Playing playing) now → IsLeft kept (starting_from basis now) playing.stored_core.store new
+  left_then basis playing (Declaring declarations) new same is = absurd is
+  left_then basis playing (Playing scene) new same is = subst (IsLeft kept scene playing.stored_core.store) (sym same) (left_by playing.stored_core playing.actors.items scene 0 playing.stored_core.store is (none_done (map (λ (a : Acting). a.name) scene) playing.stored_core.store))
