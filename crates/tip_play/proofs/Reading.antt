@@ -1,6 +1,6 @@
 -- A script that is read line by line.
-use Rattle.tip_rows.specs.Logs.{Keeping}
-use Rattle.std.proofs.Common.{◌≡◌, ◌≢◌, ◌+◌, ◌++◌, ◌∷◌, [], ℕ, Bool, true, false, List, Option, Some, None, Ok, Err, IfSome, Result, refl, sym, ap, ◌∙◌, subst}
+use Rattle.tip_rows.specs.Logs.{Keeping, Log}
+use Rattle.std.proofs.Common.{◌≡◌, ◌≢◌, ◌+◌, ◌++◌, ◌∷◌, [], ℕ, Bool, true, false, List, Option, Some, None, Ok, Err, IfSome, Result, map, refl, sym, ap, ◌∙◌, subst}
 use Rattle.std.proofs.lemmas.List.{append-nil, append_assoc}
 use Rattle.std.specs.Io.KnownBytes.{Consumes, IsAtEnd}
 use Rattle.std.proofs.KnownBytes.{Consumes-nil, Consumes-trans, Consumes-whole}
@@ -13,7 +13,7 @@ use Rattle.script_lines.specs.declared.line.LineEnd.{LineEnd}
 use Rattle.script_lines.specs.declared.line.LineEnd.TheVariants.{LineFeed, EndOfInput, TooLong}
 use Rattle.script_lines.specs.declared.line.LineFault.{LineFault}
 use Rattle.script_lines.specs.declared.line.LineFault.TheVariants as line_fault
-use Rattle.tip_scene.specs.Acts.{Stage, Declaring, Basis, acted, closing_of, is_covered}
+use Rattle.tip_scene.specs.Acts.{Stage, Declaring, Playing, Basis, acted, closing_of, is_covered}
 use Rattle.tip_scene.specs.Stages.{AStage, IsReliable, IsStage, Trusts, store_of}
 use Rattle.tip_play.specs.Faults.{of_line}
 use Rattle.tip_play.specs.Transcripts.{IsFront, IsReadTo, Played, Reached, Transcribes, TranscribesOn, all_played, covers_all, ended, unended}
@@ -24,7 +24,10 @@ use Rattle.tip_play.specs.declared.fault.PlayFault.TheVariants as fault
 use Rattle.tip_script.specs.Scripts.{move_of}
 use Rattle.tip_play.proofs.Cutting.{all_lines, last_line, lines_from, unended_line}
 use Rattle.tip_scene.specs.Blaming.{starting_from}
-use Rattle.tip_scene.specs.Leaving.{IsLeft}
+use Rattle.tip_actor.specs.Acting.{Acting}
+use Rattle.tip_scene.specs.Leaving.{IsLeft, LeavesOthers, OthersStay, is_among, names_in}
+use Rattle.tip_scene.specs.declared.stage.Stage.TheVariants as stage
+use Rattle.tip_scene.proofs.Leaving.{none_done, others_on, scene_names, still_others}
 use Rattle.tip_play.specs.Leaving.{Leaves}
 use Rattle.tip_play.proofs.Transcribing.{played_last}
 use Rattle.tip_play.proofs.Lines as lines
@@ -188,10 +191,48 @@ module _ {S : Type 0} (kept : Keeping S) (basis : Basis) where
       subst (λ w. IfSome w P) is (Consumes-whole whole left so.read P so.consumed so.end (ap (λ (p : Played). p.ending) (played_last basis so.read) ∙ so.played.reached))
 
   -- and its realms are stored as they are there
-  pub leaves_end : {E : Type 0} (P : Stage → Type 0) (script : List ℕ) (old mid : S) (result : Result S (E × Option S)) → Trusts kept mid (λ store. store) result → (kept.is_true mid → (now : Stage) × P now × ((all_played basis script).ending ≡ Reached now)) →
-      ((now : Stage) → P now → IfOk result (λ store. kept.is_true store → IsLeft kept (starting_from basis now) old store)) → IfOk result (λ left. kept.is_true left → Leaves kept basis script left)
-  leaves_end P script old mid (Ok left) trusts so leaves = λ truth. (let at = so (trusts truth) in record { stage = at.0; reached = at.2; stored = (leaves at.0 at.1 truth).stored })
-  leaves_end P script old mid (Err why) trusts so leaves = tt
+  pub leaves_end : {E : Type 0} (P : Stage → Type 0) (script : List ℕ) (names : List (List ℕ)) (first old mid : S) (result : Result S (E × Option S)) → old ≡ mid → Trusts kept mid (λ store. store) result → (kept.is_true mid → (now : Stage) × P now × ((all_played basis script).ending ≡ Reached now) × ((starts : ℕ) × OthersStay kept starts names first mid)) →
+      ((now : Stage) → P now → (name : List ℕ) → is_among (map (λ (a : Acting). a.name) (starting_from basis now)) name ≡ false → is_among names name ≡ false) →
+      ((now : Stage) → P now → IfOk result (λ store. kept.is_true store → IsLeft kept (starting_from basis now) old store)) → IfOk result (λ left. kept.is_true left → Leaves kept basis script first left)
+  leaves_end P script names first old mid (Ok left) same trusts so grows leaves = λ truth.
+      let at = so (trusts truth) in
+      let here = leaves at.0 at.1 truth in record {
+        stage = at.0;
+        reached = at.2;
+        left = record {
+          stored = here.stored;
+          starts = at.3.0 + here.starts;
+          others = others_on kept at.3.0 here.starts names (map (λ (a : Acting). a.name) (starting_from basis at.0)) first mid left (grows at.0 at.1) at.3.1 (subst (λ s. OthersStay kept here.starts (map (λ (a : Acting). a.name) (starting_from basis at.0)) s left) same here.others);
+        };
+      }
+  leaves_end P script names first old mid (Err why) same trusts so grows leaves = tt
+
+  -- the realms of a scene are those of its stage
+  pub grows_last : (now : AStage S) (at : Stage) → IsStage kept basis now at → (name : List ℕ) → is_among (map (λ (a : Acting). a.name) (starting_from basis at)) name ≡ false → is_among (names_in now) name ≡ false
+  grows_last (stage.Declaring realms) (Declaring declarations) is name apart = refl
+  grows_last (stage.Declaring realms) (Playing scene) is name apart = absurd is
+  grows_last (stage.Playing playing) (Declaring declarations) is name apart = absurd is
+  grows_last (stage.Playing playing) (Playing scene) is name apart = ap (λ names. is_among names name) (scene_names kept playing.stored_core playing.actors.items scene is) ∙ apart
+
+  -- of the realms that have not started by then the rows are as they were at first
+  pub record LeavesFrom (first : S) (now : AStage S) : Type 0 where
+    pub starts : ℕ
+    pub others : OthersStay kept starts (names_in now) first (store_of now)
+
+  pub leaves_none : (first : S) (now : AStage S) → store_of now ≡ first → LeavesFrom first now
+  leaves_none first now same = record { starts = 0; others = subst (OthersStay kept 0 (names_in now) first) (sym same) (none_done kept (names_in now) first) }
+
+  pub leaves_still : (first : S) (old new : AStage S) → names_in new ≡ names_in old → ((log : Log) → kept.stands (store_of old) log → kept.stands (store_of new) log) → LeavesFrom first old → LeavesFrom first new
+  leaves_still first old new names stood so = record {
+    starts = so.starts + 0;
+    others = others_on kept so.starts 0 (names_in old) (names_in new) first (store_of old) (store_of new) (λ name apart. ap (λ l. is_among l name) (sym names) ∙ apart) so.others (still_others kept (names_in new) (store_of old) (store_of new) stood);
+  }
+
+  pub leaves_more : (first : S) (old new : AStage S) → LeavesFrom first old → LeavesOthers kept old new → LeavesFrom first new
+  leaves_more first old new so more = record {
+    starts = so.starts + more.starts;
+    others = others_on kept so.starts more.starts (names_in old) (names_in new) first (store_of old) (store_of new) more.grows so.others more.others;
+  }
 
   -- Before the next line
 

@@ -7,7 +7,8 @@ ghost use Rattle.tip_script.specs.Scripts.{move_of};
 ghost use Rattle.tip_scene.specs.Acts.{Basis, Stage as AStage, acted, closing_of, is_covered};
 ghost use Rattle.tip_scene.specs.Blaming.{Blames, HadTooFew, HasRefused, IsBlamed, starting_from};
 ghost use Rattle.tip_scene.specs.Boxes.{AreWilling};
-ghost use Rattle.tip_scene.specs.Leaving.{IsLeft};
+ghost use Rattle.tip_scene.specs.Leaving.{IsLeft, LeavesOthers, names_in};
+ghost use Rattle.tip_rows.specs.Logs.{Log};
 ghost use Rattle.tip_scene.specs.Stages.{ComeWith, IsBasis, IsSound, IsStage, Trusts, has_started, store_of};
 ghost use Rattle.tip_play.specs.Endings.{ended, unflushed};
 ghost use Rattle.tip_play.specs.Leaving.{Leaves};
@@ -72,7 +73,7 @@ pub fn play_on<S: RowLog + Drop, R: BufRead, W: Write>(
     ensures leaves { (basis : Basis) → basis.may_refuse ≡ false →
         IsBasis S.keeping basis store → (script : List ℕ) →
         R.remaining input.old ≡ Some script → covers_all basis script ≡ true →
-        IfOk result (λ left. S.keeping.is_true left → Leaves S.keeping basis script left) }
+        IfOk result (λ left. S.keeping.is_true left → Leaves S.keeping basis script store left) }
     ensures blames { (basis : Basis) → basis.may_refuse ≡ false →
         IsBasis S.keeping basis store → (script : List ℕ) →
         R.remaining input.old ≡ Some script → covers_all basis script ≡ true →
@@ -100,7 +101,7 @@ fn play_over<S: RowLog + Drop, F: Refuser<S>, R: BufRead, W: Write>(
     ensures leaves { (basis : Basis) → basis.may_refuse ≡ F.may →
         IsBasis S.keeping basis store → (script : List ℕ) →
         R.remaining input.old ≡ Some script → covers_all basis script ≡ true →
-        IfOk result (λ left. S.keeping.is_true left → Leaves S.keeping basis script left) }
+        IfOk result (λ left. S.keeping.is_true left → Leaves S.keeping basis script store left) }
     ensures blames { F.may ≡ false → (basis : Basis) → basis.may_refuse ≡ F.may →
         IsBasis S.keeping basis store → (script : List ℕ) →
         R.remaining input.old ≡ Some script → covers_all basis script ≡ true →
@@ -144,7 +145,7 @@ fn play_lines<S: RowLog + Drop, F: Refuser<S>, R: BufRead, W: Write>(
     ensures leaves { (basis : Basis) → basis.may_refuse ≡ F.may →
         IsBasis S.keeping basis store → (script : List ℕ) →
         R.remaining input.old ≡ Some script → covers_all basis script ≡ true →
-        IfOk result (λ left. S.keeping.is_true left → Leaves S.keeping basis script left) }
+        IfOk result (λ left. S.keeping.is_true left → Leaves S.keeping basis script store left) }
     ensures blames { F.may ≡ false → (basis : Basis) → basis.may_refuse ≡ F.may →
         IsBasis S.keeping basis store → (script : List ℕ) →
         R.remaining input.old ≡ Some script → covers_all basis script ≡ true →
@@ -236,6 +237,9 @@ fn next<S: RowLog + Drop, R: BufRead>(
         IsStage S.keeping basis stage.new now }
     ensures coming { HasCome (R.remaining input.old) (R.remaining input.new) number is_over
         line.new.octets.items result }
+    ensures names { names_in stage.new ≡ names_in stage.old }
+    ensures stood { (log : Log) → S.keeping.stands (store_of stage.old) log →
+        S.keeping.stands (store_of stage.new) log }
     ensures counts { OnOk result (S.keeping.faults (store_of stage.new)
         ≡ S.keeping.faults (store_of stage.old)) }
     ensures blames { (basis : Basis) (now : AStage) →
@@ -303,6 +307,11 @@ fn act<S: RowLog + Drop, F: Refuser<S>, W: Write>(
         is_covered basis (move_of line.now) ≡ true →
         ActsOn S.keeping basis number (acted basis now line.now)
         (W.contents output.old) (W.contents output.new) result }
+    ensures leaves { (basis : Basis) (now : AStage) → basis.may_refuse ≡ F.may →
+        IsStage S.keeping basis stage now →
+        ComeWith (move_of line.now) (map standing boxes.items) →
+        IfOk result (λ next. S.keeping.is_true (store_of next) →
+        LeavesOthers S.keeping stage next) }
     ensures counts { F.may ≡ false → IfOk result (λ now. S.keeping.faults (store_of now)
         ≡ S.keeping.faults (store_of stage)) }
     ensures blames { F.may ≡ false → (basis : Basis) (now : AStage) →

@@ -244,6 +244,10 @@ module _ {S : Type 0} (kept : Keeping S) where
   of_declared basis realms (Declaring declarations) is all = all declarations is
   of_declared basis realms (Playing scene) is all = absurd is
 
+  pub of_playing : {X : Type 0} (basis : Basis) (playing : APlaying S) (now : Stage) → IsStage kept basis (stage.Playing playing) now → ((scene : Scene) → IsScene kept playing.stored_core playing.actors.items scene → X) → X
+  of_playing basis playing (Declaring declarations) is all = absurd is
+  of_playing basis playing (Playing scene) is all = all scene is
+
 -- Boxes for rows that wait
 
 length_willing : (count : ℕ) → length (willing count) ≡ count

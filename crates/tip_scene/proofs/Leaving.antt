@@ -12,15 +12,19 @@ use Rattle.tip_stored.specs.Loading.{Loads, known_all, names_of, opened}
 use Rattle.tip_stored.proofs.Parts.{number_of}
 use Rattle.tip_stored.specs.Recovering.{Recovering}
 use Rattle.tip_stored.specs.declared.realm_spec.RealmSpec.{RealmSpec}
-use Rattle.std.specs.Prelude.{Ok}
-use Rattle.tip_actor.specs.Acting.{Acting}
-use Rattle.tip_actor.specs.Standing.{Actor, IsStored, Leaves, StoredCore}
+use Rattle.std.specs.Prelude.{Err, Ok, OnOk, Result}
+use Rattle.tip_actor.specs.Acting.{Acting, Done, count_of, takes}
+use Rattle.tip_actor.specs.Standing.{Actor, Acts, IsActing, IsStored, Leaves, StoredCore, Tells}
 use Rattle.tip_actor.proofs.Lists.{partner}
-use Rattle.tip_scene.specs.Leaving.{AreStored, IsLeft, OthersStay, is_among}
+use Rattle.tip_scene.specs.Leaving.{AreStored, IsLeft, LeavesOthers, LeavesRest, OthersStay, is_among, names_in}
 use Rattle.tip_scene.specs.Acts.{Basis, Declaring, Playing, Stage, scene_of}
-use Rattle.tip_scene.specs.Blaming.{starting_from}
+use Rattle.tip_scene.proofs.Again.{after}
+use Rattle.tip_scene.proofs.Scening.{settled}
+use Rattle.tip_scene.specs.Blaming.{judged, starting_from}
+use Rattle.tip_scene.specs.declared.fault.LineFault.{LineFault}
+use Rattle.tip_scene.specs.declared.fault.LineFault.TheVariants as line
 use Rattle.tip_scene.specs.Scenes.{Scene}
-use Rattle.tip_scene.specs.Stages.{APlaying, Declared, IsDeclared, IsStage}
+use Rattle.tip_scene.specs.Stages.{APlaying, AStage, Declared, IsDeclared, IsStage, store_of}
 use Rattle.tip_scene.specs.declared.declared.Declaration.{Declaration}
 use Rattle.tip_scene.specs.declared.stage.Stage.TheVariants as stage
 use Rattle.tip_scene.specs.Standing.{IsScene}
@@ -160,3 +164,71 @@ module _ {S : Type 0} (kept : Keeping S) where
   pub left_then : (basis : Basis) (playing : APlaying S) (now : Stage) (new : S) → new ≡ playing.stored_core.store → IsStage kept basis (stage.Playing playing) now → IsLeft kept (starting_from basis now) playing.stored_core.store new
   left_then basis playing (Declaring declarations) new same is = absurd is
   left_then basis playing (Playing scene) new same is = subst (IsLeft kept scene playing.stored_core.store) (sym same) (left_by playing.stored_core playing.actors.items scene 0 playing.stored_core.store is (none_done (map (λ (a : Acting). a.name) scene) playing.stored_core.store))
+
+  -- Realms at work, from one line to the next
+
+  pub rest_stays : (playing : APlaying S) → LeavesRest kept playing playing
+  rest_stays playing = record { same = refl; starts = 0; others = none_done (map (λ (a : Actor). a.name) playing.actors.items) playing.stored_core.store }
+
+  pub always_ok : {T E P : Type 0} (result : Result T E) → P → OnOk result P
+  always_ok (Ok x) p = p
+  always_ok (Err why) p = tt
+
+  -- one has done something, and then taken its lines
+  pub rest_done : (playing playing' : APlaying S) (mid : StoredCore S) (scene : Scene) (place : ℕ) (actor between actor' : Actor) (printed said printed' : List ℕ) (f : Acting → Option Done) → IsScene kept playing.stored_core playing.actors.items scene → slice_get playing.actors.items place ≡ Some actor → playing'.actors.items ≡ slice_set playing.actors.items place actor' →
+      ((acting : Acting) → IsActing kept playing.stored_core place actor acting → Tells kept playing.stored_core mid place actor between printed said true (f acting)) → Acts kept mid playing'.stored_core place between actor' said printed' (λ acting. takes (count_of acting.readings) acting) → LeavesRest kept playing playing'
+  rest_done playing playing' mid scene place actor between actor' printed said printed' f is here items told settles_so =
+      let mate = partner playing.actors.items scene place actor is.count here in
+      by (f mate.0) (told mate.0 (is.each place actor mate.0 here mate.1)) where
+        by : (did : Option Done) → Tells kept playing.stored_core mid place actor between printed said true did → LeavesRest kept playing playing'
+        by None done = absurd done
+        by (Some did) done =
+            let all = settled kept playing.stored_core mid playing'.stored_core place actor between actor' printed said printed' did done (settles_so did.acting done.own) in record {
+              same = ap (map (λ (a : Actor). a.name)) items ∙ same_names playing.actors.items place actor actor' here all.name;
+              starts = 0;
+              others = one_leaves playing.stored_core playing'.stored_core playing.actors.items place actor here all.leaves;
+            }
+
+  pub judged_on : (P : Type 0) (may same : Bool) (end : Result (Unit {0}) LineFault) → OnOk end P → OnOk (judged may same end) P
+  judged_on P true same end on = on
+  judged_on P false true (Ok done) on = on
+  judged_on P false true (Err line.NotUnderstood) on = tt
+  judged_on P false true (Err line.Memory) on = tt
+  judged_on P false true (Err line.Store) on = tt
+  judged_on P false false (Ok done) on = tt
+  judged_on P false false (Err why) on = tt
+
+  -- all have started again
+  names_after : (scene : Scene) → map (λ (a : Acting). a.name) (map after scene) ≡ map (λ (a : Acting). a.name) scene
+  names_after [] = refl
+  names_after (acting ∷ scene) = ap (λ l. acting.name ∷ l) (names_after scene)
+
+  pub rest_again : (playing again : APlaying S) (scene : Scene) → IsScene kept playing.stored_core playing.actors.items scene → IsScene kept again.stored_core again.actors.items (map after scene) → ((names : List (List ℕ)) → OthersStay kept 1 names playing.stored_core.store again.stored_core.store) → LeavesRest kept playing again
+  rest_again playing again scene is now others = record {
+    same = scene_names again.stored_core again.actors.items (map after scene) now ∙ names_after scene ∙ sym (scene_names playing.stored_core playing.actors.items scene is);
+    starts = 1;
+    others = others (map (λ (a : Actor). a.name) playing.actors.items);
+  }
+
+  -- A stage, from one line to the next
+
+  pub stage_stays : (now : AStage S) → LeavesOthers kept now now
+  stage_stays now = record { grows = λ name apart. apart; starts = 0; others = none_done (names_in now) (store_of now) }
+
+  pub of_rest : (playing playing' : APlaying S) → LeavesRest kept playing playing' → LeavesOthers kept (stage.Playing playing) (stage.Playing playing')
+  of_rest playing playing' rest = record {
+    grows = λ name apart. ap (λ names. is_among names name) (sym rest.same) ∙ apart;
+    starts = rest.starts;
+    others = subst (λ names. OthersStay kept rest.starts names playing.stored_core.store playing'.stored_core.store) (sym rest.same) rest.others;
+  }
+
+  pub declared_stays : (realms realms' : Declared S) → realms'.store ≡ realms.store → LeavesOthers kept (stage.Declaring realms) (stage.Declaring realms')
+  declared_stays realms realms' same = record { grows = λ name apart. apart; starts = 0; others = subst (OthersStay kept 0 [] realms.store) (sym same) (none_done [] realms.store) }
+
+  pub first_rest : (realms : Declared S) (playing playing' : APlaying S) → ((names : List (List ℕ)) → OthersStay kept 1 names realms.store playing.stored_core.store) → LeavesRest kept playing playing' → LeavesOthers kept (stage.Declaring realms) (stage.Playing playing')
+  first_rest realms playing playing' first rest =
+      let names = map (λ (a : Actor). a.name) playing'.actors.items in record {
+        grows = λ name apart. refl;
+        starts = 1 + rest.starts;
+        others = others_on 1 rest.starts names names realms.store playing.stored_core.store playing'.stored_core.store (λ name apart. apart) (first names) (subst (λ l. OthersStay kept rest.starts l playing.stored_core.store playing'.stored_core.store) (sym rest.same) rest.others);
+      }

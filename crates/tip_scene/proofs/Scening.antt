@@ -106,7 +106,7 @@ module _ {S : Type 0} (kept : Keeping S) where
   -- A line of a realm
 
   -- it was done, and then the lines that may be taken were taken
-  settled : (stored_core mid stored_core' : StoredCore S) (place : ℕ) (actor between actor' : Actor) (printed said printed' : List ℕ) (done : Done) → IsDone kept stored_core mid place actor between printed said done → IsDone kept mid stored_core' place between actor' said printed' (takes (count_of done.acting.readings) done.acting) → IsDone kept stored_core stored_core' place actor actor' printed printed' (settles done)
+  pub settled : (stored_core mid stored_core' : StoredCore S) (place : ℕ) (actor between actor' : Actor) (printed said printed' : List ℕ) (done : Done) → IsDone kept stored_core mid place actor between printed said done → IsDone kept mid stored_core' place between actor' said printed' (takes (count_of done.acting.readings) done.acting) → IsDone kept stored_core stored_core' place actor actor' printed printed' (settles done)
   settled stored_core mid stored_core' place actor between actor' printed said printed' done first second =
       let later = takes (count_of done.acting.readings) done.acting in record {
         own = second.own;

@@ -8,7 +8,7 @@ use Rattle.tip_rows.specs.declared.row.Row.{Row}
 use Rattle.tip_actor.specs.Acting.{Acting}
 use Rattle.tip_actor.specs.Standing.{IsStored}
 use Rattle.tip_scene.specs.Scenes.{Scene}
-use Rattle.tip_scene.specs.Stages.{AStage, store_of}
+use Rattle.tip_scene.specs.Stages.{APlaying, AStage, store_of}
 use Rattle.tip_scene.specs.declared.stage.Stage.TheVariants as stage
 
 -- each realm of a scene is stored as it is there, in its epoch and with its rows
@@ -35,8 +35,14 @@ abbrev pub names_in : {S : Type 0} → AStage S → List (List ℕ)
 names_in (stage.Declaring realms) = []
 names_in (stage.Playing playing) = map (λ actor. actor.name) playing.actors.items
 
--- whatever the realms were that have not started by then, they are
+-- of the realms that have not started by then the rows are as they were
 pub record LeavesOthers {S : Type 0} (kept : Keeping S) (old new : AStage S) : Type 0 where
   pub grows : (name : List ℕ) → is_among (names_in new) name ≡ false → is_among (names_in old) name ≡ false
   pub starts : ℕ
   pub others : OthersStay kept starts (names_in new) (store_of old) (store_of new)
+
+-- the same of realms at work, which stay these
+pub record LeavesRest {S : Type 0} (kept : Keeping S) (old new : APlaying S) : Type 0 where
+  pub same : map (λ actor. actor.name) new.actors.items ≡ map (λ actor. actor.name) old.actors.items
+  pub starts : ℕ
+  pub others : OthersStay kept starts (map (λ actor. actor.name) old.actors.items) old.stored_core.store new.stored_core.store

@@ -8,6 +8,7 @@ ghost use Rattle.tip_scene.specs.Acts.{Basis, Declaring as Begins, declaration_o
 ghost use Rattle.tip_scene.specs.Blaming.{Blames, HasRefused, IsAtFault};
 ghost use Rattle.tip_scene.specs.Boxes.{AreWilling, box_count};
 ghost use Rattle.tip_scene.specs.Hosting.{may_be_hosted};
+ghost use Rattle.tip_rows.specs.Logs.{Log};
 ghost use Rattle.tip_scene.specs.Leaving.{OthersStay};
 ghost use Rattle.tip_scene.specs.Rising.{AreNew};
 ghost use Rattle.tip_scene.specs.Stages.{Declares, IsDeclared, IsBasis, Trusts, spec_of};
@@ -172,6 +173,8 @@ impl<S: RowLog + Drop> Declared<S, Core> {
         ensures stands { (basis : Basis) (declarations : List Declaration) →
             IsDeclared S.keeping basis self.old declarations →
             IsDeclared S.keeping basis self.new declarations }
+        ensures stood { (log : Log) → S.keeping.stands self.old.store log →
+            S.keeping.stands self.new.store log }
         ensures counts { OnOk result (S.keeping.faults self.new.store
             ≡ S.keeping.faults self.old.store) }
         ensures blames { (basis : Basis) (declarations : List Declaration) →

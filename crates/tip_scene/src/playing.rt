@@ -11,6 +11,8 @@ ghost use Rattle.tip_branch.specs.declared.branch.Phase.TheVariants.{Active};
 ghost use Rattle.tip_scene.specs.Acts.{Playing as AtWork, may_say};
 ghost use Rattle.tip_scene.specs.Blaming.{Blames, HasRefused, IsAtFault, judged};
 ghost use Rattle.tip_scene.specs.Boxes.{AreWilling, box_count};
+ghost use Rattle.tip_scene.specs.Leaving.{LeavesRest};
+ghost use Rattle.tip_rows.specs.Logs.{Log};
 ghost use Rattle.tip_scene.specs.Scenes.{Scene, does, elsewhere, moved, moved_in};
 ghost use Rattle.tip_scene.specs.Standing.{has_name, IsScene};
 ghost use Rattle.tip_scene.specs.Stages.{ComeWith, Moves, Prints, Serves, Trusts};
@@ -62,6 +64,12 @@ impl<S: RowLog + Drop> Playing<StoredCore<S>, Actor> {
             ComeWith (Some (move_by instruction.entry)) (map standing boxes.items) →
             Moves S.keeping (string_bytes printed.old)
             (string_bytes printed.new) (moved (move_by instruction.entry) scene) result }
+        ensures leaves { (scene : Scene) →
+            IsScene S.keeping self.stored_core self.actors.items scene →
+            may_say R.may (move_by instruction.entry) ≡ true →
+            ComeWith (Some (move_by instruction.entry)) (map standing boxes.items) →
+            IfOk result (λ playing. S.keeping.is_true playing.stored_core.store →
+            LeavesRest S.keeping self playing) }
         ensures counts { R.may ≡ false →
             IfOk result (λ playing. S.keeping.faults playing.stored_core.store
             ≡ S.keeping.faults self.stored_core.store) }
@@ -105,6 +113,12 @@ impl<S: RowLog + Drop> Playing<StoredCore<S>, Actor> {
             S.keeping.is_true self.new.stored_core.store → Serves S.keeping
             (string_bytes printed.old) (string_bytes printed.new)
             (moved (move_by instruction.entry) scene) self.new result }
+        ensures leaves { (scene : Scene) → IsScene S.keeping
+            self.old.stored_core self.old.actors.items scene →
+            may_say R.may (move_by instruction.entry) ≡ true →
+            ComeWith (Some (move_by instruction.entry)) (map standing boxes.items) →
+            S.keeping.is_true self.new.stored_core.store →
+            OnOk result (LeavesRest S.keeping self.old self.new) }
         ensures counts { R.may ≡ false → OnOk result (S.keeping.faults self.new.stored_core.store
             ≡ S.keeping.faults self.old.stored_core.store) }
         ensures blames { R.may ≡ false → (scene : Scene) → IsScene S.keeping
@@ -140,6 +154,10 @@ impl<S: RowLog + Drop> Playing<StoredCore<S>, Actor> {
             Serves S.keeping (string_bytes printed.old)
             (string_bytes printed.new) (moved_in (Renews name.now) (Some name.now) scene)
             self.new result }
+        ensures leaves { (scene : Scene) → IsScene S.keeping
+            self.old.stored_core self.old.actors.items scene →
+            S.keeping.is_true self.new.stored_core.store →
+            OnOk result (LeavesRest S.keeping self.old self.new) }
         ensures counts { R.may ≡ false → OnOk result (S.keeping.faults self.new.stored_core.store
             ≡ S.keeping.faults self.old.stored_core.store) }
         ensures blames { R.may ≡ false → (scene : Scene) → IsScene S.keeping
@@ -187,6 +205,12 @@ impl<S: RowLog + Drop> Playing<StoredCore<S>, Actor> {
             Serves S.keeping (string_bytes printed.old)
             (string_bytes printed.new)
             (moved_in (move_by instruction.entry) (Some realm.now) scene) self.new result }
+        ensures leaves { (scene : Scene) → IsScene S.keeping
+            self.old.stored_core self.old.actors.items scene →
+            may_say R.may (move_by instruction.entry) ≡ true →
+            boxes ≡ boxes_of (plans_with (move_by instruction.entry)) →
+            S.keeping.is_true self.new.stored_core.store →
+            OnOk result (LeavesRest S.keeping self.old self.new) }
         ensures counts { R.may ≡ false → OnOk result (S.keeping.faults self.new.stored_core.store
             ≡ S.keeping.faults self.old.stored_core.store) }
         ensures blames { R.may ≡ false → IsErrOf result LineFault.Store →
@@ -224,6 +248,12 @@ impl<S: RowLog + Drop> Playing<StoredCore<S>, Actor> {
             Serves S.keeping (string_bytes printed.old)
             (string_bytes printed.new)
             (moved_in (move_by instruction.entry) (Some realm.now) scene) self.new result }
+        ensures leaves { (scene : Scene) → IsScene S.keeping
+            self.old.stored_core self.old.actors.items scene →
+            may_say R.may (move_by instruction.entry) ≡ true →
+            boxes ≡ boxes_of (plans_with (move_by instruction.entry)) →
+            S.keeping.is_true self.new.stored_core.store →
+            OnOk result (LeavesRest S.keeping self.old self.new) }
     {
         let place = self.place_of(realm);
         let Some(actor) = self.actors.get_mut(place) else {
@@ -249,6 +279,9 @@ impl<S: RowLog + Drop> Playing<StoredCore<S>, Actor> {
     /// How many boxes a start wants: a willing one for each branch of each stored row, of one realm or of all.
     pub(crate) fn willing(&mut self, only: Option<&str>) -> Result<usize, ActFault>
         requires { Always }
+        ensures same { self.new.actors ≡ self.old.actors }
+        ensures stood { (log : Log) → S.keeping.stands self.old.stored_core.store log →
+            S.keeping.stands self.new.stored_core.store log }
         ensures counts { OnOk result (S.keeping.faults self.new.stored_core.store
             ≡ S.keeping.faults self.old.stored_core.store) }
         ensures blames { (scene : Scene) → IsScene S.keeping

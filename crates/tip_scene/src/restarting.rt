@@ -8,6 +8,7 @@ ghost use Rattle.tip_machine.specs.States.{State};
 ghost use Rattle.tip_scene.specs.Acts.{Playing as AtWork};
 ghost use Rattle.tip_scene.specs.Blaming.{Blames, IsAtFault};
 ghost use Rattle.tip_scene.specs.Boxes.{AreWilling, box_count};
+ghost use Rattle.tip_scene.specs.Leaving.{LeavesRest};
 ghost use Rattle.tip_scene.specs.Rising.{AreAgain, AreWaiting};
 ghost use Rattle.tip_rows.specs.Logs.{last_epoch};
 ghost use Rattle.tip_scene.specs.Scenes.{Scene, openings_text, restarted};
@@ -36,6 +37,10 @@ pub(crate) fn restart<S: RowLog + Drop>(
     ensures running { IfOk result (λ again. again.stored_core.is_stopped ≡ false) }
     ensures truth { Trusts S.keeping playing.stored_core.store
         (λ again. again.stored_core.store) result }
+    ensures leaves { (scene : Scene) →
+        IsScene S.keeping playing.stored_core playing.actors.items scene →
+        IfOk result (λ again. S.keeping.is_true again.stored_core.store →
+        LeavesRest S.keeping playing again) }
     ensures counts { IfOk result (λ again. S.keeping.faults again.stored_core.store
         ≡ S.keeping.faults playing.stored_core.store) }
     ensures blames { (scene : Scene) →

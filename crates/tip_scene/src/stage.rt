@@ -10,7 +10,9 @@ ghost use Rattle.std.specs.List.{list_all};
 ghost use Rattle.tip_scene.specs.Blaming.{Blames, HadTooFew, HasRefused, IsBlamed, starting_from};
 ghost use Rattle.tip_scene.specs.Boxes.{AreWilling};
 ghost use Rattle.tip_scene.specs.Hosting.{may_be_hosted};
-ghost use Rattle.tip_scene.specs.Leaving.{IsLeft};
+ghost use Rattle.tip_rows.specs.Logs.{Log};
+ghost use Rattle.tip_scene.specs.Leaving.{IsLeft, LeavesOthers, names_in};
+ghost use Rattle.tip_scene.specs.declared.stage.Stage.TheVariants.{Declaring as AtFirst};
 ghost use Rattle.tip_scene.specs.Stages.{ActsSo, AreWanted, ComeWith, IsDeclared, IsBasis, IsSound, IsStage, Trusts, has_started, store_of};
 
 use crate::boxes::Wanted;
@@ -67,6 +69,11 @@ impl<S: RowLog + Drop> Stage<Declared<S>, Playing<StoredCore<S>>> {
             is_covered basis (move_of line.now) ≡ true →
             ActsSo S.keeping basis (string_bytes printed.old)
             (string_bytes printed.new) (acted basis stage line.now) result }
+        ensures leaves { (basis : Basis) (stage : AStage) → basis.may_refuse ≡ R.may →
+            IsStage S.keeping basis self stage →
+            ComeWith (move_of line.now) (map standing boxes.items) →
+            IfOk result (λ now. S.keeping.is_true (store_of now) →
+            LeavesOthers S.keeping self now) }
         ensures counts { R.may ≡ false → IfOk result (λ now. S.keeping.faults (store_of now)
             ≡ S.keeping.faults (store_of self)) }
         ensures blames { R.may ≡ false → (basis : Basis) (stage : AStage) →
@@ -137,6 +144,9 @@ impl<S: RowLog + Drop> Stage<Declared<S>, Playing<StoredCore<S>>> {
         ensures stands { (basis : Basis) (stage : AStage) →
             IsStage S.keeping basis self.old stage →
             IsStage S.keeping basis self.new stage }
+        ensures names { names_in self.new ≡ names_in self.old }
+        ensures stood { (log : Log) → S.keeping.stands (store_of self.old) log →
+            S.keeping.stands (store_of self.new) log }
         ensures counts { OnOk result (S.keeping.faults (store_of self.new)
             ≡ S.keeping.faults (store_of self.old)) }
         ensures blames { (basis : Basis) (stage : AStage) →
@@ -163,6 +173,9 @@ impl<S: RowLog + Drop> Stage<Declared<S>, Playing<StoredCore<S>>> {
         ensures stands { (basis : Basis) (stage : AStage) →
             IsStage S.keeping basis self.old stage →
             IsStage S.keeping basis self.new stage }
+        ensures names { names_in self.new ≡ names_in self.old }
+        ensures stood { (log : Log) → S.keeping.stands (store_of self.old) log →
+            S.keeping.stands (store_of self.new) log }
         ensures counts { OnOk result (S.keeping.faults (store_of self.new)
             ≡ S.keeping.faults (store_of self.old)) }
         ensures blames { (basis : Basis) (stage : AStage) →
@@ -185,6 +198,9 @@ impl<S: RowLog + Drop> Stage<Declared<S>, Playing<StoredCore<S>>> {
         ensures stands { (basis : Basis) (stage : AStage) →
             IsStage S.keeping basis self.old stage →
             IsStage S.keeping basis self.new stage }
+        ensures names { names_in self.new ≡ names_in self.old }
+        ensures stood { (log : Log) → S.keeping.stands (store_of self.old) log →
+            S.keeping.stands (store_of self.new) log }
         ensures counts { OnOk result (S.keeping.faults (store_of self.new)
             ≡ S.keeping.faults (store_of self.old)) }
         ensures blames { (basis : Basis) (stage : AStage) →
@@ -209,6 +225,9 @@ impl<S: RowLog + Drop> Stage<Declared<S>, Playing<StoredCore<S>>> {
         ensures stands { (basis : Basis) (stage : AStage) →
             IsStage S.keeping basis self.old stage →
             IsStage S.keeping basis self.new stage }
+        ensures names { names_in self.new ≡ names_in self.old }
+        ensures stood { (log : Log) → S.keeping.stands (store_of self.old) log →
+            S.keeping.stands (store_of self.new) log }
         ensures counts { OnOk result (S.keeping.faults (store_of self.new)
             ≡ S.keeping.faults (store_of self.old)) }
         ensures blames { (basis : Basis) (stage : AStage) →
@@ -245,6 +264,11 @@ impl<S: RowLog + Drop> Stage<Declared<S>, Playing<StoredCore<S>>> {
             is_covered basis (Some (move_by instruction.entry)) ≡ true →
             ActsSo S.keeping basis (string_bytes printed.old)
             (string_bytes printed.new) (acts basis stage (move_by instruction.entry)) result }
+        ensures leaves { (basis : Basis) (stage : AStage) → IsStage S.keeping basis self stage →
+            may_say R.may (move_by instruction.entry) ≡ true →
+            ComeWith (Some (move_by instruction.entry)) (map standing boxes.items) →
+            IfOk result (λ now. S.keeping.is_true (store_of now) →
+            LeavesOthers S.keeping self now) }
         ensures counts { R.may ≡ false → IfOk result (λ now. S.keeping.faults (store_of now)
             ≡ S.keeping.faults (store_of self)) }
         ensures blames { R.may ≡ false → (basis : Basis) (stage : AStage) →
@@ -286,6 +310,12 @@ fn declare<S: RowLog + Drop, R: Refuser<S>>(
         ActsSo S.keeping basis (string_bytes printed.old)
         (string_bytes printed.new)
         (acts basis (Begins declarations) (move_by instruction.entry)) result }
+    ensures leaves { (basis : Basis) (declarations : List Declaration) →
+        IsDeclared S.keeping basis declared declarations →
+        may_say R.may (move_by instruction.entry) ≡ true →
+        ComeWith (Some (move_by instruction.entry)) (map standing boxes.items) →
+        IfOk result (λ now. S.keeping.is_true (store_of now) →
+        LeavesOthers S.keeping (AtFirst declared) now) }
     ensures counts { R.may ≡ false → IfOk result (λ now. S.keeping.faults (store_of now)
         ≡ S.keeping.faults declared.store) }
     ensures blames { R.may ≡ false → (basis : Basis) (declarations : List Declaration) →

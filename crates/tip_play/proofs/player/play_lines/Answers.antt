@@ -11,7 +11,7 @@ use Rattle.tip_script.specs.Scripts.{move_of, plans_of}
 use Rattle.tip_play.specs.Transcripts.{IsFront, IsReadTo, Transcribes, in_memory}
 use Rattle.tip_scene.proofs.Dealing.{join}
 use Rattle.tip_play.proofs.Making.{all_alike, all_made, fresh_active, fresh_known, fresh_of, no_other, one_alike, one_made, read_of, when_ok}
-use Rattle.tip_play.proofs.Reading.{HasEnded, a_line, closes_on, ended_at, goes_front, goes_on, gone, leaves_end, line_covered, line_fails, no_line, no_number, not_come, reads_none, relying, stands_so, still_going, trusts_back}
+use Rattle.tip_play.proofs.Reading.{HasEnded, LeavesFrom, a_line, closes_on, ended_at, goes_front, goes_on, gone, grows_last, leaves_end, leaves_more, leaves_none, leaves_still, line_covered, line_fails, no_line, no_number, not_come, reads_none, relying, stands_so, still_going, trusts_back}
 use Rattle.tip_play.proofs.Blaming.{blames_back, blames_back_err, is_err_of, refused_here}
 use Rattle.tip_play.proofs.player.play_lines.Goals as goal
 
@@ -21,6 +21,7 @@ loop-number-init g c = record {
   sound = c.new-stage.ensures.sound;
   truth = λ is. subst g.S.RowLog.keeping.is_true c.new-stage.ensures.store is;
   counts = λ may. ap g.S.RowLog.keeping.faults c.new-stage.ensures.store;
+  rest = λ basis may on covers is. leaves_none g.S.RowLog.keeping basis c.args.store c.new-stage.result c.new-stage.ensures.store;
   goes = λ basis may on covers is. reads_none g.S.RowLog.keeping basis c.new-stage.result (g.R.Read.remaining c.args.input.now) (g.W.Write.contents c.args.output.now) (c.new-stage.ensures.none basis on);
 }
 
@@ -179,6 +180,19 @@ loop-number-preserved g c =
       sound = c.in_ok-stage.ensures.sound;
       truth = λ is. c.loop-number.invariant.truth (back is);
       counts = λ may. c.in_ok-stage.ensures.counts may ∙ ap (λ s. g.S.RowLog.keeping.faults (store_of s)) (sym (c.loop.invariant.same ∙ c.loop-kind.invariant.same)) ∙ c.in-Ok-next.ensures.counts ∙ c.loop-number.invariant.counts may;
+      rest = λ basis may on covers is.
+          let kept = g.S.RowLog.keeping in
+          let whole = g.R.Read.remaining c.args.input.now in
+          let left = g.R.Read.remaining c.loop-number.input in
+          let left' = g.R.Read.remaining c.next.new.input in
+          let stage = c.loop-number.stage in
+          let letters = c.deref-kind-items.result.now in
+          let same = c.loop.invariant.same ∙ c.loop-kind.invariant.same in
+          let come = a_line kept basis c.loop-number.is_over left left' c.loop-number.number c.next.new.line.octets.items c.in-Ok-next.coming c.if-is_over.false c.in-Ok-next.ensures.coming in
+          let at = stands_so kept basis c.loop-number.is_over stage c.loop-number.number whole left (g.W.Write.contents c.args.output.now) (g.W.Write.contents c.loop-number.output) (c.loop-number.invariant.goes basis may on covers (back is)) in
+          let before = leaves_still kept basis c.args.store stage c.next.new.stage c.next.ensures.names c.next.ensures.stood (c.loop-number.invariant.rest basis may on covers (back is)) in
+          leaves_more kept basis c.args.store _ c.in_ok-stage.stage (subst (LeavesFrom kept basis c.args.store) (sym same) before)
+          (c.in_ok-stage.ensures.leaves basis at.0 may (subst (λ s. IsStage kept basis s at.0) (sym same) (c.next.ensures.stands basis at.0 at.1)) (λ move said. ap badges_of (all_alike _ (λ s. s.standing) no_other (λ box value. refl) c.loop-kind.boxes.items ∙ all_made letters c.loop-kind.kind-index _ c.loop-kind-test.false c.loop-kind.invariant.made) ∙ fresh_known (plans_of letters) ∙ ap (λ l. boxes_of (plans_of l)) c.deref-kind-items.ensures.value ∙ ap boxes_of (come.2 move (ap move_of (sym c.as_slice-text.ensures) ∙ said))) is);
       goes = λ basis may on covers is.
           let whole = g.R.Read.remaining c.args.input.now in
           let left = g.R.Read.remaining c.loop-number.input in
@@ -231,8 +245,11 @@ returns-then-is_over-clause-leaves g c = λ basis may on script whole covers.
     let kept = g.S.RowLog.keeping in
     let same = c.loop.invariant.same ∙ c.loop-kind.invariant.same in
     let stage = c.loop-number.stage in
-    leaves_end kept basis _ script _ _ c.finish.result c.finish.ensures.truth
+    leaves_end kept basis _ script _ c.args.store _ _ c.finish.result refl c.finish.ensures.truth
     (λ left.
+    let at = c.next.ensures.truth (subst (λ s. kept.is_true (store_of s)) same left) in
+    let from = subst (LeavesFrom kept basis c.args.store) (sym same) (leaves_still kept basis c.args.store stage c.next.new.stage c.next.ensures.names c.next.ensures.stood (c.loop-number.invariant.rest basis may on (script, whole, covers) at)) in
     let so = gone kept basis c.loop-number.is_over stage c.loop-number.number (g.R.Read.remaining c.args.input.now) (g.R.Read.remaining c.loop-number.input) (g.W.Write.contents c.args.output.now) (g.W.Write.contents c.loop-number.output) c.if-is_over.true (c.loop-number.invariant.goes basis may on (script, whole, covers) (c.next.ensures.truth (subst (λ s. kept.is_true (store_of s)) same left))) in
-    (so.played.now, subst (λ s. IsStage kept basis s so.played.now) (sym same) (c.next.ensures.stands basis so.played.now so.played.stands), ended_at kept basis stage (g.R.Read.remaining c.args.input.now) (g.R.Read.remaining c.loop-number.input) (g.W.Write.contents c.args.output.now) (g.W.Write.contents c.loop-number.output) script whole so))
+    (so.played.now, subst (λ s. IsStage kept basis s so.played.now) (sym same) (c.next.ensures.stands basis so.played.now so.played.stands), ended_at kept basis stage (g.R.Read.remaining c.args.input.now) (g.R.Read.remaining c.loop-number.input) (g.W.Write.contents c.args.output.now) (g.W.Write.contents c.loop-number.output) script whole so, (from.starts, from.others)))
+    (grows_last kept basis _)
     (c.finish.ensures.leaves basis)

@@ -4,7 +4,7 @@ use Rattle.tip_scene.specs.Boxes.{AreWilling}
 use Rattle.tip_scene.specs.Stages.{IsBasis, IsSound, store_of}
 use Rattle.tip_script.specs.Scripts.{plans_of}
 use Rattle.tip_play.proofs.Making.{fresh_of, read_of}
-use Rattle.tip_play.proofs.Reading.{Goes, IsCoveredBy}
+use Rattle.tip_play.proofs.Reading.{Goes, IsCoveredBy, LeavesFrom}
 use Rattle.tip_play.proofs.player.play_lines.Given as goal
 
 -- so much was read and played, or the whole script
@@ -14,6 +14,7 @@ invariant-loop-number g l = record {
   sound : IsSound l.stage;
   truth : g.S.RowLog.keeping.is_true (store_of l.stage) → g.S.RowLog.keeping.is_true l.fn.store;
   counts : g.F.Refuser.may ≡ false → g.S.RowLog.keeping.faults (store_of l.stage) ≡ g.S.RowLog.keeping.faults l.fn.store;
+  rest : (basis : Basis) → basis.may_refuse ≡ g.F.Refuser.may → IsBasis g.S.RowLog.keeping basis l.fn.store → IsCoveredBy basis (g.R.Read.remaining l.fn.input) → g.S.RowLog.keeping.is_true (store_of l.stage) → LeavesFrom g.S.RowLog.keeping basis l.fn.store l.stage;
   goes : (basis : Basis) → basis.may_refuse ≡ g.F.Refuser.may → IsBasis g.S.RowLog.keeping basis l.fn.store → IsCoveredBy basis (g.R.Read.remaining l.fn.input) → g.S.RowLog.keeping.is_true (store_of l.stage) → Goes g.S.RowLog.keeping basis l.is_over l.stage l.number (g.R.Read.remaining l.fn.input) (g.R.Read.remaining l.input) (g.W.Write.contents l.fn.output) (g.W.Write.contents l.output);
 }
 

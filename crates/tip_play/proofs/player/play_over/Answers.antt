@@ -28,4 +28,4 @@ returns-in-Err-clause-blames g c = λ asks basis may on script whole covers.
 
 pub returns-in-Err-clause-leaves : goal.returns-in-Err-clause-leaves
 returns-in-Err-clause-leaves g c = λ basis may on script whole covers.
-    subst (λ r. IfOk r (λ left. g.S.RowLog.keeping.is_true left → Leaves g.S.RowLog.keeping basis script left)) (sym c.unflushed.ensures) (never_unflushed (λ left. g.S.RowLog.keeping.is_true left → Leaves g.S.RowLog.keeping basis script left) c.play_lines-end.result)
+    subst (λ r. IfOk r (λ left. g.S.RowLog.keeping.is_true left → Leaves g.S.RowLog.keeping basis script c.args.store left)) (sym c.unflushed.ensures) (never_unflushed (λ left. g.S.RowLog.keeping.is_true left → Leaves g.S.RowLog.keeping basis script c.args.store left) c.play_lines-end.result)

@@ -6,6 +6,8 @@ use Rattle.tip_actor.specs.Faults.{of_load_fault}
 use Rattle.tip_scene.specs.Acts.{Playing}
 use Rattle.tip_scene.specs.Standing.{IsScene}
 use Rattle.tip_scene.proofs.Again.{any_at_end, new_again, starts_again, stays_put, wait_again}
+use Rattle.tip_scene.specs.Leaving.{OthersStay}
+use Rattle.tip_scene.proofs.Leaving.{rest_again, start_leaves}
 use Rattle.tip_scene.proofs.Blaming.{act_store, boxes_again, specs_again, start_blamed}
 use Rattle.tip_scene.proofs.restarting.restart.Goals as goal
 
@@ -34,3 +36,13 @@ pub returns-in-Err-restart-clause-blames : goal.returns-in-Err-restart-clause-bl
 returns-in-Err-restart-clause-blames g c = λ scene is same truth.
     start_blamed g.S.RowLog.keeping (length c.args.pool.now.items) c.args.playing.stored_core.store c.in-Err-restart.store (Playing scene) c.in-Ok.specs.items (specs_again g.S.RowLog.keeping c.args.playing.stored_core c.args.playing.actors.items scene c.in-Ok.specs.items is c.in-Ok.ensures.specs) c.in-Err-restart.fault c.in-Err-restart.ensures.err.counts c.in-Err-restart.ensures.reason
     (ap of_load_fault (sym c.in-Err-restart.fault-is) ∙ sym c.from-in-Err-restart.ensures ∙ act_store c.from-in-Err-restart.result (sym c.from-in-Err-restart-2.ensures ∙ same))
+
+pub returns-in-Ok-rise_again-clause-leaves : goal.returns-in-Ok-rise_again-clause-leaves
+returns-in-Ok-rise_again-clause-leaves g c = λ scene is truth.
+    let kept = g.S.RowLog.keeping in
+    let stored_core = c.args.playing.stored_core in
+    let actors = c.args.playing.actors.items in
+    let risen = subst kept.is_true c.in-Ok-rise_again.ensures.store truth in
+    let waiting = wait_again kept stored_core actors scene c.in-Ok.specs.items c.in-Ok-restart.recovering is c.in-Ok.ensures.specs c.in-Ok-restart.ensures risen in
+    rest_again kept c.args.playing c.in-Ok-rise_again.playing scene is (c.in-Ok-rise_again.ensures.scene _ (new_again kept stored_core actors scene is) waiting)
+    (λ names. subst (OthersStay kept 1 names stored_core.store) (sym c.in-Ok-rise_again.ensures.store) (start_leaves kept c.in-Ok.specs.items stored_core.store c.in-Ok-restart.recovering names c.in-Ok-restart.ensures risen))

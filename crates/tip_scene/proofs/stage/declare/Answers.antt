@@ -6,6 +6,8 @@ use Rattle.tip_scene.specs.Acts.{Declaring, acts, declared, is_covered, labelled
 use Rattle.tip_scene.specs.Stages.{ActsSo}
 use Rattle.tip_scene.specs.declared.stage.Stage.TheVariants as stage
 use Rattle.tip_script.specs.Moves.{move_by}
+use Rattle.tip_scene.specs.Leaving.{LeavesOthers}
+use Rattle.tip_scene.proofs.Leaving.{declared_stays, first_rest}
 use Rattle.tip_scene.proofs.Blaming.{at_fault, never_asked, play_accused_at, told_on, too_few}
 use Rattle.tip_scene.specs.Blaming.{HadTooFew, IsAtFault, IsBlamed}
 use Rattle.tip_scene.specs.Boxes.{box_count}
@@ -23,6 +25,7 @@ returns-in_err-playing-in_default g c =
       acts = λ basis declarations is may boxes covers. fails_first g.S.RowLog.keeping basis declarations (string_bytes c.args.printed.now) (string_bytes c.start.new.printed) (string_bytes c.act.new.printed) c.args.instruction c.in_default.not-Realm c.in_default.not-Labels c.in_err-playing-in_default.field-0.0
           (λ reliable. c.in-Ok.ensures.text basis declarations is (c.in_err-playing-in_default.ensures.truth reliable))
           (λ reliable. c.in_err-playing-in_default.ensures.moves (scene_of basis declarations) (c.in-Ok.ensures.scene basis declarations is (c.in_err-playing-in_default.ensures.truth reliable)) may boxes);
+      leaves = λ basis declarations is may boxes. tt;
       counts = λ may. tt;
       blames = λ may basis declarations is. play_accused_at g.S.RowLog.keeping _ basis c.in-Ok.playing (scene_of basis declarations) c.args.declared.store _ c.in_err-playing-in_default.field-0.0 c.in_err-playing-in_default.ensures.truth c.in-Ok.ensures.counts (c.in-Ok.ensures.scene basis declarations is) (c.in_err-playing-in_default.ensures.blames may (scene_of basis declarations));
     })
@@ -33,6 +36,7 @@ returns-in_default g c = record {
   truth = λ truth. c.in-Ok.ensures.truth (c.in_ok-playing-in_default.ensures.truth truth);
   acts = λ basis declarations is may boxes covers. plays_first g.S.RowLog.keeping basis declarations (string_bytes c.args.printed.now) (string_bytes c.start.new.printed) (string_bytes c.act.new.printed) c.args.instruction c.in_default.not-Realm c.in_default.not-Labels c.in_ok-playing-in_default.playing
       (λ truth. (let before = c.in_ok-playing-in_default.ensures.truth truth in (c.in-Ok.ensures.text basis declarations is before, c.in_ok-playing-in_default.ensures.moves (scene_of basis declarations) (c.in-Ok.ensures.scene basis declarations is before) may boxes truth)));
+  leaves = λ basis declarations is may boxes truth. (let before = c.in_ok-playing-in_default.ensures.truth truth in first_rest g.S.RowLog.keeping c.args.declared c.in-Ok.playing c.in_ok-playing-in_default.playing (c.in-Ok.ensures.leaves before) (c.in_ok-playing-in_default.ensures.leaves (scene_of basis declarations) (c.in-Ok.ensures.scene basis declarations is before) may boxes truth));
   counts = λ may. c.in_ok-playing-in_default.ensures.counts may ∙ c.in-Ok.ensures.counts;
   blames = λ may basis declarations is. tt;
 }
@@ -71,4 +75,11 @@ returns-in-Err-noted-clause-blames g c = λ may basis declarations is bad truth.
     elim c.match-instruction.branch [
       | in-Realm w ↦ absurd (never_asked (declared w.in-Realm.name.now w.in-Realm.address.now w.in-Realm.branches w.in-Realm.limits c.args.declared.declarations.items) w.add-noted.new.self.declarations.items w.add-noted.result c.in-Err-noted.fault w.add-noted.ensures.declares (sym w.noted-is ∙ c.in-Err-noted.is) bad)
       | in-Labels w ↦ absurd (never_asked (labelled w.in-Labels.realm.now (fields_of 32 w.in-Labels.labels.now) c.args.declared.declarations.items) w.label-noted.new.self.declarations.items w.label-noted.result c.in-Err-noted.fault w.label-noted.ensures.declares (sym w.noted-is ∙ c.in-Err-noted.is) bad)
+    ]
+
+pub returns-in-Ok-noted-clause-leaves : goal.returns-in-Ok-noted-clause-leaves
+returns-in-Ok-noted-clause-leaves g c = λ basis declarations is may boxes truth.
+    elim c.match-instruction.branch [
+      | in-Realm w ↦ subst (λ d. LeavesOthers g.S.RowLog.keeping (stage.Declaring c.args.declared) (stage.Declaring d)) (sym w.declared-is) (declared_stays g.S.RowLog.keeping c.args.declared w.add-noted.new.self w.add-noted.ensures.store)
+      | in-Labels w ↦ subst (λ d. LeavesOthers g.S.RowLog.keeping (stage.Declaring c.args.declared) (stage.Declaring d)) (sym w.declared-is) (declared_stays g.S.RowLog.keeping c.args.declared w.label-noted.new.self w.label-noted.ensures.store)
     ]

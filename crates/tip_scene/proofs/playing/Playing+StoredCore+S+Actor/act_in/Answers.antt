@@ -1,9 +1,10 @@
 -- A line of a realm, and one of a realm that is not there.
-use Rattle.std.proofs.Common.{string_bytes, subst}
+use Rattle.std.proofs.Common.{refl, string_bytes, subst}
 use Rattle.tip_actor.proofs.Lists.{none_at, some_at}
 use Rattle.tip_actor.specs.Standing.{Tells}
 use Rattle.tip_script.specs.Moves.{move_by}
 use Rattle.tip_scene.specs.Scenes.{does}
+use Rattle.tip_scene.proofs.Leaving.{always_ok, rest_done, rest_stays}
 use Rattle.tip_scene.proofs.Scening.{has_moved, has_not_moved, moved_elsewhere}
 use Rattle.tip_scene.proofs.playing.Playing+StoredCore+S+Actor.act_in.Goals as goal
 
@@ -31,5 +32,18 @@ returns-clause-serves g c = λ scene is may boxes.
     let actor = c.in-Some.actor.now in
     has_moved g.S.RowLog.keeping c.args.self.now.stored_core c.obey.new.stored_core c.settle.new.stored_core actors scene (move_by c.args.instruction) c.args.realm.now place actor c.obey.new.actor c.settle.new.self (string_bytes c.args.printed.now) (string_bytes c.obey.new.printed) (string_bytes c.settle.new.printed) is
     c.place_of-place.ensures (some_at actors place actor c.in-Some.ensures.item.3.0 c.in-Some.ensures.item.3.1)
+    (λ acting acts. subst (λ told. Tells g.S.RowLog.keeping c.args.self.now.stored_core c.obey.new.stored_core place actor c.obey.new.actor (string_bytes c.args.printed.now) (string_bytes c.obey.new.printed) told (does (move_by c.args.instruction) acting)) c.if-not-branch.false (c.in_ok-obey.ensures.tells acting acts may boxes))
+    c.in_ok-settle.ensures.acts
+
+pub returns-in_default-clause-leaves : goal.returns-in_default-clause-leaves
+returns-in_default-clause-leaves g c = λ scene is may boxes truth. always_ok g.S.RowLog.keeping c.print_elsewhere.result (rest_stays g.S.RowLog.keeping c.args.self.now)
+
+pub returns-clause-leaves : goal.returns-clause-leaves
+returns-clause-leaves g c = λ scene is may boxes truth.
+    let actors = c.args.self.now.actors.items in
+    let place = c.place_of-place.result in
+    let actor = c.in-Some.actor.now in
+    rest_done g.S.RowLog.keeping c.args.self.now _ c.obey.new.stored_core scene place actor c.obey.new.actor c.settle.new.self (string_bytes c.args.printed.now) (string_bytes c.obey.new.printed) (string_bytes c.settle.new.printed) (does (move_by c.args.instruction)) is
+    (some_at actors place actor c.in-Some.ensures.item.3.0 c.in-Some.ensures.item.3.1) refl
     (λ acting acts. subst (λ told. Tells g.S.RowLog.keeping c.args.self.now.stored_core c.obey.new.stored_core place actor c.obey.new.actor (string_bytes c.args.printed.now) (string_bytes c.obey.new.printed) told (does (move_by c.args.instruction) acting)) c.if-not-branch.false (c.in_ok-obey.ensures.tells acting acts may boxes))
     c.in_ok-settle.ensures.acts

@@ -1,7 +1,9 @@
 -- A line that was done, and is judged.
 use Rattle.std.proofs.Common.{◌∙◌, sym, string_bytes, subst}
 use Rattle.tip_script.specs.Moves.{move_by}
-use Rattle.std.specs.Prelude.{Some}
+use Rattle.std.specs.Prelude.{OnOk, Some}
+use Rattle.tip_scene.specs.Leaving.{LeavesRest}
+use Rattle.tip_scene.proofs.Leaving.{judged_on}
 use Rattle.tip_scene.specs.Scenes.{moved_in}
 use Rattle.tip_scene.specs.Stages.{Serves}
 use Rattle.tip_scene.proofs.Blaming.{judged_counts, judged_refused, serves_judged}
@@ -17,3 +19,7 @@ returns-clause-counts g c = λ may. judged_counts g.S.RowLog.keeping c.args.self
 
 pub returns-clause-blames : goal.returns-clause-blames
 returns-clause-blames g c = λ may bad. judged_refused g.S.RowLog.keeping c.args.self.now.stored_core.store c.act_in-end.new.self.stored_core.store _ _ _ c.act_in-end.result (c.may_refuse.ensures ∙ may) c.faults-before.ensures c.faults.ensures (sym c.judge.ensures ∙ bad)
+
+pub returns-clause-leaves : goal.returns-clause-leaves
+returns-clause-leaves g c = λ scene is may boxes truth.
+    subst (λ r. OnOk r (LeavesRest g.S.RowLog.keeping c.args.self.now c.act_in-end.new.self)) (sym c.judge.ensures) (judged_on g.S.RowLog.keeping _ _ _ c.act_in-end.result (c.act_in-end.ensures.leaves scene is may boxes truth))

@@ -1,10 +1,14 @@
 -- A realm that is to start again, and one that is not there.
 use Rattle.std.proofs.Common.{◌∙◌, Err, Some, ap, inl, length, refl, string_bytes, subst, sym}
-use Rattle.std.proofs.lemmas.Result.{err_from_is_err_and}
-use Rattle.tip_actor.proofs.Lists.{length_set, none_at, partner, some_at}
+use Rattle.std.proofs.lemmas.Result.{err_from_is_err_and, on_ok_weaker}
+use Rattle.tip_actor.proofs.Lists.{none_at, partner, some_at}
 use Rattle.tip_script.specs.Scripts.{Renew}
 use Rattle.tip_transcript.specs.Printing.{nowhere_text}
-use Rattle.std.specs.Prelude.{Ok, slice_set}
+use Rattle.std.specs.Prelude.{Ok, OnOk}
+use Rattle.std.specs.Vec.{with_item}
+use Rattle.tip_actor.specs.Acting.{renews}
+use Rattle.tip_scene.specs.Leaving.{LeavesRest}
+use Rattle.tip_scene.proofs.Leaving.{judged_on, rest_done, rest_stays}
 use Rattle.tip_scene.specs.Scenes.{moved_in}
 use Rattle.tip_scene.specs.Stages.{APlaying, Serves}
 use Rattle.tip_scene.proofs.Blaming.{act_store, err_same, judged_counts, judged_refused, renew_blamed, serves_judged, serves_when}
@@ -24,7 +28,7 @@ returns-clause-serves g c = λ scene is truth.
     let actors = c.args.self.now.actors.items in
     let place = c.place_of-place.result in
     let actor = c.in-Some.actor.now in
-    let playing : APlaying g.row.S.Denot = record { stored_core = c.settle-end.new.stored_core; actors = record c.args.self.now.actors { items = slice_set actors place c.settle-end.new.actor; ok = (c.args.self.now.actors.ok.0 ∙ sym (length_set actors place c.settle-end.new.actor), c.args.self.now.actors.ok.1) } } in
+    let playing : APlaying g.row.S.Denot = record { stored_core = c.settle-end.new.stored_core; actors = with_item c.args.self.now.actors place c.settle-end.new.actor } in
     let moved = moved_in (Renew c.args.name.now) (Some c.args.name.now) scene in
     subst (Serves g.S.RowLog.keeping (string_bytes c.args.printed.now) (string_bytes c.settle-end.new.printed) moved playing) (sym c.judge.ensures)
     (serves_judged g.S.RowLog.keeping _ _ moved playing _ _ c.settle-end.result (serves_when g.S.RowLog.keeping _ _ moved playing c.settle-end.result c.settle-end.ensures.understood c.settle-end.ensures.acts (λ settles.
@@ -50,3 +54,18 @@ returns-clause-counts g c = λ may. judged_counts g.S.RowLog.keeping c.args.self
 
 pub returns-clause-blames : goal.returns-clause-blames
 returns-clause-blames g c = λ may scene is truth bad. inl (judged_refused g.S.RowLog.keeping c.args.self.now.stored_core.store c.settle-end.new.stored_core.store _ _ _ c.settle-end.result (c.may_refuse.ensures ∙ may) c.faults-before.ensures c.faults.ensures (sym c.judge.ensures ∙ bad))
+
+pub returns-in_default-clause-leaves : goal.returns-in_default-clause-leaves
+returns-in_default-clause-leaves g c = λ scene is truth. rest_stays g.S.RowLog.keeping c.args.self.now
+
+pub returns-clause-leaves : goal.returns-clause-leaves
+returns-clause-leaves g c = λ scene is truth.
+    let kept = g.S.RowLog.keeping in
+    let actors = c.args.self.now.actors.items in
+    let place = c.place_of-place.result in
+    let actor = c.in-Some.actor.now in
+    let playing : APlaying g.row.S.Denot = record { stored_core = c.settle-end.new.stored_core; actors = with_item c.args.self.now.actors place c.settle-end.new.actor } in
+    subst (λ r. OnOk r (LeavesRest kept c.args.self.now playing)) (sym c.judge.ensures) (judged_on kept _ _ _ c.settle-end.result (on_ok_weaker c.settle-end.result (λ settles.
+    rest_done kept c.args.self.now playing c.renew.new.stored_core scene place actor c.renew.new.actor c.settle-end.new.actor (string_bytes c.args.printed.now) (string_bytes c.renew.new.printed) (string_bytes c.settle-end.new.printed) (λ acting. Some (renews acting)) is
+    (some_at actors place actor c.in-Some.ensures.item.3.0 c.in-Some.ensures.item.3.1) refl
+    (c.in_ok-renew.ensures.acts (c.settle-end.ensures.truth truth)) settles) c.settle-end.ensures.acts))

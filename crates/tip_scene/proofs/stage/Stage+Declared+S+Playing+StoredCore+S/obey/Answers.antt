@@ -5,7 +5,11 @@ use Rattle.tip_scene.specs.declared.fault.LineFault.TheVariants.{Store}
 use Rattle.tip_script.specs.Moves.{move_by}
 use Rattle.tip_scene.specs.Stages.{IsStage, store_of}
 use Rattle.std.proofs.lemmas.Result.{err_from_is_err_and}
-use Rattle.tip_scene.proofs.Blaming.{of_declared, play_accused}
+use Rattle.tip_scene.proofs.Blaming.{of_declared, of_playing, play_accused}
+use Rattle.std.specs.Prelude.{IfOk}
+use Rattle.tip_scene.specs.Leaving.{LeavesOthers}
+use Rattle.tip_scene.specs.declared.stage.Stage.TheVariants.{Playing as AtWork}
+use Rattle.tip_scene.proofs.Leaving.{of_rest}
 use Rattle.tip_scene.proofs.Staging.{obeys_first, plays_on}
 use Rattle.tip_scene.proofs.stage.Stage+Declared+S+Playing+StoredCore+S.obey.Goals as goal
 
@@ -23,3 +27,13 @@ returns-in_err-playing-in-Playing-clause-blames g c = λ may basis stage is.
 pub returns-in-Declaring-clause-blames : goal.returns-in-Declaring-clause-blames
 returns-in-Declaring-clause-blames g c = λ may basis stage is.
     subst (λ s. Blames g.S.RowLog.keeping Store (IsBlamed g.S.RowLog.keeping basis (store_of s)) (HadTooFew g.S.RowLog.keeping basis) c.declare.result) (sym c.in-Declaring.is) (of_declared g.S.RowLog.keeping basis c.in-Declaring.declared stage (subst (λ s. IsStage g.S.RowLog.keeping basis s stage) c.in-Declaring.is is) (λ declarations declared. c.declare.ensures.blames may basis declarations declared))
+
+pub returns-in-Declaring-clause-leaves : goal.returns-in-Declaring-clause-leaves
+returns-in-Declaring-clause-leaves g c = λ basis stage is may boxes.
+    subst (λ s. IfOk c.declare.result (λ now. g.S.RowLog.keeping.is_true (store_of now) → LeavesOthers g.S.RowLog.keeping s now)) (sym c.in-Declaring.is)
+    (of_declared g.S.RowLog.keeping basis c.in-Declaring.declared stage (subst (λ s. IsStage g.S.RowLog.keeping basis s stage) c.in-Declaring.is is) (λ declarations declared. c.declare.ensures.leaves basis declarations declared may boxes))
+
+pub returns-in_ok-playing-in-Playing-clause-leaves : goal.returns-in_ok-playing-in-Playing-clause-leaves
+returns-in_ok-playing-in-Playing-clause-leaves g c = λ basis stage is may boxes truth.
+    subst (λ s. LeavesOthers g.S.RowLog.keeping s (AtWork c.in_ok-playing-in-Playing.playing)) (sym c.in-Playing.is)
+    (of_rest g.S.RowLog.keeping c.in-Playing.playing c.in_ok-playing-in-Playing.playing (of_playing g.S.RowLog.keeping basis c.in-Playing.playing stage (subst (λ s. IsStage g.S.RowLog.keeping basis s stage) c.in-Playing.is is) (λ scene kept. c.in_ok-playing-in-Playing.ensures.leaves scene kept may boxes truth)))
