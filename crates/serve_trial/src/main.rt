@@ -1,5 +1,5 @@
-//! Two realms that are served on two ports of one process, and a client of each that commits once. What no clause says: that
-//! sockets are accepted, lines read and answers written, and that the server ends with its audit.
+//! Two realms that are served on two ports of one process, a client of each that commits once, and an operator who asks. What no
+//! clause says: that sockets are accepted, lines read and answers written, and that the server ends with its audit.
 #![tactic(auto)]
 
 mod told;
@@ -13,9 +13,10 @@ use std::sync::{Arc, Wait};
 use std::thread;
 use std::thread::Threads;
 use std::time::{Clock, Duration};
+use tip_asking::{Asked, ask, send};
 use tip_client::play_lines;
 use tip_duties::ServeFault;
-use tip_line::{Command, Response, Word};
+use tip_line::{Command, Id, Response, Word};
 use tip_rows::MemRows;
 use tip_serve::host_realms;
 use tip_settings::read_config;
@@ -44,8 +45,11 @@ entries = 100
 
 const PLACES: [&str; 2] = ["127.0.0.1:23472", "127.0.0.1:23473"];
 
-/// How many connections end before the server does.
-const SESSIONS: u32 = 2;
+/// How many connections end before the server does: a client and three questions in each realm.
+const SESSIONS: u32 = 8;
+
+/// What an operator says, an empty line among it.
+const SAID: &[u8] = b"IDENTIFY 3 3 - -\n\nQUERY nobody-1-1-1\r\nPULL x y\n";
 
 /// Another run of this program may have the ports: then it is tried again.
 const TRIES: u32 = 300;
@@ -106,7 +110,29 @@ fn answers(alloc: Global, socket: &TcpStream) -> Result<Vec<Response>, AllocErro
     play_lines(alloc, &mut &*socket, &mut &*socket, &commands).map_err(|_| AllocError)
 }
 
-/// Plays the client of each realm, and prints what it is answered.
+/// Asks whether the realm at a place is there and has a transaction that nobody began, and says an input to it; prints the answers.
+fn ask_operator<R, W>(rt: &R, alloc: Global, place: &str, output: &mut W) -> io::Result<()>
+where
+    R: Net<Listener = TcpListener, Stream = TcpStream>,
+    W: Write,
+{
+    let id = Id::new(alloc, b"nobody-1-1-1").map_err(|_| AllocError)?;
+    for asked in [Asked::Presence, Asked::Transaction { id: &id }] {
+        let socket = TcpStream::connect(rt, place)?;
+        match ask(alloc, &mut &socket, &mut &socket, output, asked) {
+            Ok(verdict) => writeln!(output, "status {}", verdict.status())?,
+            Err(fault) => writeln!(output, "{fault}")?,
+        }
+    }
+    let socket = TcpStream::connect(rt, place)?;
+    let mut said = SAID;
+    match send(alloc, &mut said, &mut &socket, &mut &socket, output) {
+        Ok(()) => writeln!(output, "said"),
+        Err(fault) => writeln!(output, "{fault}"),
+    }
+}
+
+/// Plays the client of each realm and its operator, and prints what they are answered.
 fn play_clients<R, W>(rt: &R, alloc: Global, output: &mut W) -> io::Result<()>
 where
     R: Net<Listener = TcpListener, Stream = TcpStream>,
@@ -117,6 +143,8 @@ where
         for response in answers(alloc, &socket)? {
             writeln!(output, "{response}")?;
         }
+        drop(socket);
+        ask_operator(rt, alloc, place, output)?;
     }
     Ok(())
 }
