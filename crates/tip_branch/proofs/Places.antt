@@ -51,3 +51,12 @@ enrolled_more s ns bs ms i m n d lt lt' e done at =
     let within : i < length (new_members ns (map s bs)) = rw all long in
     let there : get_or (new_members ns (map s bs)) i m ≡ m = get_or-new_members ns (map s bs) i m n (s d) lt long ∙ ap (λ t. new_member (get_or ns i n) t.badge t.phase) (get_or-map s bs i d (s d) lt') ∙ sym at in
     sym (rw (take_more (new_members ns (map s bs)) i m within, there, ← done) refl)
+
+-- what is written within the first ones
+pub taken_set : {A : Type 0} (xs : List A) (k i : ℕ) (y : A) → take k (slice_set xs i y) ≡ slice_set (take k xs) i y
+taken_set [] zero i y = refl
+taken_set [] (suc k) i y = refl
+taken_set (x ∷ xs) zero zero y = refl
+taken_set (x ∷ xs) zero (suc i) y = refl
+taken_set (x ∷ xs) (suc k) zero y = refl
+taken_set (x ∷ xs) (suc k) (suc i) y = ap (λ l. x ∷ l) (taken_set xs k i y)

@@ -53,12 +53,13 @@ fn member_for(number: u8, branch: &Box<dyn Branch + Send>) -> Member
 }
 
 /// Notes these branches as the members of these numbers.
-pub(crate) fn enrol(numbers: &[u8], boxes: &[Box<dyn Branch + Send>]) -> Roll
+pub(crate) fn enrol(numbers: &[u8], boxes: &[Box<dyn Branch + Send>], roll: Roll) -> Roll
     requires counted { length numbers.now ≡ length boxes.now }
     requires few { length boxes.now ≤ 8 }
+    requires nobody { roll ≡ [] }
     ensures { result ≡ new_members numbers.now (map standing boxes.now) }
 {
-    let mut roll = Roll::new();
+    let mut roll = roll;
     for i in 0..boxes.len() {
         roll.push(member_for(numbers[i], &boxes[i]));
     }
@@ -89,12 +90,13 @@ pub(crate) fn read_badges(
 }
 
 /// Notes ready branches that are known so as the members of these numbers.
-pub(crate) fn enrol_ready(numbers: &[u8], known: &[Badge]) -> Roll
+pub(crate) fn enrol_ready(numbers: &[u8], known: &[Badge], roll: Roll) -> Roll
     requires counted { length numbers.now ≡ length known.now }
     requires few { length known.now ≤ 8 }
+    requires nobody { roll ≡ [] }
     ensures { result ≡ ready_members numbers.now known.now }
 {
-    let mut roll = Roll::new();
+    let mut roll = roll;
     for i in 0..known.len() {
         roll.push(Member::new(numbers[i], known[i], Phase::Ready));
     }
@@ -108,12 +110,14 @@ pub(crate) fn take_first(
     from: &mut Vec<Box<dyn Branch + Send>>,
     known: &mut Vec<Badge>,
     into: &mut Vec<Box<dyn Branch + Send>>,
+    roll: Roll,
 ) -> Roll
     requires counted { vec_len from.old ≡ vec_len known.old }
     requires enough { count ≤ vec_len known.old }
     requires few { count ≤ 8 }
     requires empty { vec_len into.old ≡ 0 }
     requires room { count ≤ vec_capacity into.old }
+    requires nobody { roll ≡ [] }
     ensures counted { length result ≡ vec_len into.new }
     ensures counted_left { vec_len from.new ≡ vec_len known.new }
     ensures noted { result ≡ fresh_members 1 (take count (reverse known.old.items)) }
@@ -121,7 +125,7 @@ pub(crate) fn take_first(
     ensures taken { into.new.items ≡ take count (reverse from.old.items) }
     ensures left { reverse from.new.items ≡ drop count (reverse from.old.items) }
 {
-    let mut roll = Roll::new();
+    let mut roll = roll;
     for i in 0..count {
         let (Some(branch), Some(badge)) = (from.pop(), known.pop()) else {
             unreachable!()

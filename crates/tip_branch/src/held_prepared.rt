@@ -12,6 +12,7 @@ use crate::branch::Badge;
 use crate::held_party::HeldParty;
 use crate::lot::Lot;
 use crate::party::Party;
+use crate::party_room::NotesRoom;
 use std::alloc::{AllocError, Global};
 use std::marker::Model;
 use tip_line::{Id, Realm};
@@ -68,13 +69,20 @@ impl HeldPrepared {
     }
 
     /// The boxes as the party of a transaction that is taken up again.
-    pub fn into_party(self, realm: Realm, epoch: u32, id: Id, numbers: &[u8]) -> HeldParty
+    pub fn into_party(
+        self,
+        notes: NotesRoom,
+        realm: Realm,
+        epoch: u32,
+        id: Id,
+        numbers: &[u8],
+    ) -> HeldParty
         requires counted { length numbers.now ≡ length self }
         requires rising { IsTrue (are_numbers numbers.now) }
         ensures { result ≡ idle_party realm epoch id (ready_members numbers.now self) }
     {
         let HeldPrepared { lot } = self;
-        HeldParty::of(Party::of_ready(lot, realm, epoch, id, numbers))
+        HeldParty::of(Party::of_ready(lot, notes, realm, epoch, id, numbers))
     }
 
     /// The boxes handed back.

@@ -26,6 +26,6 @@ pub use lot::Lot;
 pub use member::{Call, Errand, Member};
 pub use party::{Party, are_numbers};
 pub use party_note::PartyNote;
-pub use party_room::PartyRoom;
+pub use party_room::{NotesRoom, PartyRoom};
 pub use prepared::Prepared;
 pub use wrong_phase::WrongPhase;

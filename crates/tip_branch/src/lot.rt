@@ -83,11 +83,17 @@ impl Lot {
     }
 
     /// Takes the first boxes into room that is there, and notes them as members of a new transaction.
-    pub(crate) fn take_first(&mut self, count: u8, into: &mut Vec<Box<dyn Branch + Send>>) -> Roll
+    pub(crate) fn take_first(
+        &mut self,
+        count: u8,
+        into: &mut Vec<Box<dyn Branch + Send>>,
+        roll: Roll,
+    ) -> Roll
         requires enough { count ≤ length (badges self.old) }
         requires few { count ≤ 8 }
         requires empty { vec_len into.old ≡ 0 }
         requires room { count ≤ vec_capacity into.old }
+        requires nobody { roll ≡ [] }
         ensures noted { result ≡ fresh_members 1 (take count (badges self.old)) }
         ensures taken { into.new.items ≡ take count (boxes_in self.old) }
         ensures counted { length result ≡ vec_len into.new }
@@ -95,13 +101,14 @@ impl Lot {
         ensures known { badges self.new ≡ drop count (badges self.old) }
         ensures phase { self.new.phase ≡ self.old.phase }
     {
-        boxes::take_first(count, &mut self.boxes, &mut self.known, into)
+        boxes::take_first(count, &mut self.boxes, &mut self.known, into, roll)
     }
 
     /// Gives all boxes, and notes them as the ready members of these numbers.
-    pub(crate) fn take_all(self, numbers: &[u8]) -> (Roll, Vec<Box<dyn Branch + Send>>)
+    pub(crate) fn take_all(self, numbers: &[u8], roll: Roll) -> (Roll, Vec<Box<dyn Branch + Send>>)
         requires counted { length numbers.now ≡ length (badges self) }
         requires few { length numbers.now ≤ 8 }
+        requires nobody { roll ≡ [] }
         ensures noted { result.0 ≡ ready_members numbers.now (badges self) }
         ensures taken { result.1.items ≡ boxes_in self }
     {
@@ -110,7 +117,7 @@ impl Lot {
             boxes,
             known,
         } = self;
-        let roll = boxes::enrol_ready(numbers, &reversed(known));
+        let roll = boxes::enrol_ready(numbers, &reversed(known), roll);
         (roll, reversed(boxes))
     }
 

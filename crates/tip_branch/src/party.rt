@@ -12,7 +12,7 @@ ghost use Rattle.tip_txn.specs.Decisions.{Decides, Says};
 use crate::branch::{Branch, Phase, Settled, Vote};
 use crate::lot::Lot;
 use crate::member::{Call, Errand, Member};
-use crate::party_room::PartyRoom;
+use crate::party_room::{NotesRoom, PartyRoom};
 use crate::roll::Roll;
 use crate::{boxes, telling};
 use tip_line::{Id, Realm};
@@ -44,6 +44,7 @@ impl Party {
 
     /// The party of these branches, which have these numbers in its transaction.
     pub fn new(
+        notes: NotesRoom,
         realm: Realm,
         epoch: u32,
         id: Id,
@@ -57,7 +58,7 @@ impl Party {
         ensures own { accounts standing result ≡ map standing boxes.items }
         ensures agrees { IsTrueToBoxes standing result }
     {
-        let roll = boxes::enrol(&numbers, &boxes);
+        let roll = boxes::enrol(&numbers, &boxes, notes.roll);
         Party {
             realm,
             epoch,
@@ -80,14 +81,25 @@ impl Party {
         ensures left { boxes_in lot.new ≡ drop room (boxes_in lot.old) }
         ensures phase { lot.new.phase ≡ lot.old.phase }
     {
-        let PartyRoom { count, mut boxes } = room;
-        let roll = lot.take_first(count, &mut boxes);
+        let PartyRoom {
+            count,
+            mut boxes,
+            notes,
+        } = room;
+        let roll = lot.take_first(count, &mut boxes, notes.roll);
         Party::with_roll(realm, epoch, id, roll, boxes)
     }
 
     /// The party of a transaction that is taken up again: all branches of a lot, which have these
     /// numbers in it.
-    pub fn of_ready(lot: Lot, realm: Realm, epoch: u32, id: Id, numbers: &[u8]) -> Party
+    pub fn of_ready(
+        lot: Lot,
+        notes: NotesRoom,
+        realm: Realm,
+        epoch: u32,
+        id: Id,
+        numbers: &[u8],
+    ) -> Party
         requires counted { length numbers.now ≡ length (badges lot) }
         requires rising { IsTrue (are_numbers numbers.now) }
         ensures noted { noted result
@@ -96,7 +108,7 @@ impl Party {
         ensures agrees { IsTrueLot standing lot → lot.phase ≡ Ready →
             IsTrueToBoxes standing result }
     {
-        let (roll, boxes) = lot.take_all(numbers);
+        let (roll, boxes) = lot.take_all(numbers, notes.roll);
         Party::with_roll(realm, epoch, id, roll, boxes)
     }
 

@@ -1,17 +1,34 @@
 //! Room for a party, made before it is needed.
 
-ghost use Rattle.std.specs.Prelude.{◌≡◌, ◌≤◌, IfOk};
+ghost use Rattle.std.specs.Prelude.{◌≡◌, ◌≤◌, [], IfOk};
 
 use crate::branch::Branch;
+use crate::roll::Roll;
 use std::alloc::{AllocError, Global};
 use std::marker::Model;
 
-/// Room for the party of a new transaction: made beforehand, so that a party takes no memory.
+/// Room for what a party notes of its members: made beforehand, so that a party takes no memory.
+#[derive(Drop)]
+pub struct NotesRoom {
+    pub(crate) roll: Roll,
+    ghost nobody: { roll ≡ [] },
+}
+
+impl NotesRoom {
+    /// Room for the notes of one party.
+    pub fn new(alloc: Global) -> Result<NotesRoom, AllocError> {
+        let roll = Roll::new(alloc)?;
+        Ok(NotesRoom { roll })
+    }
+}
+
+/// Room for the party of a new transaction, for its notes and its boxes: made beforehand, so that a party takes no memory.
 /// It is seen as the number of its branches.
 #[derive(Drop)]
 pub struct PartyRoom {
     pub(crate) count: u8,
     pub(crate) boxes: Vec<Box<dyn Branch + Send>>,
+    pub(crate) notes: NotesRoom,
 }
 
 impl Model for PartyRoom {
@@ -32,6 +49,11 @@ impl PartyRoom {
         ensures { IfOk result (λ room. room ≡ count) }
     {
         let boxes = Vec::with_capacity(alloc, count as usize)?;
-        Ok(PartyRoom { count, boxes })
+        let notes = NotesRoom::new(alloc)?;
+        Ok(PartyRoom {
+            count,
+            boxes,
+            notes,
+        })
     }
 }

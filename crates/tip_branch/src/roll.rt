@@ -1,10 +1,11 @@
-//! The members of one party in order, at most eight, without memory of their own.
+//! The members of one party in order, at most eight. They stand on the heap, so that a party is small where it is moved.
 
-ghost use Rattle.std.specs.Prelude.{◌≡◌, ◌<◌, ◌+◌, ◌∷◌, ◌++◌, [], length, map, slice_set, slice_index_or};
+ghost use Rattle.std.specs.Prelude.{◌≡◌, ◌<◌, ◌+◌, ◌∷◌, ◌++◌, [], IfOk, length, map, slice_set, slice_index_or};
 ghost use Rattle.tip_branch.specs.Members.{forgetting, member_of};
 
 use crate::branch::{Badge, Phase, Plan};
 use crate::member::Member;
+use std::alloc::{AllocError, Global};
 use std::marker::Model;
 
 /// How many members a party may have.
@@ -13,34 +14,35 @@ pub(crate) const MOST_MEMBERS: usize = 8;
 /// The members of a party in order.
 #[derive(Drop)]
 pub(crate) struct Roll {
-    members: [Member; MOST_MEMBERS],
+    members: Box<[Member; MOST_MEMBERS]>,
     len: usize,
 }
 
 impl Model for Roll {
-    ghost use Rattle.std.specs.Prelude.{List, ◌≤◌, take};
+    ghost use Rattle.std.specs.Prelude.{◌≡◌, List, ◌≤◌, length, take};
     ghost use Rattle.tip_branch.specs.declared.member.Member.{Member};
 
     ghost Value = { List Member };
 
-    ghost view = { λ r. take r.len r.members };
+    ghost view = { λ r. take r.len r.members.value };
 
-    ghost invariant = { λ r. r.len ≤ 8 };
+    ghost invariant = { λ r. (r.len ≤ 8) × (length r.members.value ≡ 8) };
 }
 
 impl Roll {
-    /// No members.
-    pub(crate) fn new() -> Roll
-        ensures { result ≡ [] }
+    /// No members, with room for all that a party may have.
+    pub(crate) fn new(alloc: Global) -> Result<Roll, AllocError>
+        ensures { IfOk result (λ roll. roll ≡ []) }
     {
         let nobody = Badge {
             plan: Plan::Open,
             mark: 0,
         };
-        Roll {
-            members: [Member::new(0, nobody, Phase::Ended); MOST_MEMBERS],
+        let members = [Member::new(0, nobody, Phase::Ended); MOST_MEMBERS];
+        Ok(Roll {
+            members: Box::new(alloc, members)?,
             len: 0,
-        }
+        })
     }
 
     pub(crate) fn len(&self) -> usize
@@ -60,15 +62,14 @@ impl Roll {
         requires { index < length self.old }
         ensures { self.new ≡ slice_set self.old index member }
     {
-        let members = &mut self.members[..self.len];
-        members[index] = member;
+        replace(&mut self.members, index, member);
     }
 
     pub(crate) fn push(&mut self, member: Member)
         requires { length self.old < 8 }
         ensures { self.new ≡ self.old ++ member ∷ [] }
     {
-        self.members[self.len] = member;
+        replace(&mut self.members, self.len, member);
         self.len += 1;
     }
 
@@ -98,4 +99,12 @@ impl Roll {
     {
         &self.members[..self.len]
     }
+}
+
+/// A member stands at this place.
+fn replace(members: &mut [Member; MOST_MEMBERS], index: usize, member: Member)
+    requires { index < 8 }
+    ensures { members.new ≡ slice_set members.old index member }
+{
+    members[index] = member;
 }

@@ -13,7 +13,7 @@ ghost use Rattle.tip_recovery.specs.Adopting.{adopting, are_for, fault_of, is_na
 use std::alloc::{AllocError, Global};
 use std::marker::Model;
 use thiserror::Error;
-use tip_branch::{Badge, HeldPrepared};
+use tip_branch::{Badge, HeldPrepared, NotesRoom};
 use tip_line::{Id, Realm};
 use tip_machine::{Origin, PartyPlace, Transaction};
 use tip_rows::{Branches, Key, Label, Row, Subordinates};
@@ -38,6 +38,7 @@ pub struct Unfinished {
     row: Row,
     numbers: Vec<u8>,
     txn: Txn,
+    notes: NotesRoom,
     boxes: Option<HeldPrepared>,
 }
 
@@ -62,6 +63,7 @@ impl Unfinished {
         let id = Id::of(alloc, realm, key.epoch(), key.connection(), key.number())?;
         let numbers = numbers_of(alloc, branches_of(&row))?;
         let txn = Txn::of(alloc, phase(&row), subordinates(&row).as_slice())?;
+        let notes = NotesRoom::new(alloc)?;
         Ok(Unfinished {
             realm: realm.copy()?,
             key,
@@ -69,6 +71,7 @@ impl Unfinished {
             row,
             numbers,
             txn,
+            notes,
             boxes: None,
         })
     }
@@ -190,10 +193,11 @@ impl Unfinished {
             row,
             numbers,
             txn,
+            notes,
             boxes,
         } = self;
         let place = match boxes {
-            Some(boxes) => PartyPlace::Here(boxes.into_party(realm, epoch, id, &numbers)),
+            Some(boxes) => PartyPlace::Here(boxes.into_party(notes, realm, epoch, id, &numbers)),
             None => PartyPlace::Spent,
         };
         let (origin, branches) = into_origin(row);

@@ -6,8 +6,8 @@ use std::sync::{Arc, Mutex};
 use std::test::Fail;
 use std::thread;
 use tip_branch::{
-    Badge, Branch, Call, Errand, Fresh, HeldFresh, HeldParty, HeldPrepared, Party, PartyRoom,
-    Phase, Plan, Prepared, Settled, Vote, are_numbers,
+    Badge, Branch, Call, Errand, Fresh, HeldFresh, HeldParty, HeldPrepared, NotesRoom, Party,
+    PartyRoom, Phase, Plan, Prepared, Settled, Vote, are_numbers,
 };
 use tip_line::{Id, Realm};
 
@@ -30,7 +30,15 @@ fn a_dropped_party_aborts_its_active_member_alone(rt: HostRuntime) -> Result<(),
     let numbers = vec![in alloc; 2u8, 5]?;
     assert_eq!(rt; numbers.len(), boxes.len());
     assert!(rt; are_numbers(&numbers));
-    let party = Party::new(make_realm(alloc)?, 7, make_id(alloc)?, numbers, boxes);
+    let notes = NotesRoom::new(alloc)?;
+    let party = Party::new(
+        notes,
+        make_realm(alloc)?,
+        7,
+        make_id(alloc)?,
+        numbers,
+        boxes,
+    );
     assert_eq!(rt; party.epoch(), 7);
     assert_eq!(rt; party.realm().as_str(), "north");
     assert_eq!(rt; party.id().as_str(), "north-1-1-1");
@@ -92,7 +100,8 @@ fn prepared_boxes_are_taken_up_again(rt: HostRuntime) -> Result<(), Fail> {
     let numbers = [3];
     assert_eq!(rt; numbers.len(), held.len());
     assert!(rt; are_numbers(&numbers));
-    let mut party = held.into_party(make_realm(alloc)?, 2, make_id(alloc)?, &numbers);
+    let notes = NotesRoom::new(alloc)?;
+    let mut party = held.into_party(notes, make_realm(alloc)?, 2, make_id(alloc)?, &numbers);
     party.give(Errand::Commit);
     let mut party = party.into_party();
     assert!(rt; party.errand() == Errand::Commit);
