@@ -32,6 +32,9 @@ serve = with_rule (with_rule (new_app (codes "serve")) (needed (codes "config"))
 unfoldable pub rows : App
 rows = with_rule (new_app (codes "rows")) (needed (codes "store"))
 
+unfoldable pub check : App
+check = with_rule (with_rule (new_app (codes "check")) (option (codes "config"))) (option (codes "store"))
+
 unfoldable pub ping : App
 ping = with_rule (new_app (codes "ping")) (given (codes "address"))
 
@@ -52,7 +55,7 @@ alone = let named = new_app (codes "tipd") in record named {
 
 -- TIPD, with its subcommands
 unfoldable pub tipd : App
-tipd = fold with_subcommand alone (play.top ∷ serve.top ∷ rows.top ∷ ping.top ∷ query.top ∷ settle.top ∷ send.top ∷ [])
+tipd = fold with_subcommand alone (play.top ∷ serve.top ∷ rows.top ∷ check.top ∷ ping.top ∷ query.top ∷ settle.top ∷ send.top ∷ [])
 
 -- a command of the code is this one, and no option of it is another's too
 abbrev pub IsCommand : App → Command → Type 0

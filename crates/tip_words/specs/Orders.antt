@@ -7,7 +7,7 @@ use Rattle.clap.specs.Words.{Row, Text, first_of, subcommand_of}
 use Rattle.clap.specs.Walk.{one_of}
 use Rattle.tip_words.specs.Commands.{tipd}
 use Rattle.tip_words.specs.declared.order.Order.{Order}
-use Rattle.tip_words.specs.declared.order.Order.TheVariants.{Ping, Play, Query, Rows, Send, Serve, Settle}
+use Rattle.tip_words.specs.declared.order.Order.TheVariants.{Check, Ping, Play, Query, Rows, Send, Serve, Settle}
 
 -- the value of an option that is required
 abbrev pub text_in : Text → List Row → Text
@@ -28,13 +28,14 @@ IsNumberIn rows = IsNumberOf (one_of (codes "sessions") rows)
 
 -- a subcommand that is an order
 abbrev pub is_command : Text → Bool
-is_command name = list_any (bytes_eq name) (codes "play" ∷ codes "serve" ∷ codes "rows" ∷ codes "ping" ∷ codes "query" ∷ codes "settle" ∷ codes "send" ∷ [])
+is_command name = list_any (bytes_eq name) (codes "play" ∷ codes "serve" ∷ codes "rows" ∷ codes "check" ∷ codes "ping" ∷ codes "query" ∷ codes "settle" ∷ codes "send" ∷ [])
 
 -- the order that a subcommand is, with its values
 abbrev pub Says : Text × List Row → Order → Type 0
 Says found (Play store) = (found.0 ≡ codes "play") × (option_map (λ s. s.now) store ≡ first_of (codes "store") found.1)
 Says found (Serve config sessions) = (found.0 ≡ codes "serve") × (config.now ≡ text_in (codes "config") found.1) × IsNumberIn found.1 sessions
 Says found (Rows store) = (found.0 ≡ codes "rows") × (store.now ≡ text_in (codes "store") found.1)
+Says found (Check config store) = (found.0 ≡ codes "check") × (option_map (λ s. s.now) config ≡ first_of (codes "config") found.1) × (option_map (λ s. s.now) store ≡ first_of (codes "store") found.1)
 Says found (Ping address) = (found.0 ≡ codes "ping") × (address.now ≡ text_in (codes "address") found.1)
 Says found (Query address id) = (found.0 ≡ codes "query") × (address.now ≡ text_in (codes "address") found.1) × (id.now ≡ text_in (codes "id") found.1)
 Says found (Send address) = (found.0 ≡ codes "send") × (address.now ≡ text_in (codes "address") found.1)

@@ -1,7 +1,7 @@
 //! The commands of `tipd`, as `clap` is told of them.
 ghost use Rattle.std.specs.Prelude.{◌≡◌, false, IfOk};
 ghost use Rattle.clap.specs.Words.{rule_of};
-ghost use Rattle.tip_words.specs.Commands.{IsCommand, alone, given, option, ping, play, query, rows, send, serve, sessions, settle, tipd};
+ghost use Rattle.tip_words.specs.Commands.{IsCommand, alone, check, given, option, ping, play, query, rows, send, serve, sessions, settle, tipd};
 
 use clap::{Arg, ArgAction, Command, value_parser};
 use std::alloc::{AllocError, Global};
@@ -17,6 +17,7 @@ pub(crate) fn tipd<'a>(alloc: Global) -> Result<Command<'a>, AllocError>
         .subcommand(play(alloc)?)?
         .subcommand(serve(alloc)?)?
         .subcommand(rows(alloc)?)?
+        .subcommand(check(alloc)?)?
         .subcommand(ping(alloc)?)?
         .subcommand(query(alloc)?)?
         .subcommand(settle(alloc)?)?
@@ -65,6 +66,18 @@ fn rows<'a>(alloc: Global) -> Result<Command<'a>, AllocError>
     Command::new(alloc, "rows")
         .about("Writes what a store has: each realm with its epoch, and its rows")
         .arg(option(alloc, "store", "FILE", "The file of the store").required(true))
+}
+
+#[tactic(auto, unfolding(crate::specs::Commands::check))]
+fn check<'a>(alloc: Global) -> Result<Command<'a>, AllocError>
+    ensures { IfOk result (IsCommand check) }
+{
+    Command::new(alloc, "check")
+        .about(
+            "Tells what a configuration or a store has, and what is wrong with it; changes nothing",
+        )
+        .arg(option(alloc, "config", "FILE", "The file of the configuration"))?
+        .arg(option(alloc, "store", "FILE", "The file of the store"))
 }
 
 #[tactic(auto, unfolding(crate::specs::Commands::ping))]

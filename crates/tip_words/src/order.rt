@@ -17,6 +17,11 @@ pub enum Order<'a> {
     Rows {
         store: &'a str,
     },
+    /// To look at a configuration, or at the store in this file, and change nothing.
+    Check {
+        config: Option<&'a str>,
+        store: Option<&'a str>,
+    },
     /// To ask the manager at this address, `HOST:PORT`, whether it is there.
     Ping {
         address: &'a str,

@@ -47,6 +47,12 @@ fn order_of<'a>(name: &str, found: &ArgMatches<'a>) -> Order<'a>
             store: text_in(found, "store"),
         };
     }
+    if name == "check" {
+        return Order::Check {
+            config: found.get_str("config"),
+            store: found.get_str("store"),
+        };
+    }
     if name == "ping" {
         return Order::Ping {
             address: text_in(found, "address"),

@@ -2,10 +2,13 @@
 #![tactic(auto)]
 
 mod asking;
+mod checking;
 mod serving;
+mod settings;
 mod store;
 
 use crate::asking::{ping, query, send, settle};
+use crate::checking::check;
 use crate::serving::{Setting, serve, serve_in};
 use crate::store::{list_store, play_in_store};
 use clap::Error;
@@ -103,6 +106,7 @@ fn main(rt: HostRuntime) -> io::Result<ExitCode> {
             };
             end_serve(&rt, served)
         }
+        Order::Check { config, store } => check(&rt, config, store),
         Order::Ping { address } => ping(&rt, address),
         Order::Send { address } => send(&rt, address),
         Order::Query { address, id } => query(&rt, address, id),

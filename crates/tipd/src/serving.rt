@@ -1,4 +1,5 @@
 //! The server's configuration, and its store. As with scripts, what is done with the store is said of one of any kind.
+use crate::settings::{SettingFault, settings_in};
 use sqlite::{Alter, Connection, Error, ErrorCode, File, FileStore};
 use std::alloc::Global;
 use std::net::{Net, TcpListener, TcpStream};
@@ -6,10 +7,10 @@ use std::sync::Wait;
 use std::thread::Threads;
 use std::time::Clock;
 use std::{fs, io};
-use tip_duties::{Note, ServeFault, may_be_hosted};
+use tip_duties::{Note, ServeFault};
 use tip_rows::MemRows;
 use tip_serve::host_realms;
-use tip_settings::{Config, ConfigFault, read_config};
+use tip_settings::Config;
 use tip_sql::SqlRows;
 
 /// What is served, and over which store; without one, over rows in memory.
@@ -87,18 +88,12 @@ where
     host_realms(rt, alloc, store, config, sessions, &mut output)
 }
 
-/// The configuration in a file, if its realms may be hosted together. The operator is told why it is refused.
+/// The configuration in a file. The operator is told why it is refused.
 fn read_settings(rt: &HostRuntime, path: &str) -> Result<Config, ServeFault> {
-    let bytes = fs::read(rt, path).map_err(|_| ServeFault::Read)?;
-    match read_config(rt.alloc(), &bytes) {
-        Ok(config) if may_be_hosted(&config.realms) => Ok(config),
-        Ok(_) => {
-            let _said = eprintln!(rt;
-                "tipd: event=refused-configuration why=more than 64 realms, or two of one name"
-            );
-            Err(ServeFault::Config)
-        }
-        Err(ConfigFault::Memory) => Err(ServeFault::Memory),
+    match settings_in(rt, path) {
+        Ok(config) => Ok(config),
+        Err(SettingFault::Read) => Err(ServeFault::Read),
+        Err(SettingFault::Memory) => Err(ServeFault::Memory),
         Err(fault) => {
             let _said = eprintln!(rt; "tipd: event=refused-configuration why={fault}");
             Err(ServeFault::Config)

@@ -25,10 +25,18 @@ pub returns : goal.returns
 returns c =
     let serve = sym c.eq.ensures ∙ c.if-eq.false in
     let rows = sym c.eq-2.ensures ∙ c.if-eq-2.false in
-    let ping = sym c.eq-3.ensures ∙ c.if-eq-3.false in
-    let query = sym c.eq-4.ensures ∙ c.if-eq-4.false in
-    let settle = sym c.eq-5.ensures ∙ c.if-eq-5.false in
-    let send = sym c.eq-6.ensures ∙ c.if-eq-6.false in (
-      same c.args.name.now (codes "play") (first_is _ _ c.requires (none_is _ _ serve (none_is _ _ rows (none_is _ _ ping (none_is _ _ query (none_is _ _ settle (none_is _ _ send refl))))))),
-      c.get_str.ensures ∙ first_value-rows (found_of c.args.found.now) (codes "store"),
+    let check = sym c.eq-3.ensures ∙ c.if-eq-3.false in
+    let ping = sym c.eq-4.ensures ∙ c.if-eq-4.false in
+    let query = sym c.eq-5.ensures ∙ c.if-eq-5.false in
+    let settle = sym c.eq-6.ensures ∙ c.if-eq-6.false in
+    let send = sym c.eq-7.ensures ∙ c.if-eq-7.false in (
+      same c.args.name.now (codes "play") (first_is _ _ c.requires (none_is _ _ serve (none_is _ _ rows (none_is _ _ check (none_is _ _ ping (none_is _ _ query (none_is _ _ settle (none_is _ _ send refl)))))))),
+      c.get_str-2.ensures ∙ first_value-rows (found_of c.args.found.now) (codes "store"),
     )
+
+pub returns-then-eq-3 : goal.returns-then-eq-3
+returns-then-eq-3 c = (
+  same c.args.name.now (codes "check") (sym c.eq-3.ensures ∙ c.if-eq-3.true),
+  c.get_str.ensures ∙ first_value-rows (found_of c.args.found.now) (codes "config"),
+  c.get_str-then-eq-3.ensures ∙ first_value-rows (found_of c.args.found.now) (codes "store"),
+)
