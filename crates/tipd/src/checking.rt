@@ -19,7 +19,7 @@ enum CheckFault {
     Absent,
     #[error("the file is empty")]
     Empty,
-    #[error("its log, FILE-wal, is not there: what only the log had is lost. `tipd rows` reads the file without it")]
+    #[error("its log, FILE-wal, is not there: right behind sqlite3, and for a copy that it made; else what only the log had is lost")]
     NoLog,
     #[error("another process has it open")]
     Locked,
@@ -47,7 +47,7 @@ const MISUSE: u8 = 2;
 /// Checks a configuration, with what its store has, or a store alone.
 pub fn check(rt: &HostRuntime, config: Option<&str>, store: Option<&str>) -> ExitCode {
     match (config, store) {
-        (Some(path), None) => end_check(rt, path, tell_config(rt, path)),
+        (Some(path), None) => check_config(rt, path),
         (None, Some(path)) => end_check(rt, path, tell_store(rt, path)),
         _ => {
             let _said = eprintln!(rt;
@@ -55,6 +55,14 @@ pub fn check(rt: &HostRuntime, config: Option<&str>, store: Option<&str>) -> Exi
             );
             ExitCode::from(MISUSE)
         }
+    }
+}
+
+/// Checks a configuration. What is wrong with its store is said of the store.
+fn check_config(rt: &HostRuntime, path: &str) -> ExitCode {
+    match settings_in(rt, path) {
+        Ok(config) => end_check(rt, config.store.as_str(), tell_config(rt, &config)),
+        Err(fault) => end_check(rt, path, Err(CheckFault::Setting(fault))),
     }
 }
 
@@ -84,16 +92,15 @@ fn tell_store(rt: &HostRuntime, path: &str) -> Result<bool, CheckFault> {
 
 /// Tells each realm of a configuration with what is stored of it, the realms of its store that it does not host, and what is wrong
 /// there. Whether nothing is?
-fn tell_config(rt: &HostRuntime, path: &str) -> Result<bool, CheckFault> {
+fn tell_config(rt: &HostRuntime, config: &Config) -> Result<bool, CheckFault> {
     let alloc = rt.alloc();
-    let config = settings_in(rt, path).map_err(CheckFault::Setting)?;
     let mut told = String::new(alloc);
-    let contents = stored_for(rt, &config, &mut told)?;
+    let contents = stored_for(rt, config, &mut told)?;
     for realm in &config.realms {
         tell_realm(alloc, realm, &contents, &mut told)?;
     }
     for realm in &contents.realms {
-        tell_unhosted(alloc, realm, &config, &contents, &mut told)?;
+        tell_unhosted(alloc, realm, config, &contents, &mut told)?;
     }
     let is_right = report(alloc, &contents, &mut told)?;
     tell(rt, &told)?;
