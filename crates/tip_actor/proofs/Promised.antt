@@ -13,7 +13,7 @@ use Rattle.tip_branch.specs.declared.branch.Vote.TheVariants as vote
 use Rattle.tip_branch.specs.declared.member.Errand.{Errand}
 use Rattle.tip_branch.specs.declared.member.Errand.TheVariants as errand
 use Rattle.tip_branch.specs.declared.member.Member.{Member}
-use Rattle.tip_stored.specs.Errands.{are_untold, was_done}
+use Rattle.tip_stored.specs.Errands.{was_done}
 use Rattle.tip_machine.specs.Returns.{Back, are_settlements, are_votes, can_answer, event_of, is_nil, is_settled, is_vote, keeps}
 use Rattle.tip_machine.specs.Types.{Event}
 use Rattle.tip_actor.specs.Promises.{answers_of, answers_to, are_foretold, is_promised, planned, settlements_of, vote_of, votes_of}
@@ -113,8 +113,7 @@ answers_are errand.Idle Back.Undone ms promised can called = refl
 
 pub foretells : (party : PartyNotes) (event : Event) → are_foretold party ≡ true → ((back : Back) × (can_answer party.errand back party.members ≡ true) × (was_done party.errand back ≡ true) × (event ≡ event_of party back)) → Some event ≡ (if are_foretold party then Some (event_of party (answers_of party)) else None)
 foretells party event told back =
-    let promised = (and_parts (are_untold party.members) (list_all (is_promised party.errand) party.members) told).1 in
-    rw told (ap Some (back.3 ∙ ap (event_of party) (answers_are party.errand back.0 party.members promised back.1 back.2)))
+    rw told (ap Some (back.3 ∙ ap (event_of party) (answers_are party.errand back.0 party.members told back.1 back.2)))
 
 pub foretells_nothing : (party : PartyNotes) → are_foretold party ≡ false → None ≡ (if are_foretold party then Some (event_of party (answers_of party)) else None)
 foretells_nothing party told = rw told refl

@@ -11,7 +11,6 @@ use Rattle.tip_branch.specs.declared.branch.Vote.TheVariants.{Yes}
 use Rattle.tip_branch.specs.declared.member.Errand.{Errand}
 use Rattle.tip_branch.specs.declared.member.Errand.TheVariants as errand
 use Rattle.tip_branch.specs.declared.member.Member.{Member}
-use Rattle.tip_stored.specs.Errands.{are_untold}
 use Rattle.tip_machine.specs.Returns.{Back}
 
 -- what a branch answers to a commit, by its plan
@@ -47,6 +46,6 @@ is_promised errand.Vote member = is_some (planned_vote member.standing.badge.pla
 is_promised errand.Commit member = is_some (planned member) && (not (is_late member.standing.badge.plan) || is_some member.vote)
 is_promised other member = true
 
--- nobody was called yet, and all that will be answered is promised
+-- all that a party will answer is promised
 abbrev pub are_foretold : PartyNotes → Bool
-are_foretold party = are_untold party.members && list_all (is_promised party.errand) party.members
+are_foretold party = list_all (is_promised party.errand) party.members

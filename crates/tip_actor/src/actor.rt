@@ -4,6 +4,7 @@ ghost use Rattle.std.specs.Option.{option_to_list};
 ghost use Rattle.tip_machine.specs.States.{State};
 ghost use Rattle.tip_machine.specs.declared.event.Outcome.TheVariants.{Refused};
 ghost use Rattle.tip_branch.specs.Always.{Always};
+ghost use Rattle.tip_stored.specs.Errands.{goes_uncalled};
 ghost use Rattle.tip_actor.specs.Acting.{Acting, Reading, after_sent, answer_in, happens, lost_on, refuses, still_due, with_opened};
 ghost use Rattle.tip_actor.specs.Standing.{Acts, AreReadings, IsActing, IsDone, IsServed, Serves};
 
@@ -12,17 +13,16 @@ use crate::readers::Readers;
 use crate::refusing::Refuser;
 use std::alloc::{AllocError, Global};
 use std::collections::VecDeque;
-use tip_branch::HeldParty;
 use tip_core::Happened;
 use tip_line::Realm;
 use tip_machine::{Event, Item, Outcome, Seat, Sent};
 use tip_rows::RowLog;
-use tip_stored::{StepFault, StoredCore};
+use tip_stored::{PartyOut, StepFault, StoredCore};
 use tip_transcript::{print, print_brought};
 
 /// A realm, who reads what comes on its connections, and its parties that are out.
 #[derive(Drop)]
-pub struct Actor<P = HeldParty> {
+pub struct Actor<P = PartyOut> {
     pub name: Realm,
     /// Those of the connections that it has given since its start.
     pub readers: Readers,
@@ -32,10 +32,10 @@ pub struct Actor<P = HeldParty> {
     pub is_due: bool,
 }
 
-impl Actor<HeldParty> {
+impl Actor<PartyOut> {
     /// A realm at its start, with the parties that are out.
     // A function that takes nothing that can hold boxes must not give out what can.
-    pub fn new(alloc: Global, name: Realm, errands: VecDeque<HeldParty>) -> Actor<HeldParty>
+    pub fn new(alloc: Global, name: Realm, errands: VecDeque<PartyOut>) -> Actor<PartyOut>
         requires { Always }
         ensures name { result.name ≡ name }
         ensures readers { result.readers.items ≡ [] }
@@ -99,6 +99,7 @@ impl Actor<HeldParty> {
     /// Takes in what an event has come to: a refusal that was due is over, what was read on closed connections is gone, a new
     /// connection has a reader, and a party is out.
     fn learn(&mut self, happened: Happened) -> Result<(), AllocError>
+        requires { goes_uncalled happened.answer.work ≡ true }
         ensures name { self.new.name ≡ self.old.name }
         ensures due { OnOk result (self.new.is_due ≡ still_due self.old.is_due happened.change) }
         ensures readings { (readings : List Reading) → AreReadings self.old.readers.items readings →
@@ -110,11 +111,11 @@ impl Actor<HeldParty> {
         self.is_due = self.is_due && happened.change.is_none();
         self.forget_closed(happened.answer.sent.as_slice());
         self.give(happened.answer.opened)?;
-        self.send(happened.into_work())
+        self.send(PartyOut::of(happened.into_work()))
     }
 
     /// A party goes out, if one does.
-    fn send(&mut self, work: Option<HeldParty>) -> Result<(), AllocError>
+    fn send(&mut self, work: Option<PartyOut>) -> Result<(), AllocError>
         ensures same { (self.new.name ≡ self.old.name) × (self.new.readers ≡ self.old.readers)
             × (self.new.is_due ≡ self.old.is_due) }
         ensures errands { OnOk result
@@ -176,6 +177,8 @@ fn step<S: RowLog>(
     ensures truth { S.keeping.is_true stored_core.new.store →
         S.keeping.is_true stored_core.old.store }
     ensures running { stored_core.new.is_stopped ≡ false }
+    ensures uncalled { IfOk result
+        (λ happened. goes_uncalled happened.answer.work ≡ true) }
     ensures serves { (state : State) →
         IsServed S.keeping stored_core.old place state is_due →
         IfOk result (λ happened. Serves S.keeping stored_core.old stored_core.new

@@ -8,14 +8,13 @@ ghost use Rattle.tip_actor.specs.Standing.{AreReadings, IsActing, IsFed, Tells};
 use crate::actor::Actor;
 use crate::fault::ActFault;
 use std::alloc::{AllocError, Global};
-use tip_branch::HeldParty;
 use tip_line::Id;
 use tip_machine::{Event, Seat};
 use tip_rows::RowLog;
 use tip_script::Octets;
-use tip_stored::StoredCore;
+use tip_stored::{PartyOut, StoredCore};
 
-impl Actor<HeldParty> {
+impl Actor<PartyOut> {
     /// Octets come on a connection. It says whether the realm has given that connection.
     pub fn feed(
         &mut self,

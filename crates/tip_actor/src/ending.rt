@@ -14,14 +14,13 @@ use crate::actor::Actor;
 use crate::readers::Readers;
 use std::alloc::{AllocError, Global};
 use std::collections::VecDeque;
-use tip_branch::HeldParty;
 use tip_core::Core;
 use tip_machine::PartyPlace;
 use tip_rows::RowLog;
-use tip_stored::StoredCore;
+use tip_stored::{PartyOut, StoredCore};
 use tip_transcript::print_drops;
 
-impl Actor<HeldParty> {
+impl Actor<PartyOut> {
     /// Prints the active branches that are let go where the process ends: those of the parties that are out, the oldest first,
     /// and then of those that are here.
     pub fn print_leaving<S: RowLog>(
@@ -42,7 +41,7 @@ impl Actor<HeldParty> {
     }
 
     /// The realm where the process starts again: no connection is there, and no party is out.
-    pub fn anew(self, alloc: Global) -> Actor<HeldParty>
+    pub fn anew(self, alloc: Global) -> Actor<PartyOut>
         requires { Always }
         ensures name { result.name ≡ self.name }
         ensures readers { result.readers.items ≡ [] }
@@ -63,13 +62,13 @@ impl Actor<HeldParty> {
 fn print_out(
     printed: &mut String,
     name: &str,
-    errands: &VecDeque<HeldParty>,
+    errands: &VecDeque<PartyOut>,
 ) -> Result<(), AllocError>
     ensures { OnOk result (string_bytes printed.new ≡ string_bytes printed.old
         ++ flat_map (λ party. shown_text name.now (drops_of party)) errands.now.items) }
 {
     for party in errands.iter() {
-        print_drops(printed, name, party)?;
+        print_drops(printed, name, party.party())?;
     }
     Ok(())
 }

@@ -11,13 +11,13 @@ ghost use Rattle.tip_actor.specs.Standing.{IsActing, IsDone, Tells};
 use crate::actor::Actor;
 use crate::fault::ActFault;
 use std::alloc::{AllocError, Global};
-use tip_branch::{Errand, HeldParty, Member, Plan};
+use tip_branch::{Errand, Member, Plan};
 use tip_machine::Event;
 use tip_rows::RowLog;
-use tip_stored::{StoredCore, are_untold, done};
+use tip_stored::{PartyOut, StoredCore};
 use tip_transcript::{print_drops, print_idle};
 
-impl Actor<HeldParty> {
+impl Actor<PartyOut> {
     /// The realm's oldest errand is done, and its party comes back. It says whether that can be told in a script, where each branch
     /// has promised what it answers.
     pub fn go<S: RowLog>(
@@ -64,7 +64,7 @@ impl Actor<HeldParty> {
             (drops_from acting.world.errands acting)) }
     {
         match self.errands.pop_front() {
-            Some(party) => print_drops(printed, self.name.as_str(), &party),
+            Some(party) => print_drops(printed, self.name.as_str(), party.party()),
             None => print_idle(printed, self.name.as_str()),
         }
     }
@@ -72,24 +72,23 @@ impl Actor<HeldParty> {
 
 /// A party as it comes back from its errand, where all that is answered is promised.
 #[tactic(auto, using(crate::proofs::Promised::foretelling))]
-fn foretold(party: HeldParty) -> Option<Event>
+fn foretold(party: PartyOut) -> Option<Event>
     ensures { result
         ≡ (if are_foretold party then Some (event_of party (answers_of party)) else None) }
 {
     if is_foretold(&party) {
-        Some(done(party))
+        Some(party.done())
     } else {
         None
     }
 }
 
-/// Whether nobody was called yet, and all that will be answered is promised.
-fn is_foretold(party: &HeldParty) -> bool
+/// Whether all that a party will answer is promised.
+fn is_foretold(party: &PartyOut) -> bool
     ensures { result ≡ are_foretold party.now }
 {
-    let party = party.party();
-    let members = party.members();
-    are_untold(members) && are_promised(party.errand(), members)
+    let party = party.party().party();
+    are_promised(party.errand(), party.members())
 }
 
 /// Whether all that will be answered to this errand is promised.

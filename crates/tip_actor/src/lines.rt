@@ -9,13 +9,12 @@ ghost use Rattle.tip_actor.specs.Standing.{Acts, Finds, GivesNext, IsActor, IsRe
 use crate::actor::Actor;
 use crate::fault::ActFault;
 use std::alloc::{AllocError, Global};
-use tip_branch::HeldParty;
 use tip_core::Core;
 use tip_machine::Event;
 use tip_rows::RowLog;
-use tip_stored::StoredCore;
+use tip_stored::{PartyOut, StoredCore};
 
-impl Actor<HeldParty> {
+impl Actor<PartyOut> {
     /// Lines are taken, one after another, until none may be taken.
     pub fn settle<S: RowLog>(
         &mut self,

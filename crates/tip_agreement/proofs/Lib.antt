@@ -78,6 +78,7 @@ pub mod Starts
 pub mod Superiors
 pub mod Telling
 pub mod Truthful
+pub mod Uncalled
 pub mod Voting
 pub mod Waiting
 pub mod Walking

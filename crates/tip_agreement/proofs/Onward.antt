@@ -39,6 +39,7 @@ use Rattle.tip_agreement.proofs.Around.{found_altered, other_found, other_left}
 use Rattle.tip_agreement.proofs.Keys.{apart_without, keys_changed, keys_of}
 use Rattle.tip_agreement.proofs.Owned.{key_found}
 use Rattle.tip_agreement.proofs.Speaking.{MayLet, StillFits, altered_fits, give_fits, ids_differ, is_told_commit, let_fits, may_go, over_fits, placed_fits}
+use Rattle.tip_agreement.proofs.Uncalled.{none_called}
 use Rattle.tip_agreement.proofs.Wording.{Fits, word_at, are_said, speaks_of}
 
 -- ONE TRANSACTION
@@ -291,10 +292,6 @@ none_forgets p same (m ∷ ms) = λ i. same m i || none_forgets p same ms i
 all_forget : (p : Member → Bool) → ((m : Member) → p (forgetting m) ≡ p m) → (ms : List Member) → list_all p (map forgetting ms) ≡ list_all p ms
 all_forget p same [] = refl
 all_forget p same (m ∷ ms) = λ i. same m i && all_forget p same ms i
-
-none_called : (ms : List Member) → list_all (λ (m : Member). is_none m.call) (map forgetting ms) ≡ true
-none_called [] = refl
-none_called (m ∷ ms) = none_called ms
 
 -- how a party can be given an errand
 abbrev pub CanGo : Errand → PartyNotes → Type 0

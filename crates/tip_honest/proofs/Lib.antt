@@ -5,4 +5,3 @@ pub mod Chained
 pub mod Agreed
 pub mod Boxes
 pub mod Hosting
-pub mod Untold

@@ -1,6 +1,5 @@
 //! Laws of a realm's journals, each carried by a function that does nothing.
 ghost use Rattle.std.specs.Prelude.{◌≡◌, ◌++◌, ◌∷◌, [], ℕ, true, List};
-ghost use Rattle.std.specs.List.{list_all};
 ghost use Rattle.tip_branch.specs.Notes.{PartyNotes};
 ghost use Rattle.tip_branch.specs.declared.branch.Badge.{Badge};
 ghost use Rattle.tip_journal.specs.Journal.{begun};
@@ -16,7 +15,6 @@ ghost use Rattle.tip_machine.specs.Starting.{IsStart};
 ghost use Rattle.tip_machine.specs.States.{State};
 ghost use Rattle.tip_machine.specs.Types.{Event};
 ghost use Rattle.tip_machine.specs.declared.event.Outcome.{Outcome};
-ghost use Rattle.tip_agreement.specs.Truth.{is_uncalled};
 ghost use Rattle.tip_honest.specs.Honesty.{AreHonest, IsFirst, Journal, MayBeOver, StandsForLast, are_boxed, noted, rows_of};
 ghost use Rattle.tip_honest.specs.Hosts.{AreAllHonest, HasCome, IsLost, IsRenewed, Known};
 
@@ -56,12 +54,6 @@ pub fn an_errand_that_is_out_may_be_over()
         picked place world.errands ≡ party ∷ rest →
         can_answer party.errand back party.members ≡ true →
         MayBeOver world journals place back }
-{}
-
-/// Whoever is out was told nothing since the errand was given.
-pub fn whoever_is_out_was_told_nothing()
-    ensures { (world : World) (journals : List Journal) → AreHonest world journals →
-        list_all is_uncalled world.errands ≡ true }
 {}
 
 /// AGREEMENT of honest journals: where the first of them begins as a run may begin, no transaction of the realm is half

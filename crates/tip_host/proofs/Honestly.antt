@@ -1,17 +1,13 @@
 -- What happens at a host leaves its realms honest.
 use Rattle.std.proofs.Common.{◌≡◌, ◌≢◌, ◌∙◌, ◌==◌, ◌+◌, ◌^◌, ◌<◌, ◌++◌, ◌∷◌, [], ℕ, zero, suc, Bool, true, false, cond, List, Option, Some, None, append_assoc, append-nil, arith, length, refl, ap, sym, subst, inl, inr}
 use Rattle.std.specs.Prelude.{IfSome, IsSomeAnd, remove, slice_get}
-use Rattle.std.specs.List.{list_all}
 use Rattle.std.specs.Option.{option_and_then, option_map, option_to_list}
-use Rattle.std.proofs.lemmas.Bool.{and_parts}
 use Rattle.std.proofs.lemmas.Bool.Decides.{nat_tests}
 use Rattle.std.proofs.lemmas.Option.{none-some, same_Some}
-use Rattle.tip_agreement.specs.Truth.{is_uncalled}
 use Rattle.tip_branch.specs.Notes.{PartyNotes}
 use Rattle.tip_core.specs.Hosted.{Hosted, Steps, realm}
 use Rattle.tip_honest.proofs.Hosting.{all_elsewhere, all_lost, all_same, all_stepped}
 use Rattle.tip_honest.proofs.Standing.{stands_for_last}
-use Rattle.tip_honest.proofs.Untold.{all_untold}
 use Rattle.tip_honest.specs.Honesty.{AreHonest, Journal, StandsFor}
 use Rattle.tip_honest.specs.Hosts.{AreAllHonest, AreOthersKept, Brings, HasCome, IsHonestAt, IsSame}
 use Rattle.tip_journal.proofs.HistoryLemmas.{length-changed_at, within-current}
@@ -214,21 +210,6 @@ still_honest core core' old new same count retired honest = record {
 } where
   journals_count : length old.journals ≡ length new.journals
   journals_count = sym (length_bare old.journals) ∙ sym (ap length same.journals) ∙ length_bare new.journals
-
--- WHO WAITS was told nothing since the errand was given
-
-pub untold_work : (core : Hosted) (books : Books) → IsHonest core books → (place : ℕ) → list_all is_uncalled (of books.work place) ≡ true
-untold_work core books honest place = by (realm core place) refl where
-  back : (xs ys : List PartyNotes) → list_all is_uncalled (xs ++ ys) ≡ true → list_all is_uncalled ys ≡ true
-  back [] ys all = all
-  back (x ∷ xs) ys all = back xs ys (and_parts (is_uncalled x) (list_all is_uncalled (xs ++ ys)) all).1
-
-  by : (s : Option State) → realm core place ≡ s → list_all is_uncalled (of books.work place) ≡ true
-  by (Some state) here = let own = own_honest core books honest place state here in back (of books.out place) (of books.work place) (all_untold _ (honest.gone place ++ own.0) own.3)
-  by None absent = back (of books.out place) (of books.work place) (ap (list_all is_uncalled) (nobody (slice_get (behind honest.gone (bare books.journals)) place) (subst (λ s. IsHonestAt s (out_of books place) (rows_at books.rows place) (slice_get (behind honest.gone (bare books.journals)) place)) absent (honest.all place)))) where
-    nobody : (found : Option (List Journal)) → IsHonestAt None (out_of books place) (rows_at books.rows place) found → out_of books place ≡ []
-    nobody None is = is
-    nobody (Some js) is = absurd is
 
 -- WHO IS LOST is out no more, and every other realm's parties are out still
 pub left_apart : (out' out : Kept PartyNotes) (place spot at : ℕ) (sent : PartyNotes) → WasSent out place sent spot at → ((realm : ℕ) → of out' realm ≡ left_in (Some spot) out realm) → (other : ℕ) → other ≢ place → of out' other ≡ of out other

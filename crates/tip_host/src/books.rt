@@ -2,11 +2,12 @@
 
 use crate::opening::Opening;
 use std::marker::Model;
-use tip_branch::{HeldParty, PartyNote};
+use tip_branch::PartyNote;
 use tip_honest::Entry;
 use tip_journal::{Journals, Retired};
 use tip_kept::KeptRows;
 use tip_outbox::Outboxes;
+use tip_stored::PartyOut;
 use tip_table::Table;
 
 /// What a host keeps of its realms beside its stored core.
@@ -20,7 +21,7 @@ pub(crate) struct Books {
     /// The stored rows, as the store has answered.
     pub(crate) rows: KeptRows,
     /// Parties that wait to be taken out for their errand.
-    pub(crate) work: Table<HeldParty>,
+    pub(crate) work: Table<PartyOut>,
     /// How those were sent that were taken out.
     pub(crate) out: Table<PartyNote>,
 }

@@ -1,7 +1,5 @@
 //! Parties that are taken out of a host for their errand, and that come back.
 ghost use Rattle.std.specs.Prelude.{◌≡◌, ◌≢◌, ◌↔◌, ◌++◌, ℕ, true, false, Some, find, option_map, IfErr, IfOk, IfNone, IfSome, OnErr, OnOk};
-ghost use Rattle.std.specs.List.{list_all};
-ghost use Rattle.tip_agreement.specs.Truth.{is_uncalled};
 ghost use Rattle.tip_branch.specs.Always.{Always};
 ghost use Rattle.tip_table.specs.Kept.{of};
 ghost use Rattle.tip_host.specs.Books.{left_in, out_of};
@@ -14,21 +12,22 @@ use crate::host::{Host, HostFault};
 use crate::reply::Reply;
 use crate::work::{Returned, Work};
 use std::alloc::{AllocError, Global};
-use tip_branch::{HeldParty, PartyNote};
+use tip_branch::PartyNote;
 use tip_honest::Entry;
 use tip_journal::Pass;
 use tip_rows::RowLog;
+use tip_stored::PartyOut;
 use tip_table::{Table, Test};
 
 /// Any party.
 struct Any;
 
-impl Test<HeldParty> for Any {
+impl Test<PartyOut> for Any {
     ghost use Rattle.std.specs.Prelude.{true};
 
     ghost passes = { λ _ party. true };
 
-    fn passes(&self, _: &HeldParty) -> bool {
+    fn passes(&self, _: &PartyOut) -> bool {
         true
     }
 }
@@ -110,7 +109,7 @@ impl<S: RowLog + Drop> Host<S> {
 
     /// A party that was taken out of a realm is given up, its errand undone: it is out no more, and is let go by whoever drops it,
     /// where nothing waits for the host. It is no event and has no entry. Who is not out is handed back.
-    pub fn lose(&mut self, work: Work) -> Result<HeldParty, Work>
+    pub fn lose(&mut self, work: Work) -> Result<PartyOut, Work>
         requires { Always }
         ensures party { IfOk result (λ party. party ≡ work.sent) }
         ensures was { OnOk result (IsOut self.old work.realm work.sent) }
@@ -154,8 +153,7 @@ fn give_up(books: &mut Books, realm: usize, sent: &PartyNote) -> bool
 
 /// The oldest party of a realm that waits for its errand goes out.
 fn take_from(alloc: Global, books: &mut Books, realm: usize) -> Result<Option<Work>, AllocError>
-    requires always { Always }
-    requires untold { list_all is_uncalled (of books.old.work realm) ≡ true }
+    requires { Always }
     ensures takes { IfOk result (λ found. Takes realm (option_map (λ party. party.sent) found)
         books.old.work books.new.work books.old.out books.new.out) }
     ensures realm { IfOk result (λ found. IfSome found (λ work. work.realm ≡ realm)) }
@@ -171,12 +169,11 @@ fn take_from(alloc: Global, books: &mut Books, realm: usize) -> Result<Option<Wo
 /// The oldest party of a realm that waits for its errand goes out, and how it was sent is noted.
 fn take_oldest(
     alloc: Global,
-    work: &mut Table<HeldParty>,
+    work: &mut Table<PartyOut>,
     out: &mut Table<PartyNote>,
     realm: usize,
 ) -> Result<Option<Work>, AllocError>
-    requires always { Always }
-    requires untold { list_all is_uncalled (of work.old realm) ≡ true }
+    requires { Always }
     ensures takes { IfOk result (λ found. Takes realm (option_map (λ party. party.sent) found)
         work.old work.new out.old out.new) }
     ensures realm { IfOk result (λ found. IfSome found (λ work. work.realm ≡ realm)) }
@@ -188,8 +185,9 @@ fn take_oldest(
     let Some(place) = work.find(realm, &Any) else {
         return Ok(None);
     };
-    let noted = PartyNote::of(alloc, work.item(place))?;
-    let sent = PartyNote::of(alloc, work.item(place))?;
+    let party = work.item(place).party();
+    let noted = PartyNote::of(alloc, party)?;
+    let sent = PartyNote::of(alloc, party)?;
     out.reserve()?;
     out.add(realm, noted);
     Ok(Some(Work::new(realm, work.remove(place), sent)))

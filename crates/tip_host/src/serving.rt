@@ -9,6 +9,7 @@ ghost use Rattle.tip_machine.specs.Moves.{rows_after};
 ghost use Rattle.tip_machine.specs.States.{State};
 ghost use Rattle.tip_machine.specs.Types.{Event as AnEvent};
 ghost use Rattle.tip_outbox.specs.Waiting.{IsSettled};
+ghost use Rattle.tip_stored.specs.Errands.{goes_uncalled};
 ghost use Rattle.tip_table.specs.Kept.{of, places};
 ghost use Rattle.tip_host.specs.Books.{HasSpace, IsSeen, Writes, left_in};
 ghost use Rattle.tip_host.specs.Hosts.{IsOf};
@@ -19,12 +20,13 @@ use crate::books::Books;
 use crate::noting::{Noting, enter, prepare};
 use crate::reply::Reply;
 use std::alloc::{AllocError, Global};
-use tip_branch::{HeldParty, PartyNote};
+use tip_branch::PartyNote;
 use tip_core::{Core, Happened, Room};
 use tip_honest::Entry;
 use tip_journal::Pass;
 use tip_kept::KeptRows;
 use tip_machine::{Change, Event, Outcome};
+use tip_stored::PartyOut;
 use tip_table::Table;
 
 /// What an event needs beforehand: its entry, if it takes one, and the change of the stored rows that it wants, if any.
@@ -94,6 +96,7 @@ pub(crate) fn finish(
     requires work { 0 < books.old.work.free }
     requires rows { IfSome ready.change (λ _. 0 < room_at books.old.rows realm) }
     requires back { IfSome back (λ place. IsSome (places books.old.out place)) }
+    requires uncalled { goes_uncalled happened.answer.work ≡ true }
     ensures is { IsOf realm result happened.answer }
     ensures change { result.change ≡ happened.change }
     ensures outcome { result.outcome ≡ happened.outcome }
@@ -111,7 +114,7 @@ pub(crate) fn finish(
     take_back(&mut books.out, back);
     let (reply, lines, work) = Reply::of(realm, happened, entry);
     books.outboxes.send(realm, lines);
-    go_out(&mut books.work, realm, work);
+    go_out(&mut books.work, realm, PartyOut::of(work));
     reply
 }
 
@@ -139,7 +142,7 @@ fn take_back(out: &mut Table<PartyNote>, back: Option<usize>)
 }
 
 /// Who goes out, if anybody does, waits to be taken. It takes room that is there.
-fn go_out(work: &mut Table<HeldParty>, realm: usize, party: Option<HeldParty>)
+fn go_out(work: &mut Table<PartyOut>, realm: usize, party: Option<PartyOut>)
     requires always { Always }
     requires room { 0 < work.old.free }
     ensures own { of work.new realm ≡ of work.old realm ++ option_to_list party }

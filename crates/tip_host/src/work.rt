@@ -1,14 +1,13 @@
 //! Parties that are out for their errand, and that come back from it.
-ghost use Rattle.std.specs.Prelude.{◌≡◌, true, IfOk};
+ghost use Rattle.std.specs.Prelude.{◌≡◌, IfOk};
 ghost use Rattle.tip_branch.specs.Always.{Always};
 ghost use Rattle.tip_host.specs.Works.{ComesFrom, IsDone};
-ghost use Rattle.tip_stored.specs.Errands.{are_untold};
 
 use std::alloc::{AllocError, Global};
 use std::marker::Model;
-use tip_branch::{HeldParty, PartyNote};
+use tip_branch::PartyNote;
 use tip_machine::Event;
-use tip_stored::done;
+use tip_stored::PartyOut;
 
 /// A party that is out for its errand, and how it was sent. Only a host gives it out. One that is dropped is lost: its active
 /// branches are rolled back.
@@ -16,10 +15,9 @@ use tip_stored::done;
 pub struct Work {
     /// The place of its realm in the order of declaration.
     realm: usize,
-    party: HeldParty,
+    party: PartyOut,
     sent: PartyNote,
     ghost as_sent: { party ≡ sent },
-    ghost untold: { are_untold party.members ≡ true },
 }
 
 /// A party that comes back as its errand leaves it, and how it was sent. Only `Work::done` gives it out.
@@ -42,9 +40,8 @@ impl Model for Returned {
 
 impl Work {
     /// A party of a realm goes out that was sent so. It takes no memory.
-    pub(crate) fn new(realm: usize, party: HeldParty, sent: PartyNote) -> Work
-        requires as_sent { party ≡ sent }
-        requires untold { are_untold party.members ≡ true }
+    pub(crate) fn new(realm: usize, party: PartyOut, sent: PartyNote) -> Work
+        requires { party ≡ sent }
         ensures realm { result.realm ≡ realm }
         ensures sent { result.sent ≡ sent }
     {
@@ -69,7 +66,7 @@ impl Work {
     pub fn noted(&self, alloc: Global) -> Result<PartyNote, AllocError>
         ensures { IfOk result (λ note. note ≡ self.now.sent) }
     {
-        PartyNote::of(alloc, &self.party)
+        PartyNote::of(alloc, self.party.party())
     }
 
     /// Does the errand: its branches are asked, or told. This calls the branches, and is called where nothing waits for the host.
@@ -80,12 +77,12 @@ impl Work {
         ensures came { IsDone self.sent result.event }
     {
         let Work { realm, party, sent } = self;
-        let event = done(party);
+        let event = party.done();
         Returned { realm, event, sent }
     }
 
     /// The party, its errand undone.
-    pub(crate) fn into_party(self) -> HeldParty
+    pub(crate) fn into_party(self) -> PartyOut
         requires { Always }
         ensures { result ≡ self.sent }
     {

@@ -45,6 +45,8 @@ use Rattle.tip_rules.specs.contracts.realms.Realms
 use Rattle.tip_core.specs.contracts.machine.Core
 use Rattle.tip_core.specs.contracts.machine.Core.TheInside as InCore
 use Rattle.tip_stored.proofs.stored_core.StoredCore.TheSendSync as stored
+use Rattle.tip_stored.specs.contracts.errands.PartyOut
+use Rattle.tip_stored.specs.contracts.errands.PartyOut.TheInside as InOut
 use Rattle.tip_table.proofs.table.Table.TheSendSync as table
 use Rattle.tip_table.specs.contracts.table.Table
 use Rattle.tip_journal.proofs.journals.Journals.TheSendSync as journals
@@ -109,8 +111,11 @@ module _ (D : RattleType) (g : Ghosts D.Denot) (boxed : IsSend (DynBox.the_row D
   pub core_send : IsSend (Core.the_row D g)
   core_send = view_send (InCore.the_row D g) _ _ _ _ (recorded_send (InCore.the_field D g).row _ _ (InCore.the_type D g).to_one (struct_send (Declared.shape (InCore.the_type D g)) (realms_send, (turns.the_send, tt))))
 
-  work_send : IsSend (Table.the_row (HeldParty.the_row D g) Global.the_row TheImpl.ghosts)
-  work_send = table.the_send (HeldParty.the_row D g) Global.the_row TheImpl.ghosts held_party_send global.the_send heap.the_frees
+  party_out_send : IsSend (PartyOut.the_row D g)
+  party_out_send = view_send (InOut.the_row D g) _ _ _ _ (recorded_send (InOut.the_field D g).row _ _ (InOut.the_type D g).to_one (struct_send (Declared.shape (InOut.the_type D g)) (held_party_send, tt)))
+
+  work_send : IsSend (Table.the_row (PartyOut.the_row D g) Global.the_row TheImpl.ghosts)
+  work_send = table.the_send (PartyOut.the_row D g) Global.the_row TheImpl.ghosts party_out_send global.the_send heap.the_frees
 
   out_send : IsSend (Table.the_row PartyNote.the_row Global.the_row TheImpl.ghosts)
   out_send = table.the_send PartyNote.the_row Global.the_row TheImpl.ghosts note.the_send global.the_send heap.the_frees

@@ -3,6 +3,8 @@ use Rattle.std.proofs.Common.{◌≡◌, ℕ, Bool, true, false, cond, List, [],
 use Rattle.std.specs.Prelude.{IfSome, is_none}
 use Rattle.std.proofs.lemmas.Bool.{and_parts}
 use Rattle.std.specs.Bool.{MatchBool}
+use Rattle.std.specs.List.{list_all}
+use Rattle.tip_agreement.specs.Truth.{is_uncalled}
 use Rattle.tip_branch.specs.Errands.{IsAsked, IsCarriedOut, IsToldAbort, IsToldCommit, is_vote_of_no}
 use Rattle.tip_branch.specs.Members.{aborting, committing, is_active, is_active_phase, is_no, is_ready, is_ready_phase, promised_answer, voting}
 use Rattle.tip_branch.specs.Notes.{ComesBack, PartyNotes}
@@ -17,10 +19,14 @@ use Rattle.tip_branch.specs.declared.member.Call.{Call}
 use Rattle.tip_branch.specs.declared.member.Errand.{Errand}
 use Rattle.tip_branch.specs.declared.member.Errand.TheVariants as errand
 use Rattle.tip_branch.specs.declared.member.Member.{Member}
-use Rattle.tip_stored.specs.Errands.{are_untold, was_done}
+use Rattle.tip_stored.specs.Errands.{was_done}
 use Rattle.tip_machine.specs.Types.{Event}
 use Rattle.tip_machine.specs.declared.event.Event.TheVariants as event
 use Rattle.tip_machine.specs.Returns.{Back, aborted_if_ready, are_settlements, are_votes, can_answer, event_of, is_settled, is_vote, keeps, settled_by, voted_by}
+
+-- nobody of these was called since the errand was given
+abbrev are_uncalled : List Member → Bool
+are_uncalled members = list_all (λ member. is_none member.call) members
 
 -- Votes
 
@@ -52,10 +58,10 @@ others_go_on : (e : Errand) (o : Option Call) (ms ns : List Member) → is_none 
 others_go_on e None ms ns none rest = rest
 others_go_on e (Some call) ms ns none rest = absurd (cc)
 
-voted : (ms ns : List Member) → are_untold ms ≡ true → IsCarriedOut errand.Vote ms ns → HasVotes ms ns
-voted [] ns untold carried = record { votes = []; can = refl; are = carried }
-voted (m ∷ ms) [] untold carried = absurd carried
-voted (m ∷ ms) (n ∷ ns) untold carried = at (and_parts (is_none m.call) (are_untold ms) untold).0 (voted ms ns (and_parts (is_none m.call) (are_untold ms) untold).1) m.standing.phase refl carried.0 carried.1 where
+voted : (ms ns : List Member) → are_uncalled ms ≡ true → IsCarriedOut errand.Vote ms ns → HasVotes ms ns
+voted [] ns uncalled carried = record { votes = []; can = refl; are = carried }
+voted (m ∷ ms) [] uncalled carried = absurd carried
+voted (m ∷ ms) (n ∷ ns) uncalled carried = at (and_parts (is_none m.call) (are_uncalled ms) uncalled).0 (voted ms ns (and_parts (is_none m.call) (are_uncalled ms) uncalled).1) m.standing.phase refl carried.0 carried.1 where
   Next : Type 0
   Next = IsCarriedOut errand.Vote ms ns → HasVotes ms ns
 
@@ -96,10 +102,10 @@ pass_over m ms ns idle others = by others.answers others.can others.are where
   by [] can are = record { answers = []; can = rw (idle, can) refl; are = ap (λ l. m ∷ l) (are ∙ no_answers ms) }
   by (s ∷ answers) can are = record { answers = s ∷ answers; can = rw idle can; are = rw idle (ap (λ l. m ∷ l) are) }
 
-committed : (ms ns : List Member) → are_untold ms ≡ true → IsCarriedOut errand.Commit ms ns → HasAnswers ms ns
-committed [] ns untold carried = record { answers = []; can = refl; are = carried }
-committed (m ∷ ms) [] untold carried = absurd carried
-committed (m ∷ ms) (n ∷ ns) untold carried = at (and_parts (is_none m.call) (are_untold ms) untold).0 (committed ms ns (and_parts (is_none m.call) (are_untold ms) untold).1) m.standing.phase refl carried.0 carried.1 where
+committed : (ms ns : List Member) → are_uncalled ms ≡ true → IsCarriedOut errand.Commit ms ns → HasAnswers ms ns
+committed [] ns uncalled carried = record { answers = []; can = refl; are = carried }
+committed (m ∷ ms) [] uncalled carried = absurd carried
+committed (m ∷ ms) (n ∷ ns) uncalled carried = at (and_parts (is_none m.call) (are_uncalled ms) uncalled).0 (committed ms ns (and_parts (is_none m.call) (are_uncalled ms) uncalled).1) m.standing.phase refl carried.0 carried.1 where
   Next : Type 0
   Next = IsCarriedOut errand.Commit ms ns → HasAnswers ms ns
 
@@ -131,11 +137,11 @@ no_vote false m none = by m.call none where
   by None is = refl
   by (Some call) is = absurd (cc)
 
-aborted : (ms ns : List Member) → are_untold ms ≡ true → IsCarriedOut errand.Abort ms ns → ns ≡ map aborted_if_ready ms
-aborted [] ns untold carried = carried
-aborted (m ∷ ms) [] untold carried = absurd carried
-aborted (m ∷ ms) (n ∷ ns) untold carried =
-    let here = and_parts (is_none m.call) (are_untold ms) untold in
+aborted : (ms ns : List Member) → are_uncalled ms ≡ true → IsCarriedOut errand.Abort ms ns → ns ≡ map aborted_if_ready ms
+aborted [] ns uncalled carried = carried
+aborted (m ∷ ms) [] uncalled carried = absurd carried
+aborted (m ∷ ms) (n ∷ ns) uncalled carried =
+    let here = and_parts (is_none m.call) (are_uncalled ms) uncalled in
     let told = abort_told m.standing.phase m n carried.0 in
     let rest = subst (λ b. MatchBool b (ns ≡ ms) (IsCarriedOut errand.Abort ms ns)) (ap (λ (k : Member). is_vote_of_no k.call) told ∙ no_vote (is_ready m) m here.0) carried.1 in
     ap (λ k. k ∷ ns) told ∙ ap (λ l. aborted_if_ready m ∷ l) (aborted ms ns here.1 rest)
@@ -145,28 +151,28 @@ aborted (m ∷ ms) (n ∷ ns) untold carried =
 abbrev Returns : PartyNotes → Event → Type 0
 Returns party event = (back : Back) × (can_answer party.errand back party.members ≡ true) × (was_done party.errand back ≡ true) × (event ≡ event_of party back)
 
-pub returns_voted : (party later : PartyNotes) → are_untold party.members ≡ true → party.errand ≡ errand.Vote → ComesBack party later → Returns party (event.Voted later)
-returns_voted party later untold errand_is back =
-    let votes = voted party.members later.members untold (subst (λ e. IsCarriedOut e party.members later.members) errand_is back.carried_out) in (
+pub returns_voted : (party later : PartyNotes) → is_uncalled party ≡ true → party.errand ≡ errand.Vote → ComesBack party later → Returns party (event.Voted later)
+returns_voted party later uncalled errand_is back =
+    let votes = voted party.members later.members uncalled (subst (λ e. IsCarriedOut e party.members later.members) errand_is back.carried_out) in (
       Back.Votes votes.votes,
       rw errand_is votes.can,
       rw errand_is refl,
       ap event.Voted (back.rest ∙ ap (λ ms. record party { errand = errand.Idle; members = ms }) votes.are) ∙ rw errand_is refl,
     )
 
-pub returns_settled : (party later : PartyNotes) → are_untold party.members ≡ true → (party.errand ≡ errand.Commit) ⊎ (party.errand ≡ errand.Abort) → ComesBack party later → Returns party (event.Settled later)
-returns_settled party later untold (inl errand_is) back =
-    let answers = committed party.members later.members untold (subst (λ e. IsCarriedOut e party.members later.members) errand_is back.carried_out) in (
+pub returns_settled : (party later : PartyNotes) → is_uncalled party ≡ true → (party.errand ≡ errand.Commit) ⊎ (party.errand ≡ errand.Abort) → ComesBack party later → Returns party (event.Settled later)
+returns_settled party later uncalled (inl errand_is) back =
+    let answers = committed party.members later.members uncalled (subst (λ e. IsCarriedOut e party.members later.members) errand_is back.carried_out) in (
       Back.Settlements answers.answers,
       rw errand_is answers.can,
       rw errand_is refl,
       ap event.Settled (back.rest ∙ ap (λ ms. record party { errand = errand.Idle; members = ms }) answers.are) ∙ rw errand_is refl,
     )
-returns_settled party later untold (inr errand_is) back = (
+returns_settled party later uncalled (inr errand_is) back = (
   Back.Aborted,
   rw errand_is refl,
   rw errand_is refl,
-  ap event.Settled (back.rest ∙ ap (λ ms. record party { errand = errand.Idle; members = ms }) (aborted party.members later.members untold (subst (λ e. IsCarriedOut e party.members later.members) errand_is back.carried_out))) ∙ rw errand_is refl,
+  ap event.Settled (back.rest ∙ ap (λ ms. record party { errand = errand.Idle; members = ms }) (aborted party.members later.members uncalled (subst (λ e. IsCarriedOut e party.members later.members) errand_is back.carried_out))) ∙ rw errand_is refl,
 )
 
 -- one that has nothing to do comes back as it is

@@ -1,14 +1,15 @@
 -- Errands of parties that are out.
-use Rattle.std.specs.Prelude.{Bool, true, List, is_none}
-use Rattle.std.specs.List.{list_all}
+use Rattle.std.specs.Prelude.{Bool, true, Option}
+use Rattle.std.specs.Option.{option_map_or}
+use Rattle.tip_agreement.specs.Truth.{is_uncalled}
+use Rattle.tip_branch.specs.Notes.{PartyNotes}
 use Rattle.tip_branch.specs.declared.member.Errand.{Errand}
 use Rattle.tip_branch.specs.declared.member.Errand.TheVariants as errand
-use Rattle.tip_branch.specs.declared.member.Member.{Member}
 use Rattle.tip_machine.specs.Returns.{Back, is_done}
 
--- nobody was called since the errand was given
-abbrev pub are_untold : List Member → Bool
-are_untold members = list_all (λ member. is_none member.call) members
+-- who goes out, if anybody does, was not called since its errand was given
+abbrev pub goes_uncalled : Option PartyNotes → Bool
+goes_uncalled work = option_map_or is_uncalled work true
 
 -- the errand's calls were made; one that has nothing to do makes none
 abbrev pub was_done : Errand → Back → Bool

@@ -9,7 +9,7 @@ mod recovering;
 mod renewing;
 mod stored_core;
 
-pub use errands::{are_untold, done};
+pub use errands::PartyOut;
 pub use loading::LoadFault;
 pub use realm_spec::{BadRealm, RealmSpec};
 pub use recovering::{Recovering, Unadopted};

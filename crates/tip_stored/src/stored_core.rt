@@ -4,6 +4,7 @@ ghost use Rattle.tip_branch.specs.Always.{Always};
 ghost use Rattle.tip_core.specs.Hosted.{realm as realm_at, HaveNames, IsRoomFor, Steps};
 ghost use Rattle.tip_machine.specs.States.{State};
 ghost use Rattle.tip_machine.specs.Steps.{fits, wants};
+ghost use Rattle.tip_stored.specs.Errands.{goes_uncalled};
 ghost use Rattle.tip_stored.specs.Keeping.{Happens, Keeps};
 ghost use Rattle.tip_stored.specs.declared.stored_core.StepFault.TheVariants.{Stopped};
 
@@ -74,12 +75,13 @@ impl<S: RowLog> StoredCore<S, Core> {
     }
 
     /// One event of one realm, in the room that was made for it: the change that it wants is asked of the store, at most one;
-    /// then its realm goes on by what became of it. It takes no memory.
+    /// then its realm goes on by what became of it. It takes no memory. Who goes out was not called since its errand was given.
     pub fn happen(&mut self, realm: usize, event: Event, room: Room) -> Happened
         requires always { Always }
         requires room { IsRoomFor self.old.core realm event room }
         ensures happens { Happens S.keeping self.old self.new
             realm event result }
+        ensures uncalled { goes_uncalled result.answer.work ≡ true }
         ensures change { result.change ≡ room.change }
         ensures stopped { self.new.is_stopped ≡ self.old.is_stopped }
     {
@@ -100,6 +102,8 @@ impl<S: RowLog> StoredCore<S, Core> {
         requires { Always }
         ensures happens { IfOk result (Happens S.keeping
             self.old self.new realm event) }
+        ensures uncalled { IfOk result
+            (λ happened. goes_uncalled happened.answer.work ≡ true) }
         ensures back { IfErr result (λ fault. fault.1 ≡ event) }
         ensures store { IfErr result (λ fault. self.new.store ≡ self.old.store) }
         ensures realms { IfErr result

@@ -1,15 +1,17 @@
 //! What north is taken through, act by act.
+ghost use Rattle.std.specs.Prelude.{◌≡◌, true};
 ghost use Rattle.tip_branch.specs.Always.{Always};
+ghost use Rattle.tip_stored.specs.Errands.{goes_uncalled};
 
 use super::realms::NORTH;
 use std::alloc::Global;
 use std::test::Fail;
-use tip_branch::{HeldFresh, HeldParty};
+use tip_branch::HeldFresh;
 use tip_core::Happened;
 use tip_line::{Address, Id};
 use tip_machine::{Answer, Event, Heard, Outcome, Purpose, Seat};
 use tip_rows::RowLog;
-use tip_stored::{StoredCore, are_untold, done};
+use tip_stored::{PartyOut, StoredCore};
 
 /// One act. Lines come on the connection that was opened last.
 #[derive(Clone, Copy)]
@@ -85,7 +87,7 @@ fn event(
     act: Act,
     seat: Option<Seat>,
     boxes: &mut Option<HeldFresh>,
-    work: &mut Option<HeldParty>,
+    work: &mut Option<PartyOut>,
 ) -> Result<Event, Fail>
     requires { Always }
 {
@@ -139,13 +141,11 @@ fn line(alloc: Global, seat: Option<Seat>, text: &str) -> Result<Event, Fail> {
     Ok(Event::Line { seat, heard })
 }
 
-fn returned(work: Option<HeldParty>) -> Result<Event, Fail>
+fn returned(work: Option<PartyOut>) -> Result<Event, Fail>
     requires { Always }
 {
-    match work {
-        Some(work) if are_untold(work.party().members()) => Ok(done(work)),
-        _ => Err(Fail::from("a party is out, and none of its branches was called")),
-    }
+    let party = work.ok_or("a party is out")?;
+    Ok(party.done())
 }
 
 /// One event of north.
@@ -154,7 +154,7 @@ fn stepped<S: RowLog>(
     stored_core: &mut StoredCore<S>,
     event: Event,
     reached: Reached,
-    work: &mut Option<HeldParty>,
+    work: &mut Option<PartyOut>,
 ) -> Result<Reached, Fail>
     requires { Always }
 {
@@ -165,12 +165,8 @@ fn stepped<S: RowLog>(
 }
 
 /// How far it is after an event. Where its change was refused the answer is thrown away.
-fn noted(
-    happened: Happened,
-    reached: Reached,
-    work: &mut Option<HeldParty>,
-) -> Result<Reached, Fail>
-    requires { Always }
+fn noted(happened: Happened, reached: Reached, work: &mut Option<PartyOut>) -> Result<Reached, Fail>
+    requires { goes_uncalled happened.answer.work ≡ true }
 {
     let Happened {
         outcome,
@@ -193,9 +189,9 @@ fn answered(
     answer: Answer,
     seat: Option<Seat>,
     changes: usize,
-    work: &mut Option<HeldParty>,
+    work: &mut Option<PartyOut>,
 ) -> Result<Reached, Fail>
-    requires { Always }
+    requires { goes_uncalled answer.work ≡ true }
 {
     let Answer {
         refusal,
@@ -207,7 +203,7 @@ fn answered(
         return Err(Fail::from("each act is in its turn"));
     }
     if out.is_some() {
-        *work = out;
+        *work = PartyOut::of(out);
     }
     Ok(Reached {
         seat: opened.or(seat),

@@ -1,7 +1,7 @@
 use Rattle.std.proofs.Common.{◌≡◌, List, drop}
 use Rattle.tip_actor.specs.Acting.{Reading, after_sent}
 use Rattle.tip_actor.specs.Standing.{AreReadings}
-use Rattle.tip_actor.proofs.actor.Actor+HeldParty.forget_closed.Given as goal
+use Rattle.tip_actor.proofs.actor.Actor+PartyOut.forget_closed.Given as goal
 
 -- what was read on the connections closed so far is gone
 abbrev pub invariant-loop-sent : goal.invariant-loop-sent

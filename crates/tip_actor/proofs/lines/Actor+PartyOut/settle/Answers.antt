@@ -2,7 +2,7 @@
 use Rattle.std.proofs.Common.{string_bytes, subst}
 use Rattle.tip_actor.specs.Standing.{Finds}
 use Rattle.tip_actor.proofs.Settling.{settled, settles_first, settles_on}
-use Rattle.tip_actor.proofs.lines.Actor+HeldParty.settle.Goals as goal
+use Rattle.tip_actor.proofs.lines.Actor+PartyOut.settle.Goals as goal
 
 pub loop-init : goal.loop-init
 loop-init g c = record {

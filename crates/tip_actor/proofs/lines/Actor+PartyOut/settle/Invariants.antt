@@ -2,7 +2,7 @@ use Rattle.std.proofs.Common.{◌≡◌, false, string_bytes}
 use Rattle.tip_actor.specs.Acting.{Acting}
 use Rattle.tip_actor.specs.Standing.{IsActing}
 use Rattle.tip_actor.proofs.Settling.{Settles}
-use Rattle.tip_actor.proofs.lines.Actor+HeldParty.settle.Given as goal
+use Rattle.tip_actor.proofs.lines.Actor+PartyOut.settle.Given as goal
 
 -- some lines were taken, and those that may be are left
 abbrev pub invariant-loop : goal.invariant-loop

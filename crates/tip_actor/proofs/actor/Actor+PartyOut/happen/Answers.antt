@@ -3,7 +3,7 @@ use Rattle.std.proofs.Common.{◌++◌, ◌∙◌, ap, string_bytes}
 use Rattle.tip_actor.proofs.Doing.{has_happened}
 use Rattle.tip_machine.specs.Outputs.{brought}
 use Rattle.tip_transcript.specs.Printing.{shown_text}
-use Rattle.tip_actor.proofs.actor.Actor+HeldParty.happen.Goals as goal
+use Rattle.tip_actor.proofs.actor.Actor+PartyOut.happen.Goals as goal
 
 pub returns-clause-acts : goal.returns-clause-acts
 returns-clause-acts g c = λ acting is.
