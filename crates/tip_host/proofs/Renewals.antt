@@ -1,7 +1,8 @@
 -- A realm that starts again at a host.
-use Rattle.std.proofs.Common.{◌≡◌, ◌≢◌, ◌<◌, ◌+◌, ◌==◌, ◌++◌, ◌∷◌, ◌∙◌, if◌then◌else◌, ℕ, zero, suc, Bool, false, true, List, [], Option, None, Some, Result, Ok, Err, length, length-append, map, ap, arith, refl, subst, sym, inl}
-use Rattle.std.specs.Prelude.{IfErr, IfOk, IfSome, IsSomeAnd, OnOk, slice_get}
+use Rattle.std.proofs.Common.{◌≡◌, ◌≢◌, ◌<◌, ◌+◌, ◌==◌, ◌++◌, ◌∷◌, ◌∙◌, if◌then◌else◌, ℕ, zero, suc, Bool, false, true, List, [], Option, None, Some, Result, Ok, Err, length, length-append, map, ap, arith, refl, subst, sym, inr}
+use Rattle.std.specs.Prelude.{◌↔◌, IfErr, IfOk, IfSome, IsSomeAnd, OnOk, slice_get}
 use Rattle.std.specs.Option.{option_and_then, option_map}
+use Rattle.std.specs.Cmp.{unsigned_Decides}
 use Rattle.std.proofs.lemmas.Bool.Decides.{nat_tests}
 use Rattle.std.proofs.lemmas.Option.{none-some, same_Some}
 use Rattle.tip_core.specs.Hosted.{Hosted, realm}
@@ -19,6 +20,7 @@ use Rattle.tip_machine.specs.States.{State}
 use Rattle.tip_machine.specs.declared.head.Head.{Head}
 use Rattle.tip_stored.specs.Renewing.{IsReasonToRenew}
 use Rattle.tip_stored.specs.declared.renewing.RenewFault.{RenewFault}
+use Rattle.tip_stored.specs.declared.renewing.RenewFault.TheVariants.{Stopped}
 use Rattle.tip_recovery.specs.Adopting.{Recovery, Unfinished, loaded, stored_of}
 use Rattle.tip_rows.specs.Keys.{Key}
 use Rattle.tip_rows.specs.declared.row.Row.{Row}
@@ -126,10 +128,28 @@ module _ (core core' : Hosted) (old begun_now new : Books) (place : ℕ) (state 
     journals_count : length new.journals ≡ length old.journals
     journals_count = ap length (journals ∙ begins) ∙ length-changed_at old.journals place (λ history. history ++ begun epoch (map loaded rows) ∷ [])
 
--- what the stored core says of a fault
-pub as_core_says : {T : Type 0} (result : Result T (RenewFault × Recovery)) (log : Log) (state : State) (rows : List (Key × Row)) (recovery : Recovery) → IfErr result (λ fault. IsReasonToRenew log state recovery fault.0) → IfErr result (λ fault. IsReason log state rows recovery fault.0)
-as_core_says (Ok x) log state rows recovery reason = tt
-as_core_says (Err fault) log state rows recovery reason = inl reason
+-- an epoch that can rise is not the last
+not_last : (state : State) (epoch : ℕ) (b : Bool) → Some epoch ≡ (if b then None else Some (state.head.epoch + 1)) → b ≡ false
+not_last state epoch true is = absurd (none-some epoch (sym is))
+not_last state epoch false is = refl
+
+pub can_rise : (stopped : Bool) (s : Option State) (epoch : ℕ) (state : State) → Some epoch ≡ next_epoch stopped s → s ≡ Some state → state.head.epoch ≢ last_epoch
+can_rise true s epoch state is here last = absurd (none-some epoch (sym is))
+can_rise false None epoch state is here last = absurd (none-some state here)
+can_rise false (Some own) epoch state is here last =
+    let differs = not_last own epoch (own.head.epoch == last_epoch) is in
+    let end : own.head.epoch ≡ last_epoch = ap (λ (s : State). s.head.epoch) (same_Some own state here) ∙ last in
+    absurd (grind (arith, nat_tests))
+
+-- what the stored core says of a fault, where no epoch may rise
+unable : (stopped : Bool) (state : State) → None ≡ next_epoch stopped (Some state) → state.head.epoch ≢ last_epoch → stopped ≡ true
+unable true state none not_last = refl
+unable false state none not_last = absurd (not_last ((unsigned_Decides state.head.epoch last_epoch).0 (none_chosen state (state.head.epoch == last_epoch) none)))
+
+pub as_core_says : {T : Type 0} (result : Result T (RenewFault × Recovery)) (stopped : Bool) (s : Option State) (log : Log) (state : State) (rows : List (Key × Row)) (recovery : Recovery) → None ≡ next_epoch stopped s → s ≡ Some state → IfErr result (λ fault. (fault.0 ≡ Stopped) ↔ (stopped ≡ true)) →
+    IfErr result (λ fault. IsReasonToRenew log state recovery fault.0) → IfErr result (λ fault. IsReason log state rows recovery fault.0)
+as_core_says (Ok x) stopped s log state rows recovery none here stopping reason = tt
+as_core_says (Err fault) stopped s log state rows recovery none here stopping reason = inr (λ not_last runs. absurd (runs (stopping.1 (unable stopped state (subst (λ found. None ≡ next_epoch stopped found) here none) not_last))), reason)
 
 -- a journal that was begun and is withdrawn leaves all as it was
 pub withdrawn : (old begun_now new : Books) (place epoch : ℕ) (rows : List Unfinished) → begun_now.journals ≡ renewed place (begun epoch (map loaded rows)) old.journals → begun_now ≡ record old { journals = begun_now.journals } → new ≡ record begun_now { journals = changed_at place without_last begun_now.journals } → new ≡ old

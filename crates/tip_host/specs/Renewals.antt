@@ -4,7 +4,7 @@ use Rattle.tip_core.specs.Hosted.{realm}
 use Rattle.tip_machine.specs.States.{State}
 use Rattle.tip_stored.specs.Renewing.{IsReasonToRenew}
 use Rattle.tip_stored.specs.declared.renewing.RenewFault.{RenewFault}
-use Rattle.tip_stored.specs.declared.renewing.RenewFault.TheVariants.{NotInDoubt}
+use Rattle.tip_stored.specs.declared.renewing.RenewFault.TheVariants.{NotInDoubt, Stopped}
 use Rattle.tip_recovery.specs.Adopting.{Recovery, stored_of}
 use Rattle.tip_rows.specs.Keys.{Key}
 use Rattle.tip_rows.specs.Logs.{Log, last_epoch}
@@ -25,6 +25,12 @@ pub record AreKeptBut {S : Type 0} (place : ℕ) (old new : Host S) : Type 0 whe
   pub journals : (other : ℕ) → other ≢ place → slice_get (bare new.books.journals) other ≡ slice_get (bare old.books.journals) other
   pub lines : (other number : ℕ) → other ≢ place → waiting new.books.outboxes other number ≡ waiting old.books.outboxes other number
 
--- why a realm was not renewed: as its stored core says, or since these are not its stored rows, as the store has answered
+-- where its epoch can rise, a realm of a host that runs is to be renewed by its stored rows, as the store has answered
+abbrev pub AreItsRows : State → List (Key × Row) → Recovery → RenewFault → Type 0
+AreItsRows state rows recovery fault = state.head.epoch ≢ last_epoch → fault ≢ Stopped → rows ≡ stored_of recovery.rows
+
+-- WHY A REALM WAS NOT RENEWED: first, since these are not its rows; and then as its stored core says
 abbrev pub IsReason : Log → State → List (Key × Row) → Recovery → RenewFault → Type 0
-IsReason log state rows recovery fault = IsReasonToRenew log state recovery fault ⊎ ((fault ≡ NotInDoubt) × (rows ≢ stored_of recovery.rows))
+IsReason log state rows recovery fault =
+    ((fault ≡ NotInDoubt) × (rows ≢ stored_of recovery.rows) × (state.head.epoch ≢ last_epoch))
+    ⊎ (AreItsRows state rows recovery fault × IsReasonToRenew log state recovery fault)

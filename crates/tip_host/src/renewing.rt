@@ -53,14 +53,14 @@ impl<S: RowLog + Drop> Host<S> {
         ensures reason { (log : Log) (state : State) → S.keeping.stands self.old.stored.store log →
             realm_at self.old.stored.core realm ≡ Some state →
             S.keeping.is_true self.new.stored.store →
-            IfErr result (IsReasonToDoubt log) }
+            IfErr result (IsReasonToDoubt log state.head.name) }
     {
         self.stored.doubts(alloc, realm)
     }
 
     /// A realm starts again while the others run, by what `doubts` said of it, once boxes were adopted for its rows. Its journal
     /// ends, and is kept; the next one begins with these rows and boxes. What waited to go out on its connections is gone; its
-    /// parties that are out stay out. It is refused by rows that are not its stored ones, word for word. Where it is refused all
+    /// parties that are out stay out. It is refused first by rows that are not its stored ones, word for word. Where it is refused all
     /// is as it was.
     pub fn renew(
         &mut self,

@@ -45,7 +45,7 @@ IsWhyNotRestarted kept old boxes why = (why ≡ fault.Memory) ⊎ ((specs : List
 -- what is stored of a realm could not be read, or it could not be renewed by what was read, with these boxes
 abbrev pub IsReasonToHalt : List (List Badge) → Log → State → List (Key × Row) → RenewFault → Type 0
 IsReasonToHalt boxes log state rows why =
-    IsReasonToDoubt log why
+    IsReasonToDoubt log state.head.name why
     ⊎ ((read recovery : Recovery) × IsRead log state.head.name read × (recovery.rows ≡ adopted_all boxes read.rows) × IsReason log state rows recovery why × (why ≢ renewal.Stopped))
 
 -- one realm did not start again while the others run: for such a reason, where the realm is there, or the boxes were not one for each

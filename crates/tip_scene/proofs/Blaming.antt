@@ -109,7 +109,7 @@ module _ {S : Type 0} (kept : Keeping S) (old new : S) where
   not_loaded specs load.Memory counts reason store = absurd (memory_is_not store)
   not_loaded specs load.BadRealm counts reason store = inr (load.BadRealm, reason)
 
-  pub not_read : (acting : Acting) (fault : RenewFault) → kept.faults new ≡ counted (is_refused fault) (kept.faults old) → ((log : Log) → kept.stands old log → kept.is_true new → IsReasonToDoubt log fault) → of_renew_fault fault ≡ act.Store → kept.is_true new → ((log : Log) × kept.stands old log) →
+  pub not_read : (acting : Acting) (fault : RenewFault) → kept.faults new ≡ counted (is_refused fault) (kept.faults old) → ((log : Log) → kept.stands old log → kept.is_true new → IsReasonToDoubt log acting.world.state.head.name fault) → of_renew_fault fault ≡ act.Store → kept.is_true new → ((log : Log) × kept.stands old log) →
       HasRefused kept old new ⊎ IsNotRenewed kept old new acting
   not_read acting renew.Stopped counts reason store is some = absurd (reason some.0 some.1 is)
   not_read acting renew.NoRealm counts reason store is some = absurd (reason some.0 some.1 is)

@@ -65,7 +65,7 @@ CannotRenew acting log renew.NotRead = ⊥
 CannotRenew acting log renew.NotRaised = ⊥
 CannotRenew acting log renew.Memory = ⊥
 CannotRenew acting log renew.Stopped = ⊥
-CannotRenew acting log other = IsReasonToDoubt log other ⊎ ((recovery : Recovery) × IsWilling recovery acting × IsReasonToRenew log acting.world.state recovery other)
+CannotRenew acting log other = IsReasonToDoubt log acting.world.state.head.name other ⊎ ((recovery : Recovery) × IsWilling recovery acting × IsReasonToRenew log acting.world.state recovery other)
 
 abbrev pub HasNoStart : {S : Type 0} → Keeping S → S → S → Stage → Type 0
 HasNoStart kept old new now = (fault : LoadFault) × ((log : Log) → kept.stands old log → kept.is_true new → CannotStart (specs_in now) log fault)

@@ -9,10 +9,13 @@ use Rattle.tip_machine.specs.States.{started}
 use Rattle.tip_stored.specs.Recovering.{HasBegun}
 use Rattle.std.proofs.lemmas.List.{take_all, take_more}
 use Rattle.std.proofs.lemmas.Option.{none-some, same_Some}
-use Rattle.tip_rows.specs.Logs.{Keeping, LeavesOne, Log, counted, with_known}
+use Rattle.tip_rows.specs.Logs.{IsSpoiled, Keeping, LeavesOne, Log, counted, with_known}
 use Rattle.tip_recovery.specs.Adopting.{Recovery}
-use Rattle.tip_stored.specs.Loading.{AreKnown, AreRead, AreTheirs, Goes, IsIts, IsKnown, IsRead, Never, Stays, known_all, names_differ, names_of, start_of, starts_of}
+use Rattle.tip_stored.specs.Loading.{AreKnown, AreRead, AreTheirs, Goes, IsBad, IsIts, IsKnown, IsRead, IsReason, IsReasonToRead, IsReasonToReadAll, Never, Stays, known_all, names_differ, names_of, opened, start_of, starts_of}
+use Rattle.tip_stored.specs.declared.loading.LoadFault.{LoadFault}
+use Rattle.tip_stored.specs.declared.loading.LoadFault.TheVariants as load
 use Rattle.tip_stored.specs.declared.realm_spec.RealmSpec.{RealmSpec}
+use Rattle.tip_stored.proofs.Parts.{opened_epoch, opened_spoiled}
 
 -- one more is known
 known_more : (names : List (List ℕ)) (name : List ℕ) (log : Log) → known_all (names ++ name ∷ []) log ≡ with_known name (known_all names log)
@@ -196,3 +199,26 @@ no_start [] realms place none = refl
 no_start (s ∷ specs) [] place none = refl
 no_start (s ∷ specs) (r ∷ realms) zero none = absurd (none-some s (sym none))
 no_start (s ∷ specs) (r ∷ realms) (suc place) none = no_start specs realms place none
+
+-- Why they were not read
+
+-- one of them was not
+pub of_one : (specs : List RealmSpec) (place : ℕ) (spec : RealmSpec) (log : Log) (fault : LoadFault) → slice_get specs place ≡ Some spec → IsReasonToRead log spec.name fault → IsReasonToReadAll specs log fault
+of_one specs place spec log load.Refused here is = tt
+of_one specs place spec log load.EpochEnd here is = absurd is
+of_one specs place spec log load.BadRow here is = (place, spec, here, is)
+of_one specs place spec log load.Memory here is = tt
+of_one specs place spec log load.BadRealm here is = absurd is
+
+-- where realms start each has an epoch
+spoiled : (specs : List RealmSpec) (place : ℕ) (spec : RealmSpec) (log : Log) → slice_get specs place ≡ Some spec → IsBad (opened (names_of specs) log) spec.name → IsSpoiled log spec.name
+spoiled specs place spec log here (inl bad) = opened_spoiled (names_of specs) log spec.name bad
+spoiled specs place spec log here (inr none) = absurd (opened_epoch (names_of specs) place log spec.name (named_at specs place spec here) none)
+
+pub not_started : {T : Type 0} (specs : List RealmSpec) (log : Log) (result : Result T LoadFault) → IfErr result (IsReasonToReadAll specs (opened (names_of specs) log)) → IfErr result (IsReason specs log)
+not_started specs log (Ok x) is = tt
+not_started specs log (Err load.Refused) is = tt
+not_started specs log (Err load.EpochEnd) is = absurd is
+not_started specs log (Err load.BadRow) is = (is.0, is.1, is.2, spoiled specs is.0 is.1 log is.2 is.3)
+not_started specs log (Err load.Memory) is = tt
+not_started specs log (Err load.BadRealm) is = absurd is

@@ -1,10 +1,10 @@
 -- What is stored of a realm: after a change of rows, and in the log in which realms start.
-use Rattle.std.proofs.Common.{◌≡◌, ◌≢◌, ℕ, zero, suc, ◌+◌, ◌<◌, ◌≤◌, Bool, true, false, cond, List, [], ◌∷◌, Option, Some, None, inl, inr, refl, ap, arith, sym, subst, ◌∙◌}
+use Rattle.std.proofs.Common.{◌≡◌, ◌≢◌, ℕ, zero, suc, ◌+◌, ◌<◌, ◌≤◌, Bool, true, false, cond, List, [], ◌∷◌, Option, Some, None, negsuc, inl, inr, refl, ap, arith, sym, subst, ◌∙◌}
 use Rattle.std.specs.Prelude.{◌&&◌, ◌==◌, ℤ, is_some, pos, nat_lt, option_map, slice_get, unwrap_or}
 use Rattle.std.specs.Str.{bytes_eq}
 use Rattle.std.proofs.lemmas.Bool.{cases_lt}
 use Rattle.std.proofs.lemmas.Bool.Decides.{nat_tests}
-use Rattle.std.proofs.lemmas.Option.{same_Some}
+use Rattle.std.proofs.lemmas.Option.{none-some, same_Some}
 use Rattle.std.proofs.lemmas.Slice.Eq.{bytes_eq-Decides}
 use Rattle.tip_rows.specs.Keys.{Key, is_same}
 use Rattle.tip_rows.specs.Logs.{Log, IsAtEnd, IsPart, IsSpoiled, known, last_epoch, raised, raised_number, with_all_raised, with_at, with_known, with_raised}
@@ -187,6 +187,67 @@ opened_part names place log name epoch rows here part = raised_part (known_all n
 
 pub opened_known : (names : List (List ℕ)) (place : ℕ) (log : Log) (name : List ℕ) (epoch : ℕ) (rows : List (Key × Row)) → slice_get names place ≡ Some name → IsPart log name epoch rows → is_some ((opened names log).epochs name) ≡ true
 opened_known names place log name epoch rows here part = ap (λ stored. is_some (option_map raised stored)) (known_part names place log name epoch rows here part).number
+
+known_some : (stored : Option ℤ) → (z : ℤ) × (known stored ≡ Some z)
+known_some None = (pos 0, refl)
+known_some (Some z) = (z, refl)
+
+known_has : (names : List (List ℕ)) (place : ℕ) (log : Log) (name : List ℕ) → slice_get names place ≡ Some name → (z : ℤ) × ((known_all names log).epochs name ≡ Some z)
+known_has [] place log name here = absurd (cc)
+known_has (n ∷ names) zero log name here =
+    let first = known_some (log.epochs name) in
+    (first.0, known_still names (with_known n log) name first.0 (subst (λ x. (with_known x log).epochs name ≡ Some first.0) (sym (same_Some n name here)) (rw (itself name) first.1)))
+known_has (n ∷ names) (suc place) log name here = known_has names place (with_known n log) name here
+
+raised_apart : (z : ℤ) → raised z ≢ pos 0
+raised_apart (negsuc n) is = absurd (cc)
+raised_apart (pos n) is = by (nat_lt n last_epoch) refl (number_of {a = raised_number n} {b = 0} is) where
+  by : (b : Bool) → nat_lt n last_epoch ≡ b → cond b (n + 1) n ≢ 0
+  by true less is = absurd (omega (arith, is))
+  by false more is = let none : n ≡ 0 = is in absurd (grind (arith, nat_tests))
+
+-- and it has an epoch
+pub opened_epoch : (names : List (List ℕ)) (place : ℕ) (log : Log) (name : List ℕ) → slice_get names place ≡ Some name → unwrap_or ((opened names log).epochs name) (pos 0) ≢ pos 0
+opened_epoch names place log name here none =
+    let known = known_has names place log name here in
+    raised_apart known.0 (sym (ap (λ (stored : Option ℤ). unwrap_or (option_map raised stored) (pos 0)) known.1) ∙ none)
+
+-- A number that is no epoch then was none before
+
+abbrev IsNoEpoch : ℤ → Type 0
+IsNoEpoch z = (n : ℕ) → n ≤ last_epoch → z ≢ pos n
+
+raised_past : (number z : ℤ) → raised number ≡ z → IsNoEpoch z → number ≡ z
+raised_past (negsuc n) z is past = is
+raised_past (pos n) z is past = by (nat_lt n last_epoch) refl is where
+  by : (b : Bool) → nat_lt n last_epoch ≡ b → pos (cond b (n + 1) n) ≡ z → pos n ≡ z
+  by true less is = absurd (past (n + 1) (grind (arith, nat_tests)) (sym is))
+  by false more is = is
+
+risen_past : (stored : Option ℤ) (z : ℤ) → option_map raised stored ≡ Some z → IsNoEpoch z → stored ≡ Some z
+risen_past None z is past = absurd (none-some z is)
+risen_past (Some number) z is past = ap Some (raised_past number z (same_Some (raised number) z is) past)
+
+known_past : (names : List (List ℕ)) (log : Log) (name : List ℕ) (z : ℤ) → (known_all names log).epochs name ≡ Some z → IsNoEpoch z → log.epochs name ≡ Some z
+known_past [] log name z is past = is
+known_past (n ∷ names) log name z is past = was (bytes_eq n name) (known_past names (with_known n log) name z is past) where
+  was : (b : Bool) → cond b (known (log.epochs name)) (log.epochs name) ≡ Some z → log.epochs name ≡ Some z
+  was true is = known_sound (log.epochs name) z is past
+  was false is = is
+
+same_strays : (names : List (List ℕ)) (log : Log) → (known_all names log).strays ≡ log.strays
+same_strays [] log = refl
+same_strays (n ∷ names) log = same_strays names (with_known n log)
+
+same_unreadable : (names : List (List ℕ)) (log : Log) → (known_all names log).unreadable ≡ log.unreadable
+same_unreadable [] log = refl
+same_unreadable (n ∷ names) log = same_unreadable names (with_known n log)
+
+-- so what is spoiled then was so before
+pub opened_spoiled : (names : List (List ℕ)) (log : Log) (name : List ℕ) → IsSpoiled (opened names log) name → IsSpoiled log name
+opened_spoiled names log name (inl bad) = inl (bad.0, known_past names log name bad.0 (risen_past ((known_all names log).epochs name) bad.0 bad.1 bad.2) bad.2, bad.2)
+opened_spoiled names log name (inr (inl stray)) = inr (inl (sym (ap (λ (s : List ℕ → Bool). s name) (same_strays names log)) ∙ stray))
+opened_spoiled names log name (inr (inr unread)) = inr (inr (unread.0, sym (ap (λ (u : List ℕ → Key → Bool). u name unread.0) (same_unreadable names log)) ∙ unread.1))
 
 -- where no known epoch is at its end, that of a realm can rise
 pub can_open : (names : List (List ℕ)) (place : ℕ) (log : Log) (name : List ℕ) (epoch : ℕ) (rows : List (Key × Row)) → slice_get names place ≡ Some name → IsPart log name epoch rows → ¬ IsAtEnd (known_all names log) name → epoch < last_epoch

@@ -1,5 +1,5 @@
 -- Realms are loaded from a store: what is read of each, and what the store is on the way.
-use Rattle.std.specs.Prelude.{◌≡◌, ◌⊎◌, ℕ, Bool, true, false, ◌&&◌, ◌<◌, not, nat_le, List, [], ◌∷◌, length, map, take, option_map, pos, slice_get, unwrap_or, IfErr, IfOk, OnOk, Result, Ok, Err}
+use Rattle.std.specs.Prelude.{◌≡◌, ◌⊎◌, ℕ, Bool, true, false, ◌&&◌, ◌<◌, not, nat_le, List, [], ◌∷◌, length, map, take, Some, option_map, pos, slice_get, unwrap_or, IfErr, IfOk, OnOk, Result, Ok, Err}
 use Rattle.std.specs.List.{list_all}
 use Rattle.std.specs.Str.{bytes_eq}
 use Rattle.tip_machine.specs.Heads.{are_allowed, is_within}
@@ -137,24 +137,35 @@ abbrev pub refused_by : {T : Type 0} → Result T LoadFault → Bool
 refused_by (Ok x) = false
 refused_by (Err load_fault) = is_refusal_to_load load_fault
 
--- what is stored of a realm is no row, or it has no epoch
+-- what is stored of a realm that is read is no row, or it has no epoch
 abbrev pub IsBad : Log → List ℕ → Type 0
 IsBad log realm = IsSpoiled log realm ⊎ (unwrap_or (log.epochs realm) (pos 0) ≡ pos 0)
 
--- the reason of a fault: two realms of one name, or more than 64; an epoch at its end; what is stored of a realm is no row
+-- what is stored of one of these realms is no row
+abbrev pub IsOneSpoiled : List RealmSpec → Log → Type 0
+IsOneSpoiled specs log = (place : ℕ) × (spec : RealmSpec) × (slice_get specs place ≡ Some spec) × IsSpoiled log spec.name
+
+-- the reason of a fault: two realms of one name, or more than 64; an epoch at its end; what was stored of one of them is no row
 abbrev pub IsReason : List RealmSpec → Log → LoadFault → Type 0
 IsReason specs log fault.BadRealm = are_hostable specs ≡ false
 IsReason specs log fault.EpochEnd = (realm : List ℕ) × IsAtEnd (known_all (names_of specs) log) realm
-IsReason specs log fault.BadRow = (realm : List ℕ) × IsBad (opened (names_of specs) log) realm
+IsReason specs log fault.BadRow = IsOneSpoiled specs log
 IsReason specs log fault.Refused = Unit {0}
 IsReason specs log fault.Memory = Unit {0}
 
 -- the same of one realm that is read from a log
-abbrev pub IsReasonToRead : Log → LoadFault → Type 0
-IsReasonToRead log fault.BadRow = (realm : List ℕ) × IsBad log realm
-IsReasonToRead log fault.Refused = Unit {0}
-IsReasonToRead log fault.Memory = Unit {0}
-IsReasonToRead log other = ⊥
+abbrev pub IsReasonToRead : Log → List ℕ → LoadFault → Type 0
+IsReasonToRead log realm fault.BadRow = IsBad log realm
+IsReasonToRead log realm fault.Refused = Unit {0}
+IsReasonToRead log realm fault.Memory = Unit {0}
+IsReasonToRead log realm other = ⊥
+
+-- and of one of these realms
+abbrev pub IsReasonToReadAll : List RealmSpec → Log → LoadFault → Type 0
+IsReasonToReadAll specs log fault.BadRow = (place : ℕ) × (spec : RealmSpec) × (slice_get specs place ≡ Some spec) × IsBad log spec.name
+IsReasonToReadAll specs log fault.Refused = Unit {0}
+IsReasonToReadAll specs log fault.Memory = Unit {0}
+IsReasonToReadAll specs log other = ⊥
 
 -- REALMS ARE LOADED from a store. At Ok its log is the one in which they start; each realm has just started, in the epoch that was
 -- read, and its rows and its epoch are the log's. Else the store comes back somewhere on the way there, with a reason.

@@ -8,7 +8,7 @@ use Rattle.tip_recovery.specs.Renewing.{is_read_again}
 use Rattle.tip_rows.specs.Logs.{Keeping, Log, IsAtEnd, IsSpent, counted, last_epoch, with_raised}
 use Rattle.tip_rows.specs.declared.log.RaiseFault.{RaiseFault}
 use Rattle.tip_rows.specs.declared.log.RaiseFault.TheVariants as raise
-use Rattle.tip_stored.specs.Loading.{IsBad, IsRead}
+use Rattle.tip_stored.specs.Loading.{IsBad, IsIts, IsRead}
 use Rattle.tip_stored.specs.declared.loading.LoadFault.{LoadFault}
 use Rattle.tip_stored.specs.declared.loading.LoadFault.TheVariants as load
 use Rattle.tip_stored.specs.declared.renewing.RenewFault.{RenewFault}
@@ -72,23 +72,48 @@ pub record IsRenewed {S : Type 0} (kept : Keeping S) (recovery : Recovery) (stat
   pub state_is : now ≡ Some (restarted (risen state.head) (map loaded recovery.rows))
 
 -- the reason why what is stored of a realm was not read
-abbrev pub IsReasonToDoubt : Log → RenewFault → Type 0
-IsReasonToDoubt log BadRow = (realm : List ℕ) × IsBad log realm
-IsReasonToDoubt log NotRead = Unit {0}
-IsReasonToDoubt log Memory = Unit {0}
-IsReasonToDoubt log other = ⊥
+abbrev pub IsReasonToDoubt : Log → List ℕ → RenewFault → Type 0
+IsReasonToDoubt log realm BadRow = IsBad log realm
+IsReasonToDoubt log realm NotRead = Unit {0}
+IsReasonToDoubt log realm Memory = Unit {0}
+IsReasonToDoubt log realm other = ⊥
 
--- what was read is no more what is stored, or the realm has started again since
+-- why an epoch did not rise
+abbrev pub IsReasonToStay : Log → List ℕ → RenewFault → Type 0
+IsReasonToStay log realm EpochEnd = IsAtEnd log realm
+IsReasonToStay log realm NotRaised = Unit {0}
+IsReasonToStay log realm other = ⊥
+
+-- what is stored of a realm was read once more, and its epoch is the last
+pub record HasEnded (log : Log) (realm : List ℕ) : Type 0 where
+  pub fresh : Recovery
+  pub read : IsRead log realm fresh
+  pub end : IsAtEnd log realm
+
+-- it is no more what was read before, or the realm has started again since
 pub record IsOutdated (log : Log) (state : State) (recovery : Recovery) : Type 0 where
   pub fresh : Recovery
   pub read : IsRead log state.head.name fresh
+  pub its : IsIts state.head.name fresh
+  pub rises : fresh.epoch < last_epoch
   pub differs : (is_read_again recovery fresh && (fresh.epoch == state.head.epoch)) ≡ false
 
--- the reason of a fault
+-- it is what was read before, in the realm's epoch, which can rise
+pub record IsCurrent (log : Log) (state : State) (recovery : Recovery) : Type 0 where
+  pub fresh : Recovery
+  pub read : IsRead log state.head.name fresh
+  pub its : IsIts state.head.name fresh
+  pub epoch : fresh.epoch ≡ state.head.epoch
+  pub rises : state.head.epoch < last_epoch
+  pub again : is_read_again recovery fresh ≡ true
+
+-- THE REASON OF A FAULT. Each is said only where none before it is so: Stopped, NoRealm, NotRead, BadRow, EpochEnd, NotInDoubt,
+-- Unadopted, NotRaised; and Memory at any time
 abbrev pub IsReasonToRenew : Log → State → Recovery → RenewFault → Type 0
-IsReasonToRenew log state recovery BadRow = (realm : List ℕ) × IsBad log realm
-IsReasonToRenew log state recovery EpochEnd = IsAtEnd log state.head.name
+IsReasonToRenew log state recovery BadRow = IsBad log state.head.name
+IsReasonToRenew log state recovery EpochEnd = HasEnded log state.head.name
 IsReasonToRenew log state recovery NotInDoubt = IsOutdated log state recovery
-IsReasonToRenew log state recovery Unadopted = are_adopted recovery.rows ≡ false
+IsReasonToRenew log state recovery Unadopted = IsCurrent log state recovery × (are_adopted recovery.rows ≡ false)
+IsReasonToRenew log state recovery NotRaised = IsCurrent log state recovery × (are_adopted recovery.rows ≡ true)
 IsReasonToRenew log state recovery NoRealm = ⊥
 IsReasonToRenew log state recovery other = Unit {0}

@@ -7,7 +7,7 @@ ghost use Rattle.tip_machine.specs.States.{started};
 ghost use Rattle.tip_core.specs.Hosted.{realm as realm_at};
 ghost use Rattle.tip_stored.specs.Recovering.{HaveBegun, count_rows};
 ghost use Rattle.tip_rows.specs.Logs.{IsAtEnd, IsSettled, Log, is_rising};
-ghost use Rattle.tip_stored.specs.Loading.{AreKnown, AreOpened, AreRead, AreTheirs, Goes, Loads, IsIts, IsKnown, IsOnTheWay, IsRead, IsReason, IsReasonToRead, Never, Stays, is_refusal_to_load, are_hostable, is_bad_realm, known_all, names_differ, names_of, opened, refused_by, spec_of, starts_of};
+ghost use Rattle.tip_stored.specs.Loading.{AreKnown, AreOpened, AreRead, AreTheirs, Goes, Loads, IsIts, IsKnown, IsOnTheWay, IsRead, IsReason, IsReasonToRead, IsReasonToReadAll, Never, Stays, is_refusal_to_load, are_hostable, is_bad_realm, known_all, names_differ, names_of, opened, refused_by, spec_of, starts_of};
 
 use crate::realm_spec::{RealmSpec, declared, names_differ};
 use crate::recovering::Recovering;
@@ -155,7 +155,7 @@ pub(crate) fn read<S: RowLog>(
     ensures read { (log : Log) → S.keeping.stands store.old log → S.keeping.is_true store.new →
         IfOk result (IsRead log name.now) }
     ensures reason { (log : Log) → S.keeping.stands store.old log → S.keeping.is_true store.new →
-        IfErr result (IsReasonToRead log) }
+        IfErr result (IsReasonToRead log name.now) }
     ensures fault { IfErr result (λ fault. is_bad_realm fault ≡ false) }
     ensures settled { S.keeping.is_true store.new → OnOk result (IsSettled S.keeping store.new) }
 {
@@ -193,7 +193,7 @@ fn read_all<S: RowLog>(
     ensures read { (log : Log) → S.keeping.stands store.old log → S.keeping.is_true store.new →
         IfOk result (λ realms. AreRead log specs.now realms.items) }
     ensures reason { (log : Log) → S.keeping.stands store.old log → S.keeping.is_true store.new →
-        IfErr result (IsReasonToRead log) }
+        IfErr result (IsReasonToReadAll specs.now log) }
     ensures fault { IfErr result (λ fault. is_bad_realm fault ≡ false) }
     ensures settled { IsSettled S.keeping store.old → S.keeping.is_true store.new →
         OnOk result (IsSettled S.keeping store.new) }

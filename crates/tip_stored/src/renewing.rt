@@ -10,8 +10,8 @@ ghost use Rattle.tip_machine.specs.Types.{seen};
 ghost use Rattle.tip_recovery.specs.Adopting.{Recovery as Reading, are_adopted, loaded};
 ghost use Rattle.tip_recovery.specs.Renewing.{is_read_again};
 ghost use Rattle.tip_rows.specs.Logs.{Log, IsSettled, last_epoch};
-ghost use Rattle.tip_stored.specs.Loading.{Goes, IsRead, Never, Stays};
-ghost use Rattle.tip_stored.specs.Renewing.{IsReasonToDoubt, IsReasonToRenew, IsRenewed, Rises, renew_fault_of, was_refused};
+ghost use Rattle.tip_stored.specs.Loading.{Goes, IsIts, IsRead, Never, Stays};
+ghost use Rattle.tip_stored.specs.Renewing.{IsReasonToDoubt, IsReasonToRenew, IsReasonToStay, IsRenewed, Rises, renew_fault_of, was_refused};
 ghost use Rattle.tip_stored.specs.declared.renewing.RenewFault.TheVariants.{NoRealm, NotRaised, Stopped};
 
 use crate::loading::{LoadFault, read};
@@ -22,7 +22,7 @@ use tip_core::{Core, Left, Parting};
 use tip_recovery::Recovery;
 use tip_rows::{RaiseFault, RowLog};
 
-/// Why a realm was not renewed.
+/// Why a realm was not renewed. Each is said only where none before it is so, but for want of memory.
 #[derive(Clone, Copy, Debug, PartialEq, Eq, Error)]
 pub enum RenewFault {
     #[error("the host is stopped")]
@@ -100,7 +100,7 @@ impl<S: RowLog> StoredCore<S, Core> {
             IfOk result (IsRead log state.head.name) }
         ensures reason { (log : Log) (state : State) → S.keeping.stands self.old.store log →
             realm_at self.old.core realm ≡ Some state → S.keeping.is_true self.new.store →
-            IfErr result (IsReasonToDoubt log) }
+            IfErr result (IsReasonToDoubt log state.head.name) }
     {
         match self.core.name(realm) {
             Some(name) => Ok(read(alloc, &mut self.store, name)?),
@@ -172,7 +172,8 @@ impl<S: RowLog> StoredCore<S, Core> {
             × (is_read_again recovery.now fresh ≡ true)
             × ((log : Log) → S.keeping.stands self.old.store log →
             S.keeping.is_true self.new.store →
-            IsRead log state.head.name fresh)) }
+            IsRead log state.head.name fresh)
+            × IsIts state.head.name fresh) }
         ensures named { (state : State) → realm_at self.old.core realm ≡ Some state →
             OnOk result (recovery.now.realm ≡ state.head.name) }
         ensures epoch { (state : State) → realm_at self.old.core realm ≡ Some state → OnOk result
@@ -242,7 +243,7 @@ impl<S: RowLog> StoredCore<S, Core> {
         ensures back { IfErr result (λ fault. fault.1 ≡ recovery) }
         ensures reason { (log : Log) (state : State) → S.keeping.stands self.old.store log →
             realm_at self.old.core realm ≡ Some state → S.keeping.is_true self.new.store →
-            IfErr result (λ fault. IsReasonToRenew log state recovery fault.0) }
+            IfErr result (λ fault. IsReasonToStay log state.head.name fault.0) }
         ensures names { OnOk result (HaveNames self.new.core) }
         ensures running { IfErr result (λ fault. fault.0 ≢ Stopped) }
         ensures stopped { self.new.is_stopped ≡ self.old.is_stopped }

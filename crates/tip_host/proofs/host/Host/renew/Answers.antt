@@ -1,5 +1,6 @@
-use Rattle.std.proofs.Common.{◌≡◌, ◌<◌, ◌+◌, ◌∙◌, ap, map, refl, subst, sym}
+use Rattle.std.proofs.Common.{◌≡◌, ◌<◌, ◌+◌, ◌∙◌, ap, inl, inr, map, refl, subst, sym}
 use Rattle.std.specs.Prelude.{IsSomeAnd, slice_get}
+use Rattle.std.proofs.lemmas.Bool.{true≢false}
 use Rattle.std.proofs.lemmas.Option.{same_Some}
 use Rattle.tip_core.specs.Hosted.{realm}
 use Rattle.tip_journal.proofs.LawLemmas.{renewed-others}
@@ -12,7 +13,7 @@ use Rattle.tip_recovery.specs.Adopting.{loaded}
 use Rattle.tip_table.specs.Kept.{of}
 use Rattle.tip_host.proofs.Honestly.{still_honest}
 use Rattle.tip_host.proofs.Journals.{bare_renewed}
-use Rattle.tip_host.proofs.Renewals.{as_core_says, later_so, never_renewed, next_state, renewed_honest, renewed_known, withdrawable, withdrawn}
+use Rattle.tip_host.proofs.Renewals.{as_core_says, can_rise, later_so, never_renewed, next_state, renewed_honest, renewed_known, withdrawable, withdrawn}
 use Rattle.tip_host.specs.Books.{Books, IsHonest, out_of}
 use Rattle.tip_host.specs.Entries.{bare}
 use Rattle.tip_host.proofs.host.Host.renew.Goals as goal
@@ -28,7 +29,20 @@ returns-in_default-clause-stored g c =
     never_renewed c.renew.result c.self.inside.stored.is_stopped (realm c.self.inside.stored.core c.args.realm) _ none c.renew.ensures.here c.renew.ensures.running c.renew.ensures.renewed (λ state left is. is.rises) _
 
 pub returns-in_default-clause-reason : goal.returns-in_default-clause-reason
-returns-in_default-clause-reason g c = rw (← c.self.view_is) (λ log state stands here true. as_core_says c.renew.result log state _ c.args.recovery (c.renew.ensures.reason log state stands here true))
+returns-in_default-clause-reason g c = rw (← c.self.view_is) (λ log state stands here true.
+    let none = rw (← c.self.view_is) at c.in_default.ensures in
+    as_core_says c.renew.result c.self.inside.stored.is_stopped (realm c.self.inside.stored.core c.args.realm) log state _ c.args.recovery none here c.renew.ensures.stopping (c.renew.ensures.reason log state stands here true))
+
+pub returns-then-not-are_stored-clause-reason : goal.returns-then-not-are_stored-clause-reason
+returns-then-not-are_stored-clause-reason g c = rw (← c.self.view_is) (λ log state stands here true.
+    let some = rw (← c.self.view_is) at c.in-Some.ensures in
+    inl (refl, λ same. true≢false (sym (c.are_stored.ensures.same.1 same) ∙ c.if-not-are_stored.true), can_rise c.self.inside.stored.is_stopped (realm c.self.inside.stored.core c.args.realm) c.in-Some.epoch state some here))
+
+pub returns-in_default-begin-clause-reason : goal.returns-in_default-begin-clause-reason
+returns-in_default-begin-clause-reason g c = rw (← c.self.view_is) (λ log state stands here true. inr (λ not_last runs. c.are_stored.ensures.same.0 c.if-not-are_stored.false, tt))
+
+pub returns-in-Err-clause-reason : goal.returns-in-Err-clause-reason
+returns-in-Err-clause-reason g c = rw (← c.self.view_is) (λ log state stands here true. inr (λ not_last runs. c.are_stored.ensures.same.0 c.if-not-are_stored.false, c.in-Err.ensures.reason log state stands here true))
 
 pub begin-requires-clause-later : goal.begin-requires-clause-later
 begin-requires-clause-later g c = later_so c.self.inside.stored.core c.self.inside.books c.args.realm c.self.inside.stored.is_stopped c.in-Some.epoch c.self.invariant (rw (← c.self.view_is) at c.in-Some.ensures)
