@@ -1,3 +1,4 @@
 pub mod Asking
 pub mod Dialogues
 pub mod Sending
+pub mod Refusals

@@ -5,6 +5,7 @@
 mod asked;
 mod asking;
 mod fault;
+mod refusals;
 mod sending;
 mod telling;
 

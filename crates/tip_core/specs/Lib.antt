@@ -1,3 +1,4 @@
 pub mod Hosted
 pub mod Recovering
 pub mod Renewing
+pub mod Refusals

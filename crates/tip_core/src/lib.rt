@@ -4,6 +4,7 @@
 mod happened;
 mod machine;
 mod recovering;
+mod refusals;
 mod renewing;
 mod starts;
 

@@ -6,3 +6,4 @@ pub mod Notes
 pub mod Peers
 pub mod Plans
 pub mod Starting
+pub mod Refusals

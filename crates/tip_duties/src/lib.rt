@@ -8,6 +8,7 @@ mod fault;
 mod note;
 mod peers;
 mod plans;
+mod refusals;
 mod report;
 mod starting;
 

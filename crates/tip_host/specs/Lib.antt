@@ -9,3 +9,4 @@ pub mod Notings
 pub mod Hosts
 pub mod Served
 pub mod Renewals
+pub mod Refusals

@@ -11,6 +11,7 @@ pub mod laws;
 mod leaving;
 mod noting;
 mod opening;
+mod refusals;
 mod renewing;
 mod reply;
 mod retiring;

@@ -5,3 +5,4 @@ pub mod Journals
 pub mod Pass
 pub mod Retiring
 pub mod Sheets
+pub mod Refusals

@@ -11,6 +11,7 @@ mod journals;
 pub mod laws;
 mod pass;
 mod plain;
+mod refusals;
 mod retired;
 mod retiring;
 mod sheet;

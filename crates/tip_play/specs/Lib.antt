@@ -3,3 +3,4 @@ pub mod Endings
 pub mod Transcripts
 pub mod Writing
 pub mod Leaving
+pub mod Refusals

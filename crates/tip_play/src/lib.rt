@@ -3,6 +3,7 @@
 
 mod fault;
 mod player;
+mod refusals;
 
 pub use fault::PlayFault;
 pub use player::{play, play_on};

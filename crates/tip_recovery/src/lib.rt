@@ -3,6 +3,7 @@
 #![tactic(auto)]
 
 mod recovery;
+mod refusals;
 mod unfinished;
 
 pub use recovery::Recovery;

@@ -5,3 +5,4 @@ pub mod Rows
 pub mod Logs
 pub mod Memory
 pub mod Reading
+pub mod Refusals

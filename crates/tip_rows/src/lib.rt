@@ -9,6 +9,7 @@ mod log;
 mod medium;
 mod memory;
 mod reading;
+mod refusals;
 mod row;
 mod subordinates;
 mod text;

@@ -4,3 +4,4 @@ pub mod Starts
 pub mod Moves
 pub mod Runs
 pub mod Halts
+pub mod Refusals

@@ -5,6 +5,7 @@ mod errands;
 mod halt;
 pub mod laws;
 mod moves;
+mod refusals;
 mod run;
 mod running;
 mod shown;

@@ -1,5 +1,5 @@
 pub mod Items
 pub mod LimitLemmas
 pub mod Numbering
-pub mod Refusals
+pub mod Refusing
 pub mod Texts

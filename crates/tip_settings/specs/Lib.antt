@@ -5,3 +5,4 @@ pub mod Faults
 pub mod Limits
 pub mod Reasons
 pub mod Realms
+pub mod Refusals

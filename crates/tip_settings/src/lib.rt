@@ -8,6 +8,7 @@ mod fault;
 mod limit;
 mod reading;
 mod realms;
+mod refusals;
 
 pub use config::{Config, RealmConfig};
 pub use fault::{ConfigFault, Wanted};

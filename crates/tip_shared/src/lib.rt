@@ -4,6 +4,7 @@
 mod closing;
 mod conditions;
 mod entering;
+mod refusals;
 mod retiring;
 mod sessions;
 mod shared;

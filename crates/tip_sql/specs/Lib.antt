@@ -3,3 +3,4 @@ pub mod Places
 pub mod Standing
 pub mod Sql
 pub mod Reading
+pub mod Refusals

@@ -6,6 +6,7 @@ mod layout;
 mod opening;
 mod questions;
 mod reading;
+mod refusals;
 mod spelling;
 mod sql_rows;
 mod statements;

@@ -3,3 +3,4 @@ pub mod Errands
 pub mod Recovering
 pub mod Loading
 pub mod Renewing
+pub mod Refusals

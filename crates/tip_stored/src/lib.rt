@@ -6,6 +6,7 @@ mod keeping;
 mod loading;
 mod realm_spec;
 mod recovering;
+mod refusals;
 mod renewing;
 mod stored_core;
 

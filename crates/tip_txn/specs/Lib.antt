@@ -1,3 +1,4 @@
 pub mod Decisions
 pub mod Parts
 pub mod Transactions
+pub mod Refusals

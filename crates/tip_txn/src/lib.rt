@@ -4,6 +4,7 @@
 mod answer;
 pub mod laws;
 mod part;
+mod refusals;
 mod txn;
 
 pub use answer::{Ballot, Decision, Phase};

@@ -1,6 +1,6 @@
 use Rattle.std.proofs.Common.{◌+◌}
 use Rattle.tip_settings.proofs.Items.{one_more, not_read, all_read, followed}
-use Rattle.tip_settings.proofs.Refusals.{lacked_by}
+use Rattle.tip_settings.proofs.Refusing.{lacked_by}
 use Rattle.tip_settings.specs.Branches.{label_in}
 use Rattle.tip_settings.specs.Documents.{each_of}
 use Rattle.tip_settings.specs.declared.fault.Wanted.TheVariants.{Labels}

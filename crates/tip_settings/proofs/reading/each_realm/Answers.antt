@@ -1,6 +1,6 @@
 use Rattle.std.proofs.Common.{◌∙◌, map, sym, ap, Some}
 use Rattle.tip_settings.proofs.Items.{one_more_kept, not_read, all_read}
-use Rattle.tip_settings.proofs.Refusals.{refused_by, wrong_by}
+use Rattle.tip_settings.proofs.Refusing.{refused_by, wrong_by}
 use Rattle.tip_settings.specs.Documents.{each_of}
 use Rattle.tip_settings.specs.Realms.{realm_of, setting_of}
 use Rattle.toml.proofs.Views.{get_item_within}

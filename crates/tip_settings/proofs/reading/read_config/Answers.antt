@@ -1,6 +1,6 @@
 use Rattle.std.proofs.Common.{rules}
 use Rattle.std.proofs.lemmas.Bool.{true≢false}
-use Rattle.tip_settings.proofs.Refusals.{read_refused, why}
+use Rattle.tip_settings.proofs.Refusing.{read_refused, why}
 use Rattle.tip_settings.proofs.Texts.{document, is_document, no_configuration, no_document}
 use Rattle.tip_settings.specs.Configurations.{configuration_in}
 use Rattle.toml.specs.View.{table_view}

@@ -1,6 +1,6 @@
 use Rattle.std.proofs.Common.{◌≡◌, length, arith}
 use Rattle.std.proofs.lemmas.Bool.Decides.{nat_tests}
-use Rattle.tip_settings.proofs.Refusals.{no_realms}
+use Rattle.tip_settings.proofs.Refusing.{no_realms}
 use Rattle.toml.specs.View.{table_view}
 use Rattle.tip_settings.proofs.reading.realms_in.Goals as goal
 
