@@ -1,8 +1,9 @@
 /* Beside `tipd serve`: a server that answers each line with itself, with two threads a connection and one mutex for all of them; and
-   a client that counts what an answer costs.
+   clients that count what an answer and a commit cost.
 
-   wire echo PORT           serves until it is killed
-   wire ask PORT TURNS      says one line, hears its answer, TURNS times; prints the nanoseconds of all */
+   wire echo PORT              serves until it is killed
+   wire ask PORT TURNS         says one line, hears its answer, TURNS times; prints the nanoseconds of all
+   wire commit TURNS PORT..    a client for each port begins and commits a transaction TURNS times; prints the nanoseconds of all */
 #include <arpa/inet.h>
 #include <netinet/tcp.h>
 #include <pthread.h>
@@ -103,38 +104,90 @@ static int echo(const char *port)
     }
 }
 
-static int turn(int socket, const char *line)
+/* Says a line; whether its answer begins with these words. */
+static int is_answered(int socket, const char *line, const char *words)
 {
     char answer[ROOM];
-    size_t length = strlen(line);
+    size_t length = strlen(line), heard = 0;
     if (send(socket, line, length, MSG_NOSIGNAL) != (ssize_t)length)
         return 0;
-    for (;;) {
-        ssize_t count = recv(socket, answer, sizeof answer, 0);
+    do {
+        ssize_t count = recv(socket, answer + heard, sizeof answer - heard, 0);
         if (count <= 0)
             return 0;
-        if (answer[count - 1] == '\n')
-            return 1;
-    }
+        heard += (size_t)count;
+    } while (answer[heard - 1] != '\n');
+    return heard >= strlen(words) && memcmp(answer, words, strlen(words)) == 0;
+}
+
+/* A connection that has said who it is, or -1. */
+static int opened(const char *port)
+{
+    struct sockaddr_in at = place(port);
+    int peer = socket(AF_INET, SOCK_STREAM, 0);
+    if (connect(peer, (struct sockaddr *)&at, sizeof at) != 0)
+        return -1;
+    at_once(peer);
+    return is_answered(peer, "IDENTIFY 3 3 - -\r\n", "") ? peer : -1;
+}
+
+static long long since(struct timespec begin)
+{
+    struct timespec end;
+    clock_gettime(CLOCK_MONOTONIC, &end);
+    return (end.tv_sec - begin.tv_sec) * 1000000000LL + end.tv_nsec - begin.tv_nsec;
 }
 
 static int ask(const char *port, long turns)
 {
-    struct sockaddr_in at = place(port);
-    struct timespec begin, end;
-    int peer = socket(AF_INET, SOCK_STREAM, 0);
-    if (connect(peer, (struct sockaddr *)&at, sizeof at) != 0)
-        return 1;
-    at_once(peer);
-    if (!turn(peer, "IDENTIFY 3 3 - -\r\n"))
+    struct timespec begin;
+    int peer = opened(port);
+    if (peer < 0)
         return 1;
     clock_gettime(CLOCK_MONOTONIC, &begin);
     for (long count = 0; count < turns; count++)
-        if (!turn(peer, "QUERY x\r\n"))
+        if (!is_answered(peer, "QUERY x\r\n", ""))
             return 1;
-    clock_gettime(CLOCK_MONOTONIC, &end);
-    printf("%lld\n", (end.tv_sec - begin.tv_sec) * 1000000000LL + end.tv_nsec - begin.tv_nsec);
+    printf("%lld\n", since(begin));
     return 0;
+}
+
+struct client {
+    pthread_t thread;
+    int socket;
+    long turns;
+};
+
+/* Answers itself where each of its commits was right. */
+static void *commits(void *its)
+{
+    struct client *client = its;
+    for (long count = 0; count < client->turns; count++)
+        if (!is_answered(client->socket, "BEGIN\r\n", "BEGUN ") || !is_answered(client->socket, "COMMIT\r\n", "COMMITTED"))
+            return NULL;
+    return client;
+}
+
+static int commit(long turns, int count, char **ports)
+{
+    struct timespec begin;
+    struct client *clients = calloc((size_t)count, sizeof *clients);
+    int is_right = 1;
+    for (int place = 0; place < count; place++) {
+        clients[place] = (struct client){.socket = opened(ports[place]), .turns = turns};
+        if (clients[place].socket < 0)
+            return 1;
+    }
+    clock_gettime(CLOCK_MONOTONIC, &begin);
+    for (int place = 0; place < count; place++)
+        pthread_create(&clients[place].thread, NULL, commits, &clients[place]);
+    for (int place = 0; place < count; place++) {
+        void *its;
+        pthread_join(clients[place].thread, &its);
+        is_right = is_right && its != NULL;
+    }
+    printf("%lld\n", since(begin));
+    return is_right ? 0 : 1;
 }
 
 int main(int count, char **words)
@@ -143,5 +196,7 @@ int main(int count, char **words)
         return echo(words[2]);
     if (count == 4 && strcmp(words[1], "ask") == 0)
         return ask(words[2], atol(words[3]));
+    if (count >= 4 && strcmp(words[1], "commit") == 0)
+        return commit(atol(words[2]), count - 3, words + 3);
     return 2;
 }
