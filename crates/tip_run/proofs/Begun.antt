@@ -1,5 +1,5 @@
 -- Realms that start from what is stored of them, with boxes for each row.
-use Rattle.std.proofs.Common.{◌≡◌, ◌≢◌, ◌<◌, ◌+◌, ◌∷◌, ◌==◌, ◌∙◌, ℕ, zero, suc, Bool, true, false, cond, List, [], Option, Some, None, arith, length, map, inr, refl, ap, subst, sym}
+use Rattle.std.proofs.Common.{◌≡◌, ◌≢◌, ◌<◌, ◌+◌, ◌∷◌, ◌==◌, ◌∙◌, ℕ, zero, suc, Bool, true, false, cond, List, [], Option, Some, None, arith, length, map, inl, inr, refl, ap, subst, sym}
 use Rattle.std.specs.Prelude.{◌&&◌, IfErr, IfOk, is_none, is_some, nat_lt, not, option_map, slice_get, MatchOption, Result, Ok, Err}
 use Rattle.std.specs.Cmp.{unsigned_Decides}
 use Rattle.std.specs.Option.{option_map_or}
@@ -26,14 +26,14 @@ use Rattle.tip_rows.specs.Rows.{branches_of}
 use Rattle.tip_rows.specs.declared.row.Row.{Row}
 use Rattle.tip_stored.proofs.Opening.{named_at, read_at, start_at}
 use Rattle.tip_stored.proofs.Parts.{can_open, number_of, opened_known, opened_part}
-use Rattle.tip_stored.specs.Loading.{AreTheirs, Goes, Never, Stays, names_of, opened, start_of}
-use Rattle.tip_stored.specs.Recovering.{adopted_each, all_adopted, are_for_each, recovered}
+use Rattle.tip_stored.specs.Loading.{AreTheirs, Goes, IsOnTheWay, Loads, Never, Stays, names_of, opened, start_of}
+use Rattle.tip_stored.specs.Recovering.{Recovering, adopted_each, all_adopted, are_for_each, recovered}
 use Rattle.tip_stored.specs.declared.realm_spec.RealmSpec.{RealmSpec}
 use Rattle.tip_run.proofs.Given.{boxes_at, given_all, given_boxes, given_stored, gives}
 use Rattle.tip_run.specs.Giving.{AreEachGiven, AreGiven}
-use Rattle.tip_run.specs.Halts.{IsWhyNotBegun, IsWhyNotRestarted}
+use Rattle.tip_run.specs.Halts.{HandsBack, IsReliable, IsWhyNotBegun, IsWhyNotRestarted, MayBeLeft}
 use Rattle.tip_run.specs.Starts.{AreDeclared, HasBoxes, HasStarted, IsBegun, IsRestarted, first_of}
-use Rattle.tip_run.specs.declared.halt.RunFault.{RunFault}
+use Rattle.tip_run.specs.declared.halt.Stuck.{Stuck}
 
 -- A realm that is there
 
@@ -177,6 +177,28 @@ module _ {S : Type 0} (kept : Keeping S) (old : Host S) (specs : List RealmSpec)
   begun_again (Ok host) begun = let is = subst (λ s. (is : IsBegun kept specs s host) × HasBoxes is boxes) same begun in (record { specs = specs; declared = declared; begins = is.0 }, is.1)
   begun_again (Err why) begun = tt
 
-  pub not_again : {T : Type 0} (result : Result T RunFault) → IfErr result (IsWhyNotBegun kept specs store boxes) → IfErr result (IsWhyNotRestarted kept old boxes)
+  pub not_again : {T : Type 0} (result : Result T (Stuck S)) → IfErr result (λ stuck. IsWhyNotBegun kept specs store boxes stuck.store stuck.fault) → IfErr result (λ stuck. IsWhyNotRestarted kept old boxes stuck.store stuck.fault)
   not_again (Ok host) why = tt
-  not_again (Err fault) why = inr (specs, declared, subst (λ s. IsWhyNotBegun kept specs s boxes fault) same why)
+  not_again (Err stuck) why = inr (specs, declared, subst (λ s. IsWhyNotBegun kept specs s boxes stuck.store stuck.fault) same why)
+
+  -- the store of a start that was not made
+  pub hands_back : {T : Type 0} (result : Result T (Stuck S)) → IfErr result (λ stuck. IsReliable kept stuck.store → kept.is_true store) → ((left : S) (log : Log) → kept.stands store log → IfErr result (λ stuck. stuck.store ≡ Some left → (now : Log) × IsOnTheWay (names_of specs) log now × kept.stands left now)) → IfErr result (λ stuck. stuck.store ≡ None → (loaded : Recovering S) × Loads kept specs store (Ok loaded)) → IfErr result (λ stuck. HandsBack kept old true stuck.store)
+  hands_back (Ok host) truth rows lost = tt
+  hands_back (Err stuck) truth rows lost = record {
+    truth = λ reliable. subst kept.is_true same (truth reliable);
+    rows = λ left is log stood.
+        let way = rows left log (subst (λ s. kept.stands s log) (sym same) stood) is in
+        (way.0, inr (specs, declared, way.1), way.2);
+    lost = λ none. let read = lost none in (specs, declared, read.0, subst (λ s. Loads kept specs s (Ok read.0)) same read.1);
+  }
+
+-- The store of a host that ends, since a move was not made: it is as it was, or may be relied on no less
+pub ended_back : {S : Type 0} (kept : Keeping S) (old : Host S) (restarts : Bool) (store : S) (left : Option S) → left ≡ Some store → (kept.is_true store → kept.is_true old.stored.store) → ((log : Log) → kept.stands old.stored.store log → kept.stands store log) → HandsBack kept old restarts left
+ended_back {S = S} kept old restarts store left is truth rows = record {
+  truth = λ reliable. truth (subst (IsReliable kept) is reliable);
+  rows = λ there here log stood. (log, same restarts log, subst (λ s. kept.stands s log) (same_Some store there (sym is ∙ here)) (rows log stood));
+  lost = λ none. absurd (none-some store (sym none ∙ is));
+} where
+  same : (restarts : Bool) (log : Log) → MayBeLeft old restarts log log
+  same true log = inl refl
+  same false log = refl

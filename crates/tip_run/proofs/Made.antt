@@ -1,5 +1,5 @@
 -- A RUN: what holds of it by its moves.
-use Rattle.std.proofs.Common.{◌≡◌, ◌++◌, ◌∷◌, ◌∙◌, ℕ, suc, List, [], length, inl, refl, ap, subst, sym}
+use Rattle.std.proofs.Common.{◌≡◌, ◌++◌, ◌∷◌, ◌∙◌, ℕ, suc, List, [], Option, length, inl, refl, ap, subst, sym}
 use Rattle.std.specs.List.{list_any}
 use Rattle.std.proofs.lemmas.Bool.{or_left, or_right}
 use Rattle.tip_agreement.proofs.Agreeing.{name_led}
@@ -95,12 +95,12 @@ as_many kept old new (next ∷ moves) [] is = absurd is
 as_many kept old new (next ∷ moves) (one ∷ shown) (between, made, rest) = ap suc (as_many kept between new moves shown rest)
 
 -- memory may be wanting for any move
-pub wants_memory : {S : Type 0} (kept : Keeping S) (old : Running S) (next : Move) → IsWhyNotMade kept old next fault.Memory
-wants_memory kept old (move.Step event) = tt
-wants_memory kept old (move.Go place) = tt
-wants_memory kept old (move.Lose place) = tt
-wants_memory kept old (move.Restart boxes) = inl refl
-wants_memory kept old (move.Renew place boxes) = tt
+pub wants_memory : {S : Type 0} (kept : Keeping S) (old : Running S) (next : Move) (left : Option S) → IsWhyNotMade kept old next left fault.Memory
+wants_memory kept old (move.Step event) left = tt
+wants_memory kept old (move.Go place) left = tt
+wants_memory kept old (move.Lose place) left = tt
+wants_memory kept old (move.Restart boxes) left = inl refl
+wants_memory kept old (move.Renew place boxes) left = inl refl
 
 -- a move under another name
 pub made_as : {S : Type 0} (kept : Keeping S) (old new new' : Running S) (next next' : Move) (one one' : Shown) → next ≡ next' → one ≡ one' → new ≡ new' → IsMade kept old next' one' new' → IsMade kept old next one new

@@ -30,6 +30,7 @@ pub(crate) fn step<S: RowLog + Drop>(
         (λ shown. IsMade S.keeping (at_work host.old pass.old.noted earlier) (move.Step event)
         shown (at_work host.new pass.new.noted earlier)) }
     ensures why { IfErr result IsWhyNotHappened }
+    ensures store { OnErr result (host.new.stored.store ≡ host.old.stored.store) }
     ensures pass { OnErr result (pass.new.noted ≡ pass.old.noted) }
 {
     match host.step(alloc, pass, event) {
@@ -51,6 +52,7 @@ pub(crate) fn go<S: RowLog + Drop>(
         (λ shown. IsMade S.keeping (at_work host.old pass.old.noted earlier) (move.Go realm)
         shown (at_work host.new pass.new.noted earlier)) }
     ensures why { IfErr result IsWhyNotHappened }
+    ensures store { OnErr result (host.new.stored.store ≡ host.old.stored.store) }
     ensures pass { OnErr result (pass.new.noted ≡ pass.old.noted) }
 {
     let Some(work) = host.take_work(alloc, realm)? else {
@@ -75,6 +77,7 @@ pub(crate) fn lose<S: RowLog + Drop>(
         (λ shown. IsMade S.keeping (at_work host.old pass.now.noted earlier) (move.Lose realm)
         shown (at_work host.new pass.now.noted earlier)) }
     ensures why { IfErr result IsWhyNotHappened }
+    ensures store { OnErr result (host.new.stored.store ≡ host.old.stored.store) }
 {
     let Some(lost) = host.take_work(alloc, realm)? else {
         return Ok(Shown::Nobody);

@@ -1,11 +1,14 @@
 //! Why a run halts.
-ghost use Rattle.std.specs.Prelude.{◌≡◌};
+ghost use Rattle.std.specs.Prelude.{◌≡◌, Some};
+ghost use Rattle.tip_branch.specs.Always.{Always};
 
 use crate::shown::Shown;
 use std::alloc::AllocError;
 use thiserror::Error;
 use tip_honest::Entry;
+use tip_host::{Ended, Host};
 use tip_journal::Pass;
+use tip_rows::RowLog;
 use tip_stored::{LoadFault, RenewFault};
 
 /// Why a move was not made.
@@ -21,15 +24,40 @@ pub enum RunFault {
     Memory,
 }
 
-/// A run that has halted. Its host is gone, and so are the moves that were left; the rows stay in the store.
+/// A run that has halted. Its host is gone, and so are the moves that were left.
 #[derive(Drop)]
-pub struct Halt {
+pub struct Halt<S> {
     /// What was shown by the moves before, one for each: so many were made.
     pub shown: Vec<Shown>,
     /// Why the next one was not made.
     pub fault: RunFault,
     /// The entries of the run.
     pub pass: Pass<Entry>,
+    /// The store, with what was stored before that move, or on the way of the epochs to a start. None where memory has ended in a
+    /// start, or the boxes did not fit: then it has gone with what was read of it.
+    pub store: Option<S>,
+}
+
+/// Why a move was not made, and the store that is left.
+#[derive(Drop)]
+pub(crate) struct Stuck<S> {
+    pub(crate) fault: RunFault,
+    pub(crate) store: Option<S>,
+}
+
+impl<S: RowLog + Drop> Stuck<S> {
+    /// The host ends, since a move was not made.
+    pub(crate) fn at(host: Host<S>, fault: RunFault) -> Stuck<S>
+        requires { Always }
+        ensures fault { result.fault ≡ fault }
+        ensures store { result.store ≡ Some host.stored.store }
+    {
+        let Ended { store, .. } = host.shut();
+        Stuck {
+            fault,
+            store: Some(store),
+        }
+    }
 }
 
 impl From<AllocError> for RunFault {

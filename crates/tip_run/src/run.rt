@@ -1,13 +1,13 @@
 //! A host is run by a list of moves.
 ghost use Rattle.std.specs.Prelude.{◌≡◌, ◌++◌, ◌∷◌, [], List, map, IfErr, IfOk, OnErr};
 ghost use Rattle.tip_branch.specs.Always.{Always};
-ghost use Rattle.tip_run.specs.Halts.{HasHalted, IsWhyNotMade};
+ghost use Rattle.tip_run.specs.Halts.{HandsBack, HasHalted, IsWhyNotMade};
 ghost use Rattle.tip_run.specs.Moves.{IsMade, at_work};
 ghost use Rattle.tip_run.specs.Running.{IsAtRest};
-ghost use Rattle.tip_run.specs.Runs.{HasRun};
+ghost use Rattle.tip_run.specs.Runs.{HasRun, is_restart};
 
 use crate::errands::{go, lose, step};
-use crate::halt::{Halt, RunFault};
+use crate::halt::{Halt, RunFault, Stuck};
 use crate::moves::Move;
 use crate::running::Running;
 use crate::shown::Shown;
@@ -23,7 +23,7 @@ impl<S: RowLog + Drop> Running<S> {
     /// all realms are interleaved, each realm's journals are what one honest run of its own machine leaves, which leads to its state,
     /// its stored rows and its parties that are out, over restarts too; and the pass has these entries. At the first move that can't
     /// be made the run halts and says why, and the same holds of the moves before it.
-    pub fn run(self, alloc: Global, moves: Vec<Move>) -> Result<(Running<S>, Vec<Shown>), Halt>
+    pub fn run(self, alloc: Global, moves: Vec<Move>) -> Result<(Running<S>, Vec<Shown>), Halt<S>>
         requires { Always }
         ensures ran { IfOk result
             (λ ran. HasRun S.keeping self moves.items ran.1.items ran.0) }
@@ -35,7 +35,15 @@ impl<S: RowLog + Drop> Running<S> {
         for next in moves {
             running = match running.make(alloc, next, &mut shown) {
                 Ok(after) => after,
-                Err((fault, pass)) => return Err(Halt { shown, fault, pass }),
+                Err((stuck, pass)) => {
+                    let Stuck { fault, store } = stuck;
+                    return Err(Halt {
+                        shown,
+                        fault,
+                        pass,
+                        store,
+                    });
+                }
             };
         }
         Ok((running, shown))
@@ -47,11 +55,14 @@ impl<S: RowLog + Drop> Running<S> {
         alloc: Global,
         next: Move,
         shown: &mut Vec<Shown>,
-    ) -> Result<Running<S>, (RunFault, Pass<Entry>)>
+    ) -> Result<Running<S>, (Stuck<S>, Pass<Entry>)>
         requires { Always }
         ensures made { IfOk result (λ after. (one : _) × (shown.new.items ≡ shown.old.items ++ one ∷ [])
             × IsMade S.keeping self next one after) }
-        ensures why { IfErr result (λ halt. IsWhyNotMade S.keeping self next halt.0) }
+        ensures why { IfErr result
+            (λ halt. IsWhyNotMade S.keeping self next halt.0.store halt.0.fault) }
+        ensures back { IfErr result
+            (λ halt. HandsBack S.keeping self.host (is_restart next) halt.0.store) }
         ensures pass { IfErr result (λ halt. halt.1.noted ≡ self.noted) }
         ensures same { OnErr result (shown.new.items ≡ shown.old.items) }
     {
@@ -61,7 +72,7 @@ impl<S: RowLog + Drop> Running<S> {
             mut earlier,
         } = self;
         if shown.reserve(1).is_err() {
-            return Err((RunFault::Memory, pass));
+            return Err((Stuck::at(host, RunFault::Memory), pass));
         }
         match made(alloc, host, &mut pass, &mut earlier, next) {
             Ok((host, one)) => {
@@ -72,7 +83,7 @@ impl<S: RowLog + Drop> Running<S> {
                     earlier,
                 })
             }
-            Err(fault) => Err((fault, pass)),
+            Err(stuck) => Err((stuck, pass)),
         }
     }
 }
@@ -84,28 +95,38 @@ fn made<S: RowLog + Drop>(
     pass: &mut Pass<Entry>,
     earlier: &mut Vec<Journals<Opening, Entry>>,
     next: Move,
-) -> Result<(Host<S>, Shown), RunFault>
+) -> Result<(Host<S>, Shown), Stuck<S>>
     requires always { Always }
     requires rest { IsAtRest host }
     ensures made { IfOk result (λ after. IsMade S.keeping
         (at_work host pass.old.noted earlier.old.items) next after.1
         (at_work after.0 pass.new.noted earlier.new.items)) }
-    ensures why { IfErr result
-        (IsWhyNotMade S.keeping (at_work host pass.old.noted earlier.old.items) next) }
+    ensures why { IfErr result (λ stuck. IsWhyNotMade S.keeping
+        (at_work host pass.old.noted earlier.old.items) next stuck.store stuck.fault) }
+    ensures back { IfErr result
+        (λ stuck. HandsBack S.keeping host (is_restart next) stuck.store) }
     ensures pass { OnErr result (pass.new.noted ≡ pass.old.noted) }
 {
-    let shown = match next {
-        Move::Step(event) => step(alloc, &mut host, pass, event)?,
-        Move::Go { realm } => go(alloc, &mut host, pass, realm)?,
-        Move::Lose { realm } => lose(alloc, &mut host, pass, realm)?,
-        Move::Renew { realm, boxes } => {
-            renew(alloc, &mut host, realm, boxes)?;
-            Shown::Started
-        }
+    match next {
+        Move::Step(event) => match step(alloc, &mut host, pass, event) {
+            Ok(shown) => Ok((host, shown)),
+            Err(fault) => Err(Stuck::at(host, fault)),
+        },
+        Move::Go { realm } => match go(alloc, &mut host, pass, realm) {
+            Ok(shown) => Ok((host, shown)),
+            Err(fault) => Err(Stuck::at(host, fault)),
+        },
+        Move::Lose { realm } => match lose(alloc, &mut host, pass, realm) {
+            Ok(shown) => Ok((host, shown)),
+            Err(fault) => Err(Stuck::at(host, fault)),
+        },
+        Move::Renew { realm, boxes } => match renew(alloc, &mut host, realm, boxes) {
+            Ok(()) => Ok((host, Shown::Started)),
+            Err(fault) => Err(Stuck::at(host, fault)),
+        },
         Move::Restart { boxes } => {
-            host = restart(alloc, host, earlier, boxes)?;
-            Shown::Started
+            let host = restart(alloc, host, earlier, boxes)?;
+            Ok((host, Shown::Started))
         }
-    };
-    Ok((host, shown))
+    }
 }

@@ -1,14 +1,17 @@
 //! Realms of a host that is run, which start again.
-ghost use Rattle.std.specs.Prelude.{◌≡◌, ◌++◌, ◌∷◌, [], List, map, IfErr, IfOk, OnOk};
+ghost use Rattle.std.specs.Prelude.{◌≡◌, ◌++◌, ◌∷◌, [], List, map, IfErr, IfOk, None, Ok, OnErr, OnOk, Some, true};
 ghost use Rattle.tip_branch.specs.Always.{Always};
 ghost use Rattle.tip_honest.specs.Honesty.{Journal};
 ghost use Rattle.tip_host.specs.Entries.{Noted};
-ghost use Rattle.tip_run.specs.Halts.{IsWhyNotBegun, IsWhyNotRenewed, IsWhyNotRestarted};
+ghost use Rattle.tip_rows.specs.Logs.{Log};
+ghost use Rattle.tip_stored.specs.Loading.{IsOnTheWay, Loads, names_of};
+ghost use Rattle.tip_stored.specs.Recovering.{Recovering};
+ghost use Rattle.tip_run.specs.Halts.{HandsBack, IsReliable, IsWhyNotBegun, IsWhyNotRenewed, IsWhyNotRestarted};
 ghost use Rattle.tip_run.specs.Moves.{IsRenewed, at_work};
 ghost use Rattle.tip_run.specs.Running.{IsAtRest};
 ghost use Rattle.tip_run.specs.Starts.{HasBoxes, IsBegun, IsRestarted};
 
-use crate::halt::RunFault;
+use crate::halt::{RunFault, Stuck};
 use std::alloc::Global;
 use tip_branch::HeldPrepared;
 use tip_core::Core;
@@ -25,17 +28,22 @@ pub(crate) fn restart<S: RowLog + Drop>(
     host: Host<S>,
     earlier: &mut Vec<Journals<Opening, Entry>>,
     boxes: Vec<Vec<HeldPrepared>>,
-) -> Result<Host<S>, RunFault>
+) -> Result<Host<S>, Stuck<S>>
     requires { Always }
     ensures restarted { IfOk result (λ again. (is : IsRestarted S.keeping host again)
         × HasBoxes is.begins (map (λ lots. lots.items) boxes.items)) }
     ensures earlier { OnOk result
         (earlier.new.items ≡ earlier.old.items ++ host.books.journals ∷ []) }
-    ensures why { IfErr result
-        (IsWhyNotRestarted S.keeping host (map (λ lots. lots.items) boxes.items)) }
+    ensures why { IfErr result (λ stuck. IsWhyNotRestarted S.keeping host
+        (map (λ lots. lots.items) boxes.items) stuck.store stuck.fault) }
+    ensures back { IfErr result (λ stuck. HandsBack S.keeping host true stuck.store) }
 {
-    earlier.reserve(1)?;
-    let specs = host.declarations(alloc)?;
+    if earlier.reserve(1).is_err() {
+        return Err(Stuck::at(host, RunFault::Memory));
+    }
+    let Ok(specs) = host.declarations(alloc) else {
+        return Err(Stuck::at(host, RunFault::Memory));
+    };
     let Ended {
         store,
         journals,
@@ -51,23 +59,41 @@ fn begin<S: RowLog + Drop>(
     store: S,
     specs: Vec<RealmSpec>,
     boxes: Vec<Vec<HeldPrepared>>,
-) -> Result<Host<S>, RunFault>
+) -> Result<Host<S>, Stuck<S>>
     requires { Always }
     ensures begun { IfOk result (λ host. (is : IsBegun S.keeping specs.items store host)
         × HasBoxes is (map (λ lots. lots.items) boxes.items)) }
-    ensures why { IfErr result
-        (IsWhyNotBegun S.keeping specs.items store (map (λ lots. lots.items) boxes.items)) }
+    ensures why { IfErr result (λ stuck. IsWhyNotBegun S.keeping specs.items store
+        (map (λ lots. lots.items) boxes.items) stuck.store stuck.fault) }
+    ensures truth { IfErr result
+        (λ stuck. IsReliable S.keeping stuck.store → S.keeping.is_true store) }
+    ensures rows { (left : S) (log : Log) → S.keeping.stands store log → IfErr result
+        (λ stuck. stuck.store ≡ Some left → (now : Log)
+        × IsOnTheWay (names_of specs.items) log now × S.keeping.stands left now) }
+    ensures lost { IfErr result (λ stuck. stuck.store ≡ None → (loaded : Recovering S)
+        × Loads S.keeping specs.items store (Ok loaded)) }
 {
     let mut recovering = match StoredCore::load(alloc, store, Core::new(alloc), specs) {
         Ok(recovering) => recovering,
-        Err((fault, _)) => return Err(RunFault::Load(fault)),
+        Err((fault, store)) => {
+            return Err(Stuck {
+                fault: RunFault::Load(fault),
+                store: Some(store),
+            });
+        }
     };
     if !recovering.adopt_all(boxes) {
-        return Err(RunFault::Boxes);
+        return Err(Stuck {
+            fault: RunFault::Boxes,
+            store: None,
+        });
     }
     match Host::open(alloc, recovering) {
         Ok(host) => Ok(host),
-        Err((OpenFault::Memory, _)) => Err(RunFault::Memory),
+        Err((OpenFault::Memory, _)) => Err(Stuck {
+            fault: RunFault::Memory,
+            store: None,
+        }),
         Err((OpenFault::Unadopted, _)) => unreachable!(),
     }
 }
@@ -84,7 +110,12 @@ pub(crate) fn renew<S: RowLog + Drop>(
     ensures renewed { (noted : List Noted) (earlier : List (List (List Journal))) → OnOk result
         (IsRenewed S.keeping (at_work host.old noted earlier) (at_work host.new noted earlier)
         realm boxes.items) }
-    ensures why { IfErr result (IsWhyNotRenewed S.keeping host.old realm boxes.items) }
+    ensures why { IfErr result
+        (IsWhyNotRenewed S.keeping host.old realm boxes.items host.new.stored.store) }
+    ensures truth { OnErr result (S.keeping.is_true host.new.stored.store →
+        S.keeping.is_true host.old.stored.store) }
+    ensures rows { (log : Log) → S.keeping.stands host.old.stored.store log →
+        OnErr result (S.keeping.stands host.new.stored.store log) }
 {
     let mut recovery = match host.doubts(alloc, realm) {
         Ok(recovery) => recovery,

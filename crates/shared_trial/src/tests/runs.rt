@@ -80,7 +80,7 @@ fn move_all(alloc: Global, running: Running<MemRows>, moves: Vec<Move>, epoch: u
 }
 
 /// These moves are not made.
-fn halted(alloc: Global, running: Running<MemRows>, moves: Vec<Move>) -> Option<Halt>
+fn halted(alloc: Global, running: Running<MemRows>, moves: Vec<Move>) -> Option<Halt<MemRows>>
     requires { Always }
 {
     running.run(alloc, moves).err()
@@ -154,16 +154,21 @@ fn renews(alloc: Global) -> Option<bool> {
     Some(made.entries == 10 && made.earlier == 0 && counters.counted() == (1, 0, 1))
 }
 
-/// Boxes for a row that is not there end the run, behind two moves.
+/// Boxes for a row that is not there end the run, behind two moves. The store comes back.
 fn halts(alloc: Global) -> Option<bool> {
     let counters = Arc::new(alloc, Counters::new()).ok()?;
     let mut moves = lines(alloc, 1, &["IDENTIFY 3 3 - -"], &counters)?;
-    let boxes = promised(alloc, &counters)?;
-    moves.push(Move::Restart { boxes }).ok()?;
+    let boxes = promised(alloc, &counters)?.into_iter().next()?;
+    moves
+        .push(Move::Renew {
+            realm: NORTH,
+            boxes,
+        })
+        .ok()?;
     moves.push(Move::Go { realm: NORTH }).ok()?;
     let halt = halted(alloc, begun(alloc)?, moves)?;
-    let entries = halt.pass.noted().len();
-    Some(halt.fault == RunFault::Boxes && halt.shown.len() == 2 && entries == 2)
+    let is_whole = halt.pass.noted().len() == 2 && halt.store.is_some();
+    Some(halt.fault == RunFault::Boxes && halt.shown.len() == 2 && is_whole)
 }
 
 #[test]

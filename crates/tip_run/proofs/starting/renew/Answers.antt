@@ -49,14 +49,13 @@ returns-in-Ok-renew-clause-renewed g c = λ noted earlier.
     }
 
 pub returns-in-Err-clause-why : goal.returns-in-Err-clause-why
-returns-in-Err-clause-why g c = (c.doubts.new.self.stored.store, λ none. same_Some _ _ (ap result_err (c.in-Err.ensures.absent none)), λ log state stood there truth. inl (c.in-Err.ensures.reason log state stood there truth))
+returns-in-Err-clause-why g c = (λ none. same_Some _ _ (ap result_err (c.in-Err.ensures.absent none)), λ log state stood there truth. inl (c.in-Err.ensures.reason log state stood there truth))
 
 pub returns-then-not-adopt_all-clause-why : goal.returns-then-not-adopt_all-clause-why
-returns-then-not-adopt_all-clause-why g c = (c.doubts.new.self.stored.store, c.in-Ok.recovery, search rules, λ log state stood there truth. c.in-Ok.ensures.read log state stood there truth)
+returns-then-not-adopt_all-clause-why g c = (c.in-Ok.recovery, search rules, λ log state stood there truth. c.in-Ok.ensures.read log state stood there truth)
 
 pub returns-clause-why : goal.returns-clause-why
 returns-clause-why g c = (
-  c.renew.new.self.stored.store,
   λ none. absurd (c.in-Ok.ensures.here none),
   λ log state stood there truth.
       let rest = c.in-Ok.ensures.rest in

@@ -1,12 +1,24 @@
 -- The host is at rest again behind the move.
+use Rattle.std.proofs.Common.{subst, sym}
+use Rattle.tip_run.proofs.Begun.{ended_back}
 use Rattle.tip_run.proofs.Made.{wants_memory}
+use Rattle.tip_run.specs.Halts.{HandsBack, IsWhyNotMade}
+use Rattle.tip_run.specs.Running.{Running}
+use Rattle.tip_run.specs.Runs.{is_restart}
 use Rattle.tip_run.proofs.MoveKinds.{kind}
 use Rattle.tip_run.proofs.Resting.{made_rests}
 use Rattle.tip_run.specs.Moves.{at_work}
 use Rattle.tip_run.proofs.running.Running.make.Goals as goal
 
 pub returns-then-is_err-clause-why : goal.returns-then-is_err-clause-why
-returns-then-is_err-clause-why g c = wants_memory g.S.RowLog.keeping c.args.self c.args.next
+returns-then-is_err-clause-why g c = subst (IsWhyNotMade g.S.RowLog.keeping c.args.self c.args.next c.at.result.store) (sym c.at.ensures.fault) (wants_memory g.S.RowLog.keeping c.args.self c.args.next c.at.result.store)
+
+pub returns-then-is_err-clause-back : goal.returns-then-is_err-clause-back
+returns-then-is_err-clause-back g c =
+    let kept = g.S.RowLog.keeping in
+    let host = c.self.inside.host in
+    subst (λ (self : Running g.row.S.Denot). HandsBack kept self.host (is_restart c.args.next) c.at.result.store) c.self.view_is
+    (ended_back kept host (is_restart c.args.next) host.stored.store c.at.result.store c.at.ensures.store (λ reliable. reliable) (λ log stood. stood))
 
 pub invariant_of-result : goal.invariant_of-result
 invariant_of-result g c =

@@ -23,6 +23,7 @@ returns-in-Err-clause-halted g c =
       next = c.in-Some.next;
       is_next = ap (λ (m : List Move). slice_get m (length c.make.new.shown.items)) (sym parts) ∙ ap (slice_get (yielded ++ c.in-Some.next ∷ c.next.new.self.rest.items)) counted ∙ get-behind yielded c.next.new.self.rest.items c.in-Some.next;
       why = c.in-Err.ensures.why;
+      back = c.in-Err.ensures.back;
     }
 
 pub loop-next-preserved : goal.loop-next-preserved
