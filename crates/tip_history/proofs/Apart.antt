@@ -16,16 +16,16 @@ use Rattle.tip_machine.specs.Moves.{Restart, moved as all_over}
 use Rattle.tip_actor.specs.Acting.{Acting, Done, boxes_in, is_at_end, opening_text, restarts, settles}
 use Rattle.tip_scene.specs.Scenes as scenes
 use Rattle.tip_scene.specs.Scenes.{Scene, does, elsewhere, is_named, moved, moved_at, moved_in, openings_text, place_of, with_done, with_text}
-use Rattle.tip_scene.specs.Acts.{Stage, Declaring, scene_of, starts_text}
+use Rattle.tip_scene.specs.Acts.{Basis, Stage, Declaring, scene_of, starts_text}
 use Rattle.tip_scene.specs.declared.declared.Declaration.{Declaration}
 use Rattle.tip_script.specs.Scripts.{Move, realm_of}
-use Rattle.tip_play.specs.Transcripts.{Ending, Fault, Reached, act_of, in_memory, played, played_on}
+use Rattle.tip_play.specs.Transcripts.{Ending, Fault, Reached, act_of, played, played_on}
 use Rattle.tip_history.specs.Alone.{IsAlone, all_moved, and_then, concerns, is_spelled, own}
-use Rattle.tip_history.specs.Histories.{History, name_of}
+use Rattle.tip_history.specs.Histories.{AreWritten, History, name_of}
 use Rattle.tip_history.specs.Sayings.{Line, Saying, Shows, are_spelled, line_text, lines_on, lines_text, saying_text, shown_of, shown_on}
 use Rattle.tip_history.proofs.Doing.{Did, did, did_settle, opening_is, opening_said, outputs_of, shown_said}
 use Rattle.tip_history.proofs.Mixing.{AreOf, Mixed, differs, names_of, quiet_by, said_by, shown_said_by, sound_at, spelled_at, spelled_by, spelled_names, spelled_on, text_said}
-use Rattle.tip_history.proofs.Playing.{IsElsewhere, Stands, elsewhere_said, goes as goes_to, line_so, nothing_yet, spelled_there, started}
+use Rattle.tip_history.proofs.Playing.{IsElsewhere, Stands, at_stage, declared_at, declared_in_end, declared_then, elsewhere_said, goes as goes_to, line_so, nothing_yet, spelled_there, started, stays}
 
 abbrev pub names : Scene → List (List ℕ)
 names scene = map (λ (acting : Acting). acting.name) scene
@@ -93,13 +93,13 @@ alone_there move realm acting named = ap (λ (b : Bool). moved_at move (cond (no
 
 -- What is said of one realm
 
-own_lines : (name : List ℕ) (said : List Saying) → lines_on name (said_by name said) ≡ said_by name said
+pub own_lines : (name : List ℕ) (said : List Saying) → lines_on name (said_by name said) ≡ said_by name said
 own_lines name [] = refl
 own_lines name (saying ∷ said) =
     ap (λ b. cond b ((name, saying) ∷ lines_on name (said_by name said)) (lines_on name (said_by name said))) (bytes_eq-self name)
     ∙ ap (λ l. (name, saying) ∷ l) (own_lines name said)
 
-other_lines : (name other : List ℕ) (said : List Saying) → bytes_eq name other ≡ false → lines_on name (said_by other said) ≡ []
+pub other_lines : (name other : List ℕ) (said : List Saying) → bytes_eq name other ≡ false → lines_on name (said_by other said) ≡ []
 other_lines name other [] differ = refl
 other_lines name other (saying ∷ said) differ =
     ap (λ b. cond b ((other, saying) ∷ lines_on name (said_by other said)) (lines_on name (said_by other said))) differ
@@ -204,13 +204,13 @@ nowhere move realm scene next (Some said) spelled is names_it none goes = subst 
 -- All realms start again
 
 -- what each says, under its name
-abbrev each_says : (Acting → List Saying) → Scene → List Line
+abbrev pub each_says : (Acting → List Saying) → Scene → List Line
 each_says f scene = flat_map (λ (acting : Acting). said_by acting.name (f acting)) scene
 
 says_cons : (f : Acting → List Saying) (a : Acting) (scene : Scene) → each_says f (a ∷ scene) ≡ said_by a.name (f a) ++ each_says f scene
 says_cons f a scene = flat_map-cons (λ (acting : Acting). said_by acting.name (f acting)) a scene
 
-each_text : (f : Acting → List Saying) (text : Acting → List ℕ) → ((a : Acting) → text a ≡ flat_map (saying_text a.name) (f a)) → (scene : Scene) → flat_map text scene ≡ lines_text (each_says f scene)
+pub each_text : (f : Acting → List Saying) (text : Acting → List ℕ) → ((a : Acting) → text a ≡ flat_map (saying_text a.name) (f a)) → (scene : Scene) → flat_map text scene ≡ lines_text (each_says f scene)
 each_text f text same [] = refl
 each_text f text same (a ∷ scene) =
     flat_map-cons text a scene
@@ -218,7 +218,7 @@ each_text f text same (a ∷ scene) =
     ∙ ap (λ t. lines_text (said_by a.name (f a)) ++ t) (each_text f text same scene)
     ∙ sym (ap lines_text (says_cons f a scene) ∙ flat_map-append line_text (said_by a.name (f a)) (each_says f scene))
 
-each_spelled : (f : Acting → List Saying) (scene : Scene) → list_all (λ (a : Acting). is_realm a.name) scene ≡ true → are_spelled (each_says f scene) ≡ true
+pub each_spelled : (f : Acting → List Saying) (scene : Scene) → list_all (λ (a : Acting). is_realm a.name) scene ≡ true → are_spelled (each_says f scene) ≡ true
 each_spelled f [] all = refl
 each_spelled f (a ∷ scene) all =
     let parts = and_parts (is_realm a.name) (list_all (λ (x : Acting). is_realm x.name) scene) all in
@@ -242,7 +242,7 @@ none_says f name (a ∷ scene) apart =
     let parts = or_parts (bytes_eq name a.name) _ apart in
     lines_cons name f a scene ∙ ap (λ l. l ++ lines_on name (each_says f scene)) (other_lines name a.name (f a) parts.0) ∙ none_says f name scene parts.1
 
-one_says : (f : Acting → List Saying) (scene : Scene) (place : ℕ) (acting : Acting) → are_distinct bytes_eq (names scene) ≡ true → slice_get scene place ≡ Some acting → lines_on acting.name (each_says f scene) ≡ said_by acting.name (f acting)
+pub one_says : (f : Acting → List Saying) (scene : Scene) (place : ℕ) (acting : Acting) → are_distinct bytes_eq (names scene) ≡ true → slice_get scene place ≡ Some acting → lines_on acting.name (each_says f scene) ≡ said_by acting.name (f acting)
 one_says f [] place acting distinct here = absurd (none-some acting here)
 one_says f (a ∷ scene) zero acting distinct here =
     subst (λ (x : Acting). lines_on x.name (each_says f (a ∷ scene)) ≡ said_by x.name (f x)) (same_Some a acting here)
@@ -347,11 +347,11 @@ steps_in move (Some realm) scene next spelled distinct all is did goes = steps_a
 
 -- Lines one after another
 
-same_names : (lines : List Line) (histories : List History) (scene : Scene) → AreOf lines histories scene → names scene ≡ names_of histories
-same_names lines [] [] are = refl
-same_names lines [] (a ∷ scene) are = absurd are
-same_names lines (h ∷ histories) [] are = absurd are
-same_names lines (h ∷ histories) (a ∷ scene) are = ap (λ n. n ∷ names scene) are.0.named ∙ ap (λ l. name_of h ∷ l) (same_names lines histories scene are.1)
+same_names : (basis : Basis) (lines : List Line) (histories : List History) (scene : Scene) → AreOf basis lines histories scene → names scene ≡ names_of histories
+same_names basis lines [] [] are = refl
+same_names basis lines [] (a ∷ scene) are = absurd are
+same_names basis lines (h ∷ histories) [] are = absurd are
+same_names basis lines (h ∷ histories) (a ∷ scene) are = ap (λ n. n ∷ names scene) are.0.named ∙ ap (λ l. name_of h ∷ l) (same_names basis lines histories scene are.1)
 
 -- whoever has a name has it still
 names_of_named : (name : List ℕ) (scene : Scene) → list_any (is_named name) scene ≡ list_any (λ other. bytes_eq other name) (names scene)
@@ -392,48 +392,58 @@ then_all move moves scene mid next goes step rest = record {
       let more = rest.each place acting away.0 in
       (more.0, more.1, more.2 ∙ ap (λ t. record { printed = t; scene = Some (more.0 ∷ []) }) (ap (λ (l : List Line). lines_text l ++ lines_text (lines_on acting.name rest.lines)) (sym away.1) ∙ sym (text_of acting.name)))
 
-alone_on : (text : List ℕ) (moves : List Move) (scene next : Scene) → list_all is_spelled moves ≡ true → Mixed text scene → (all_moved moves scene).scene ≡ Some next → IsAlone moves scene next (all_moved moves scene).printed
-alone_on text [] scene next spelled mixed goes = subst (λ (s : Scene). IsAlone [] scene s []) (same_Some scene next goes) (record { lines = []; text_is = refl; spelled = refl; each = λ place acting here. (acting, here, refl); silent = λ name none. refl })
-alone_on text (move ∷ moves) scene next spelled mixed goes = at (moved move scene).scene refl goes (λ mid on. alone_on (text ++ (moved move scene).printed) moves mid next (and_parts (is_spelled move) (list_all is_spelled moves) spelled).1 on) where
+-- ONE LINE, in a scene that was reached
+pub step_of : (basis : Basis) (declarations : List Declaration) (text : List ℕ) (move : Move) (scene next : Scene) → is_spelled move ≡ true → Mixed basis declarations text scene → (moved move scene).scene ≡ Some next → Steps move scene next (moved move scene).printed
+step_of basis declarations text move scene next spelled mixed goes = steps_in move (realm_of move) scene next spelled distinct all_spelled refl did_it goes where
+  distinct : are_distinct bytes_eq (names scene) ≡ true
+  distinct = ap (are_distinct bytes_eq) (same_names basis mixed.lines mixed.histories scene mixed.each) ∙ mixed.named
+
+  all_spelled : list_all (λ (a : Acting). is_realm a.name) scene ≡ true
+  all_spelled = spelled_names basis mixed.lines mixed.histories scene mixed.each
+
+  did_it : (place : ℕ) (acting : Acting) (d : Done) → slice_get scene place ≡ Some acting → does move acting ≡ Some d → Did acting (settles d)
+  did_it place acting d here does_it = did_settle acting d (did move acting d (sound_at basis mixed.lines mixed.histories scene place acting mixed.each here) does_it)
+
+alone_on : (basis : Basis) (declarations : List Declaration) (text : List ℕ) (moves : List Move) (scene next : Scene) → list_all is_spelled moves ≡ true → Mixed basis declarations text scene → (all_moved moves scene).scene ≡ Some next → IsAlone moves scene next (all_moved moves scene).printed
+alone_on basis declarations text [] scene next spelled mixed goes = subst (λ (s : Scene). IsAlone [] scene s []) (same_Some scene next goes) (record { lines = []; text_is = refl; spelled = refl; each = λ place acting here. (acting, here, refl); silent = λ name none. refl })
+alone_on basis declarations text (move ∷ moves) scene next spelled mixed goes = at (moved move scene).scene refl goes (λ mid on. alone_on basis declarations (text ++ (moved move scene).printed) moves mid next (and_parts (is_spelled move) (list_all is_spelled moves) spelled).1 on) where
   printed : List ℕ
   printed = (moved move scene).printed
-
-  distinct : are_distinct bytes_eq (names scene) ≡ true
-  distinct = ap (are_distinct bytes_eq) (same_names mixed.lines mixed.histories scene mixed.each) ∙ mixed.named
 
   own_spelled : is_spelled move ≡ true
   own_spelled = (and_parts (is_spelled move) (list_all is_spelled moves) spelled).0
 
-  all_spelled : list_all (λ (a : Acting). is_realm a.name) scene ≡ true
-  all_spelled = spelled_names mixed.lines mixed.histories scene mixed.each
-
-  did_it : (place : ℕ) (acting : Acting) (d : Done) → slice_get scene place ≡ Some acting → does move acting ≡ Some d → Did acting (settles d)
-  did_it place acting d here does_it = did_settle acting d (did move acting d (sound_at mixed.lines mixed.histories scene place acting mixed.each here) does_it)
-
-  at : (mid : Option Scene) → (moved move scene).scene ≡ mid → (and_then printed mid (all_moved moves)).scene ≡ Some next → ((later : Scene) → Mixed (text ++ printed) later → (all_moved moves later).scene ≡ Some next → IsAlone moves later next (all_moved moves later).printed) → IsAlone (move ∷ moves) scene next (and_then printed mid (all_moved moves)).printed
+  at : (mid : Option Scene) → (moved move scene).scene ≡ mid → (and_then printed mid (all_moved moves)).scene ≡ Some next → ((later : Scene) → Mixed basis declarations (text ++ printed) later → (all_moved moves later).scene ≡ Some next → IsAlone moves later next (all_moved moves later).printed) → IsAlone (move ∷ moves) scene next (and_then printed mid (all_moved moves)).printed
   at None is goes more = absurd (none-some next goes)
-  at (Some mid) is goes more = then_all move moves scene mid next is (steps_in move (realm_of move) scene mid own_spelled distinct all_spelled refl did_it is) (more mid ((goes_to move text scene own_spelled mixed).on mid is) goes)
+  at (Some mid) is goes more = then_all move moves scene mid next is (step_of basis declarations text move scene mid own_spelled mixed is) (more mid ((goes_to basis declarations move text scene own_spelled mixed).on mid is) goes)
 
 -- The realms that a script declares
 
-reached : (text : List ℕ) (stage next : Stage) (number : ℕ) (lines : List (List ℕ)) → Stands text stage → (played in_memory stage number lines).ending ≡ Reached next → Stands (text ++ (played in_memory stage number lines).printed) next
-reached text stage next number [] stands is = subst (Stands (text ++ [])) (same_Reached stage next is) (subst (λ t. Stands t stage) (sym (append-nil text)) stands) where
+module _ (basis : Basis) (written : AreWritten basis) where
   same_Reached : (a b : Stage) → Reached a ≡ Reached b → a ≡ b
   same_Reached a b same = ap stage_of same where
     stage_of : Ending → Stage
     stage_of (Reached s) = s
     stage_of (Fault n) = a
-reached text stage next number (line ∷ lines) stands is = at (act_of in_memory stage line).stage refl is (λ mid on. reached (text ++ (act_of in_memory stage line).printed) mid next (number + 1) lines on) where
-  here : List ℕ
-  here = (act_of in_memory stage line).printed
 
-  at : (mid : Option Stage) → (act_of in_memory stage line).stage ≡ mid → (played_on here mid number (λ later. played in_memory later (number + 1) lines)).ending ≡ Reached next → ((later : Stage) → Stands (text ++ here) later → (played in_memory later (number + 1) lines).ending ≡ Reached next → Stands ((text ++ here) ++ (played in_memory later (number + 1) lines).printed) next) → Stands (text ++ (played_on here mid number (λ later. played in_memory later (number + 1) lines)).printed) next
-  at None was is more = absurd (fault_is_not is) where
-    fault_is_not : Fault number ≡ Reached next → ⊥
-    fault_is_not same = absurd (cc)
-  at (Some mid) was is more = subst (λ t. Stands t next) (append_assoc text here (played in_memory mid (number + 1) lines).printed) (more mid ((line_so text stage line stands).on mid was) is)
+  reached : (declarations : List Declaration) (text : List ℕ) (stage next : Stage) (number : ℕ) (lines : List (List ℕ)) → Stands basis declarations text stage → (played basis stage number lines).ending ≡ Reached next → Stands basis (declared_at basis declarations stage lines) (text ++ (played basis stage number lines).printed) next
+  reached declarations text stage next number [] stands is =
+      subst (λ ds. Stands basis ds (text ++ []) next) (declared_in_end basis declarations stage)
+      (subst (Stands basis (at_stage declarations stage) (text ++ [])) (same_Reached stage next is) (stays basis written declarations text stage stands))
+  reached declarations text stage next number (line ∷ lines) stands is = at (act_of basis stage line).stage refl is (λ mid on. reached (at_stage declarations stage) (text ++ (act_of basis stage line).printed) mid next (number + 1) lines on) where
+    here : List ℕ
+    here = (act_of basis stage line).printed
 
-pub each_alone : (lines : List (List ℕ)) (declarations : List Declaration) (moves : List Move) (next : Scene) → (played in_memory (Declaring []) 1 lines).ending ≡ Reached (Declaring declarations) → list_all is_spelled moves ≡ true → (all_moved moves (scene_of in_memory declarations)).scene ≡ Some next → IsAlone moves (scene_of in_memory declarations) next (all_moved moves (scene_of in_memory declarations)).printed
-each_alone lines declarations moves next declares spelled goes =
-    let stands = reached [] (Declaring []) (Declaring declarations) 1 lines nothing_yet declares in
-    alone_on (starts_text in_memory declarations) moves (scene_of in_memory declarations) next spelled (started declarations stands.0) goes
+    at : (mid : Option Stage) → (act_of basis stage line).stage ≡ mid → (played_on here mid number (λ later. played basis later (number + 1) lines)).ending ≡ Reached next → ((later : Stage) → Stands basis (at_stage declarations stage) (text ++ here) later → (played basis later (number + 1) lines).ending ≡ Reached next → Stands basis (declared_at basis (at_stage declarations stage) later lines) ((text ++ here) ++ (played basis later (number + 1) lines).printed) next) → Stands basis (declared_at basis declarations stage (line ∷ lines)) (text ++ (played_on here mid number (λ later. played basis later (number + 1) lines)).printed) next
+    at None was is more = absurd (fault_is_not is) where
+      fault_is_not : Fault number ≡ Reached next → ⊥
+      fault_is_not same = absurd (cc)
+    at (Some mid) was is more =
+        subst (λ ds. Stands basis ds (text ++ (here ++ (played basis mid (number + 1) lines).printed)) next) (declared_then basis declarations stage mid line lines was)
+        (subst (λ t. Stands basis (declared_at basis (at_stage declarations stage) mid lines) t next) (append_assoc text here (played basis mid (number + 1) lines).printed)
+        (more mid ((line_so basis written declarations text stage line stands).on mid was) is))
+
+  pub each_alone : (lines : List (List ℕ)) (declarations : List Declaration) (moves : List Move) (next : Scene) → (played basis (Declaring []) 1 lines).ending ≡ Reached (Declaring declarations) → list_all is_spelled moves ≡ true → (all_moved moves (scene_of basis declarations)).scene ≡ Some next → IsAlone moves (scene_of basis declarations) next (all_moved moves (scene_of basis declarations)).printed
+  each_alone lines declarations moves next declares spelled goes =
+      let stands = reached [] [] (Declaring []) (Declaring declarations) 1 lines (nothing_yet basis) declares in
+      alone_on basis declarations (starts_text basis declarations) moves (scene_of basis declarations) next spelled (started basis declarations written stands.0) goes

@@ -13,14 +13,17 @@ use Rattle.tip_rows.specs.Labels.{is_label}
 use Rattle.tip_rows.specs.Logs.{last_epoch}
 use Rattle.tip_machine.specs.Heads.{are_allowed, is_within, starting}
 use Rattle.tip_machine.specs.Invariants.Links.{are_distinct}
-use Rattle.tip_machine.specs.Starting.{are_counted_from, are_declared, is_starting}
+use Rattle.tip_machine.specs.Starting.{IsStart, are_counted_from, are_declared, is_starting}
 use Rattle.tip_machine.specs.declared.head.Limits.{Limits}
-use Rattle.tip_scene.specs.Acts.{are_labels, declaration_of, declared, first_branches, is_count, is_declared, is_other, labelled, labelled_at, may_be_declared, may_be_labelled, numbered, start_of, with_labels}
-use Rattle.tip_play.specs.Transcripts.{in_memory}
+use Rattle.tip_actor.specs.Acting.{boxes_in}
+use Rattle.tip_scene.specs.Acts.{Basis, Before, acting_of, are_labels, declaration_of, declared, first_branches, is_count, is_declared, is_other, labelled, labelled_at, may_be_declared, may_be_labelled, numbered, start_of, with_labels}
 use Rattle.tip_scene.specs.declared.declared.Declaration.{Declaration}
+use Rattle.tip_history.specs.Histories.{AreWritten}
+use Rattle.tip_history.proofs.Doing.{boxes_are_adopted}
 
+-- a name, an address, limits and branches that a realm may have
 abbrev pub can_be : Declaration → Bool
-can_be declaration = is_starting (starting (start_of (in_memory.before declaration.name) declaration))
+can_be declaration = is_realm declaration.name && is_address declaration.address && are_allowed declaration.limits && are_declared declaration.branches
 
 abbrev pub names : List Declaration → List (List ℕ)
 names declarations = map (λ declaration. declaration.name) declarations
@@ -95,7 +98,7 @@ declared_can name address branches limits declarations may =
     let realm = and_parts _ (is_realm name) at.0 in
     let allowed = and_parts _ (are_allowed limits) realm.0 in
     let count = and_parts _ (is_count branches) allowed.0 in
-    and_from _ _ (and_from _ _ (and_from _ _ (and_from _ _ (and_from _ _ (and_from (is_realm name) (is_address address) realm.1 at.1) allowed.1) (first_are branches count.1)) refl) refl) refl
+    and_from _ _ (and_from _ _ (and_from (is_realm name) (is_address address) realm.1 at.1) allowed.1) (first_are branches count.1)
 
 -- no realm has its name
 none_named : (name address : List ℕ) (branches : ℕ) (limits : Limits) (declarations : List Declaration) → may_be_declared name address branches limits declarations ≡ true → list_all (is_other name) declarations ≡ true
@@ -127,13 +130,6 @@ one_more name address branches limits declarations next are is = at (may_be_decl
 
 -- Labels
 
--- its name, its address, its limits and its branches
-begins : (d : Declaration) → can_be d ≡ true → (is_realm d.name && is_address d.address && are_allowed d.limits && are_declared d.branches) ≡ true
-begins d can =
-    let entries = and_parts _ (0 == 0) can in
-    let given = and_parts _ (0 == 0) entries.0 in
-    (and_parts _ (is_within 1 last_epoch 1) given.0).0
-
 labelled_can : (labels : List (List ℕ)) (d now : Declaration) → can_be d ≡ true → with_labels labels d ≡ Some now → (can_be now ≡ true) × (now.name ≡ d.name)
 labelled_can labels d now can is = at (may_be_labelled labels d) refl is where
   then_ : Declaration
@@ -143,9 +139,9 @@ labelled_can labels d now can is = at (may_be_labelled labels d) refl is where
   at true may is =
       let fits = and_parts _ (are_labels labels) may in
       let count = and_parts (not d.is_labelled) (length labels == length d.branches) fits.0 in
-      let starts = and_parts _ (are_declared d.branches) (begins d can) in
+      let starts = and_parts _ (are_declared d.branches) can in
       subst (λ (x : Declaration). (can_be x ≡ true) × (x.name ≡ d.name)) (same_Some then_ now is)
-      (and_from _ _ (and_from _ _ (and_from _ _ (and_from _ _ starts.0 (labels_are labels d.branches starts.1 count.1 fits.1)) refl) refl) refl, refl)
+      (and_from _ _ starts.0 (labels_are labels d.branches starts.1 count.1 fits.1), refl)
   at false may is = absurd (none-some now is)
 
 all_set : (declarations : List Declaration) (place : ℕ) (d : Declaration) → list_all can_be declarations ≡ true → can_be d ≡ true → list_all can_be (slice_set declarations place d) ≡ true
@@ -177,3 +173,29 @@ labelled_from labels place declarations next are (Some d) here is = at (with_lab
 
 pub with_names : (realm : List ℕ) (labels : List (List ℕ)) (declarations next : List Declaration) → AreDeclared declarations → labelled realm labels declarations ≡ Some next → AreDeclared next
 with_names realm labels declarations next are is = labelled_from labels (position_or_len (is_declared realm) declarations) declarations next are (slice_get declarations (position_or_len (is_declared realm) declarations)) refl is
+
+-- The start
+
+-- what can be declared can start where tipd alone wrote what is stored of it
+within : (epoch : ℕ) → nat_lt epoch last_epoch ≡ true → is_within 1 last_epoch (epoch + 1) ≡ true
+within epoch rises =
+    let least : nat_le 1 (epoch + 1) ≡ true = grind (arith, nat_tests) in
+    let most : nat_le (epoch + 1) last_epoch ≡ true = grind (arith, nat_tests, rises) in
+    and_from (nat_le 1 (epoch + 1)) (nat_le (epoch + 1) last_epoch) least most
+
+pub can_start : (d : Declaration) (before : Before) → can_be d ≡ true → nat_lt before.epoch last_epoch ≡ true → is_starting (starting (start_of before d)) ≡ true
+can_start d before can rises = and_from _ _ (and_from _ _ (and_from _ _ can (within before.epoch rises)) refl) refl
+
+pub first_starts : (basis : Basis) (d : Declaration) → AreWritten basis → can_be d ≡ true → IsStart (acting_of basis d).world
+first_starts basis d are can =
+    let written = are d in
+    let rows = (basis.before d.name).rows in
+    record {
+      head = can_start d (basis.before d.name) can written.rises;
+      rows = written.rows;
+      boxes = boxes_in rows;
+      adopted = boxes_are_adopted rows written.rows.rising;
+      state = refl;
+      known_once = written.known_once;
+      errands = refl;
+    }

@@ -234,7 +234,7 @@ each_enough (stored ∷ rows) = and_from (are_enough stored (Some stored.1)) _ (
   enough : (n : ℕ) → (length (willing n) == n) ≡ true
   enough n = let same = willing_count n in grind (arith, nat_tests, same)
 
-boxes_are_adopted : (rows : List (Key × Row)) → is_rising rows ≡ true → are_adopted (boxes_in rows) rows ≡ true
+pub boxes_are_adopted : (rows : List (Key × Row)) → is_rising rows ≡ true → are_adopted (boxes_in rows) rows ≡ true
 boxes_are_adopted rows rising =
     all_mapped (λ (stored : Key × Row). are_enough stored (row_at stored.0 rows)) rows
     ∙ ap (list_all (λ (b : Bool). b)) (each_found are_enough rows rising)

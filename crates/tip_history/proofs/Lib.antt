@@ -5,3 +5,5 @@ pub mod Declaring
 pub mod Spelling
 pub mod Playing
 pub mod Apart
+pub mod Scripts
+pub mod Telling

@@ -1,59 +1,91 @@
--- WHAT A TRANSCRIPT TELLS of the realms (ours): each has made an honest run of its own machine, alone, and in each run the four
--- sentences of agreement hold of each identifier.
-use Rattle.std.specs.Prelude.{◌≡◌, ℕ, true, false, List, [], ◌∷◌, ◌++◌, map, Option}
-use Rattle.std.specs.Io.KnownBytes.{Appends}
+-- WHAT A TRANSCRIPT TELLS of the realms (ours): each has made an honest run of its own machine, alone, from its start as it was
+-- declared and by what was stored of it; and in each run the four sentences of agreement hold of each identifier.
+use Rattle.std.specs.Prelude.{◌≡◌, ℕ, ◌+◌, true, false, List, [], ◌∷◌, map, nat_lt, Option, Some}
 use Rattle.std.specs.List.{list_any}
 use Rattle.std.specs.Str.{bytes_eq}
 use Rattle.tip_machine.specs.Agreement.{IsAgreed}
 use Rattle.tip_machine.specs.Agreement.Traces.{Moment, shown_in, traced}
 use Rattle.tip_machine.specs.Honest.{is_run}
+use Rattle.tip_machine.specs.Invariants.{are_known_once}
 use Rattle.tip_machine.specs.Invariants.Links.{are_distinct}
 use Rattle.tip_machine.specs.Moves.{Move, World}
-use Rattle.tip_machine.specs.Starting.{IsStart}
+use Rattle.tip_machine.specs.Starting.{AreRowsBefore, IsStart}
+use Rattle.tip_rows.specs.Logs.{last_epoch}
+use Rattle.tip_scene.specs.Acts.{Basis, Before, Declaring, Stage, acting_of}
+use Rattle.tip_scene.specs.declared.declared.Declaration.{Declaration}
+use Rattle.tip_play.specs.Transcripts.{act_of}
 use Rattle.tip_history.specs.Sayings.{Line, are_spelled, lines_text, shown_of}
 
--- where a realm began, and the moves that it has made since
+-- What was stored before
+
+-- tipd alone wrote what is stored of a realm: rows of earlier epochs, no two in doubt for one transaction of one superior; and an
+-- epoch follows, in which it can start
+pub record IsWritten (before : Before) (start : World) : Type 0 where
+  pub rises : nat_lt before.epoch last_epoch ≡ true
+  pub rows : AreRowsBefore (before.epoch + 1) before.rows
+  pub known_once : are_known_once start.state ≡ true
+
+abbrev pub AreWritten : Basis → Type 0
+AreWritten basis = (declaration : Declaration) → IsWritten (basis.before declaration.name) (acting_of basis declaration).world
+
+-- What a script declares: by its lines, until the first other one starts the realms
+
+abbrev pub declared_on : List Declaration → Option Stage → (List Declaration → List Declaration) → List Declaration
+declared_on declarations (Some (Declaring more)) later = later more
+declared_on declarations other later = declarations
+
+abbrev pub declared_from : Basis → List Declaration → List (List ℕ) → List Declaration
+declared_from basis declarations [] = declarations
+declared_from basis declarations (line ∷ lines) = declared_on declarations (act_of basis (Declaring declarations) line).stage (λ more. declared_from basis more lines)
+
+abbrev pub declared_by : Basis → List (List ℕ) → List Declaration
+declared_by basis lines = declared_from basis [] lines
+
+-- Histories
+
+-- a realm as it was declared, and the moves that it has made since its start
 pub record History : Type 0 where
-  pub start : World
+  pub declaration : Declaration
   pub moves : List Move
 
 abbrev pub name_of : History → List ℕ
-name_of history = history.start.state.head.name
+name_of history = history.declaration.name
 
-abbrev pub moments_of : History → List Moment
-moments_of history = traced history.start history.moves
+-- what it was at its start
+abbrev pub begin_of : Basis → History → World
+begin_of basis history = (acting_of basis history.declaration).world
 
--- a run of a realm's machine, from a first start without rows
-pub record IsHistory (lines : List Line) (history : History) : Type 0 where
-  pub start : IsStart history.start
-  pub empty : history.start.rows ≡ []
-  pub run : is_run history.start history.moves ≡ true
+abbrev pub moments_of : Basis → History → List Moment
+moments_of basis history = traced (begin_of basis history) history.moves
+
+-- a run of a realm's machine
+pub record IsHistory (basis : Basis) (lines : List Line) (history : History) : Type 0 where
+  pub start : IsStart (begin_of basis history)
+  pub run : is_run (begin_of basis history) history.moves ≡ true
   -- ISOLATION: the lines show of the realm what its own machine shows, in this run of its own
-  pub shown : shown_of (name_of history) lines ≡ shown_in (moments_of history)
+  pub shown : shown_of (name_of history) lines ≡ shown_in (moments_of basis history)
   -- AGREEMENT: none of its transactions is half committed
-  pub agreed : (id : List ℕ) → IsAgreed history.start (moments_of history) id
+  pub agreed : (id : List ℕ) → IsAgreed (begin_of basis history) (moments_of basis history) id
 
-abbrev pub AreHistories : List Line → List History → Type 0
-AreHistories lines [] = Unit {0}
-AreHistories lines (history ∷ histories) = IsHistory lines history × AreHistories lines histories
+abbrev pub AreHistories : Basis → List Line → List History → Type 0
+AreHistories basis lines [] = Unit {0}
+AreHistories basis lines (history ∷ histories) = IsHistory basis lines history × AreHistories basis lines histories
 
 -- no history is of this name
 abbrev pub IsUnknown : List ℕ → List History → Type 0
 IsUnknown name histories = list_any (bytes_eq name) (map name_of histories) ≡ false
 
-pub record IsTold (text : List ℕ) : Type 0 where
+abbrev pub declarations_of : List History → List Declaration
+declarations_of histories = map (λ history. history.declaration) histories
+
+-- what is said of these realms
+pub record IsTold (basis : Basis) (declarations : List Declaration) (text : List ℕ) : Type 0 where
   pub lines : List Line
   pub text_is : text ≡ lines_text lines
   pub spelled : are_spelled lines ≡ true
   pub histories : List History
-  pub told : AreHistories lines histories
+  pub declared : declarations_of histories ≡ declarations
+  pub told : AreHistories basis lines histories
   -- no two realms have one name, and no other is shown
   pub named : are_distinct bytes_eq (map name_of histories) ≡ true
   pub silent : (name : List ℕ) → IsUnknown name histories → shown_of name lines ≡ []
-
--- what was written is a front of such a text
-pub record Tells (old new : Option (List ℕ)) : Type 0 where
-  pub front : List ℕ
-  pub later : List ℕ
-  pub told : IsTold (front ++ later)
-  pub written : Appends old new front

@@ -1,3 +1,4 @@
 pub mod Sayings
 pub mod Histories
 pub mod Alone
+pub mod Tellings

@@ -1,28 +1,43 @@
 //! Laws of scripts, each carried by a function that does nothing.
 ghost use Rattle.std.specs.Prelude.{◌≡◌, ℕ, true, List, [], Some};
 ghost use Rattle.std.specs.List.{list_all};
-ghost use Rattle.tip_play.specs.Transcripts.{Reached, in_memory, played, transcript};
-ghost use Rattle.tip_scene.specs.Acts.{Declaring, scene_of};
+ghost use Rattle.tip_play.specs.Transcripts.{Reached, in_memory, lines_of, played, transcript};
+ghost use Rattle.tip_scene.specs.Acts.{Basis, Declaring, scene_of};
 ghost use Rattle.tip_scene.specs.Scenes.{Scene};
 ghost use Rattle.tip_scene.specs.declared.declared.Declaration.{Declaration};
 ghost use Rattle.tip_script.specs.Scripts.{Move};
-ghost use Rattle.tip_history.specs.Alone.{IsAlone, all_moved, is_spelled};
-ghost use Rattle.tip_history.specs.Histories.{IsTold};
+ghost use Rattle.tip_history.specs.Alone.{AreApart, IsAlone, all_moved, is_spelled, text_of};
+ghost use Rattle.tip_history.specs.Histories.{AreWritten, IsTold, declared_by};
 
-/// ISOLATION AND AGREEMENT: whatever a script says, its transcript says of each realm what the realm's own machine shows in an honest
-/// run of its own, over restarts and renewals, and in that run no transaction is half committed.
+/// ISOLATION AND AGREEMENT: whatever a script says, its transcript says of each realm that it declares what the realm's own machine
+/// shows in an honest run of its own, from its start as it was declared and by what was stored of it, over restarts and renewals; and
+/// in that run no transaction is half committed. What was stored is what tipd alone wrote.
 pub fn each_transcript_tells_honest_histories()
-    ensures { (script : List ℕ) → IsTold (transcript in_memory script) }
+    ensures { (basis : Basis) → AreWritten basis → (script : List ℕ) →
+        IsTold basis (declared_by basis (lines_of script)) (transcript basis script) }
 {}
 
 /// ISOLATION: whatever realms a script declares, and whatever lines follow, each realm prints what it prints where no other realm is
 /// there, by the lines that concern it, and is then as it is alone.
 pub fn each_realm_is_alone()
-    ensures { (lines : List (List ℕ)) (declarations : List Declaration) (moves : List Move)
+    ensures { (basis : Basis) → AreWritten basis →
+        (lines : List (List ℕ)) (declarations : List Declaration) (moves : List Move)
         (next : Scene) →
-        (played in_memory (Declaring []) 1 lines).ending ≡ Reached (Declaring declarations) →
+        (played basis (Declaring []) 1 lines).ending ≡ Reached (Declaring declarations) →
         list_all is_spelled moves ≡ true →
-        (all_moved moves (scene_of in_memory declarations)).scene ≡ Some next →
-        IsAlone moves (scene_of in_memory declarations) next
-        (all_moved moves (scene_of in_memory declarations)).printed }
+        (all_moved moves (scene_of basis declarations)).scene ≡ Some next →
+        IsAlone moves (scene_of basis declarations) next
+        (all_moved moves (scene_of basis declarations)).printed }
+{}
+
+/// ISOLATION OF A SCRIPT: what its lines print says of each realm that they declare what the realm's own lines print, those of it and
+/// those of all, up to a line that is not understood.
+pub fn each_realm_has_its_own_script()
+    ensures { (basis : Basis) → AreWritten basis → (lines : List (List ℕ)) →
+        AreApart basis lines (text_of basis lines) }
+{}
+
+/// Rows in memory begin with none.
+pub fn nothing_was_stored_in_memory()
+    ensures { AreWritten in_memory }
 {}

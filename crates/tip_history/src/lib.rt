@@ -5,4 +5,4 @@
 pub mod laws;
 mod player;
 
-pub use player::play;
+pub use player::{play, play_on};

@@ -3,8 +3,9 @@
 use sqlite::{Alter, Connection, Error, ErrorCode};
 use std::fs;
 use std::io::{self, BufReader, BufWriter};
+use tip_history::play_on;
 use tip_listing::{RowsFault, rows};
-use tip_play::{PlayFault, play_on};
+use tip_play::PlayFault;
 use tip_sql::{SqlRows, has_tables};
 
 /// Writes what a store has to standard output. A file that is missing or empty would be made one, so it is refused before.

@@ -1,4 +1,4 @@
-use Rattle.tip_history.proofs.Playing.{tells_if}
+use Rattle.tip_history.proofs.Telling.{tells_if}
 use Rattle.tip_history.proofs.player.play.Goals as goal
 
 pub returns-clause-tells : goal.returns-clause-tells
