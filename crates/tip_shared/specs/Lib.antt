@@ -1,3 +1,4 @@
 pub mod Closed
 pub mod Sessions
 pub mod Refusals
+pub mod Waiting

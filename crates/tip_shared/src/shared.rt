@@ -1,7 +1,11 @@
 //! The host behind its lock.
-ghost use Rattle.std.specs.Prelude.{◌≡◌, [], IfErr, IfOk, OnErr};
+ghost use Rattle.std.specs.Prelude.{◌≡◌, [], IfErr, IfOk, OnErr, length};
 ghost use Rattle.tip_branch.specs.Always.{Always};
+ghost use Rattle.tip_core.specs.Hosted.{realm as realm_at, standing_in};
+ghost use Rattle.tip_host.specs.Hosts.{waiting_at};
+ghost use Rattle.tip_host.specs.Seats.{within};
 ghost use Rattle.tip_host.specs.Served.{IsAnswered};
+ghost use Rattle.tip_shared.specs.Waiting.{must_wait};
 
 use crate::conditions::Conditions;
 use std::alloc::{AllocError, Global};
@@ -211,9 +215,12 @@ fn is_gone(standing: Standing) -> bool {
     matches!(standing, Standing::Gone)
 }
 
-/// Whether a line of a connection that is there must wait.
+/// Whether a line of a connection that is there must wait: its turn is to come, or too much waits to go out.
 fn must_wait<S: RowLog + Drop>(host: &Host<S>, seat: Seat) -> bool
     requires { Always }
+    ensures { result
+        ≡ must_wait (standing_in (within seat) (realm_at host.now.stored.core seat.realm))
+        (length (waiting_at seat host.now)) }
 {
     match host.standing(seat) {
         Standing::Gone => false,

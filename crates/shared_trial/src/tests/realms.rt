@@ -67,6 +67,16 @@ pub fn opened<R: Wait>(
     shared.step(rt, alloc, pass, opening).ok()?.reply.opened
 }
 
+/// What a line says; read once more where memory was wanting.
+fn heard(alloc: Global, text: &str) -> Option<Heard>
+    requires { Always }
+{
+    match Heard::of(alloc, text.as_bytes()) {
+        Ok(heard) => Some(heard),
+        Err(_) => Heard::of(alloc, text.as_bytes()).ok(),
+    }
+}
+
 /// A line comes on a connection; once more where memory was wanting.
 pub fn line<R: Wait>(
     rt: &R,
@@ -78,7 +88,7 @@ pub fn line<R: Wait>(
 ) -> Option<Stepped>
     requires { Always }
 {
-    let heard = Heard::of(alloc, text.as_bytes()).ok()?;
+    let heard = heard(alloc, text)?;
     match shared.step(rt, alloc, pass, HostEvent::line(seat, heard)) {
         Ok(stepped) => Some(stepped),
         Err((HostFault::Memory, event)) => shared.step(rt, alloc, pass, event).ok(),

@@ -1,9 +1,9 @@
 //! Memory that is wanting once: the same call again, with what it handed back, does what it was to do. With memory no call is made
-//! twice; `rt try --test --fail-alloc N` lets the Nth allocation fail.
+//! twice; `bench/wanting` lets each allocation fail, one in each run.
 ghost use Rattle.tip_branch.specs.Always.{Always};
 
 use super::boxes::opening;
-use super::realms::{is_closed, line, opened, shared};
+use super::realms::{line, opened, shared};
 use counting_branch::Counters;
 use std::alloc::Global;
 use std::sync::{Arc, Wait};
@@ -71,18 +71,46 @@ fn commit<R: Wait>(
     Some(())
 }
 
-fn commits_all_the_same<R: Wait>(rt: &R, alloc: Global) -> Option<bool> {
+/// The host ends, and the passes have all entries.
+fn is_closed(alloc: Global, shared: Shared<MemRows>, passes: Vec<Pass<Entry>>) -> bool
+    requires { Always }
+{
+    let (host, passes) = match shared.close(alloc, passes) {
+        Ok(_) => return true,
+        Err((_, host, passes)) => (host, passes),
+    };
+    match Shared::new(alloc, host) {
+        Ok(again) => again.close(alloc, passes).is_ok(),
+        Err(_) => false,
+    }
+}
+
+/// From where the connection is open each call is made again where memory was wanting. How often the branch was asked, told to
+/// commit and to abort, if the connection was opened.
+fn commits<R: Wait>(rt: &R, alloc: Global) -> Option<(u64, u64, u64)> {
     let shared = shared(alloc, 100)?;
     let mut pass = shared.pass(alloc);
+    let mut passes = Vec::with_capacity(alloc, 1).ok()?;
     let counters = Arc::new(alloc, Counters::new()).ok()?;
     let event = opening(alloc, NORTH, 1, &counters)?;
     let seat = opened(rt, alloc, &shared, &mut pass, event)?;
-    commit(rt, alloc, &shared, &mut pass, seat)?;
-    Some(counters.counted() == (1, 1, 0) && is_closed(alloc, shared, pass)?)
+    let is_done = commit(rt, alloc, &shared, &mut pass, seat).is_some();
+    passes.push(pass).ok()?;
+    if is_closed(alloc, shared, passes) && is_done {
+        Some(counters.counted())
+    } else {
+        Some((0, 0, 0))
+    }
 }
 
 #[test]
 fn a_commit_stands_though_memory_was_wanting_once(rt: HostRuntime) -> Result<(), Fail> {
-    assert!(rt; commits_all_the_same(&rt, rt.alloc()) == Some(true));
-    Ok(())
+    match commits(&rt, rt.alloc()) {
+        None => Err(Fail::new("out of memory before the connection was open")),
+        Some((1, 0, 1)) => Err(Fail::new("aborted: rows in memory found none for its row")),
+        Some(counted) => {
+            assert!(rt; counted == (1, 1, 0));
+            Ok(())
+        }
+    }
 }
