@@ -2,3 +2,4 @@ pub mod Stepping
 pub mod TakingUp
 pub mod Renewals
 pub mod Naming
+pub mod Usages

@@ -13,17 +13,20 @@ ghost use Rattle.tip_table.specs.Kept.{of};
 ghost use Rattle.tip_core.specs.Hosted.{realm as realm_at, room_in, may_take_in, must_wait_in, standing_in, HaveNames, IsRoomFor, Steps};
 ghost use Rattle.tip_core.specs.Recovering.{IsOf, taking_up};
 ghost use Rattle.tip_core.specs.Renewing.{HasRoom};
+ghost use Rattle.tip_core.specs.Usages.{is_with_superior, usage_of};
 
 use crate::happened::Happened;
 use crate::recovering::reopen_all;
 use crate::renewing::{Left, Parting, renew, room_to_renew};
 use crate::starts::Starts;
+use crate::usage::{Usage, count_committed, count_in_doubt, is_with_superior};
 use std::alloc::{AllocError, Global};
 use std::marker::Model;
 use tip_line::{Realm, Refusal};
 use tip_machine::{Connection, Event, Head, Outcome, Seat, Start, Transaction};
 use tip_outlook::Turns;
 use tip_recovery::Recovery;
+use tip_rows::Key;
 use tip_rules::{Realms, Room, Standing};
 use tip_table::{Items, Table};
 
@@ -214,6 +217,28 @@ impl Core {
             map seen result ≡ state.transactions }
     {
         self.realms.transactions.items(realm)
+    }
+
+    /// How much of its limits a realm takes up, and how far its transactions have come.
+    pub fn usage(&self, realm: usize) -> Option<Usage>
+        ensures { result ≡ option_map usage_of (realm_at self.now realm) }
+    {
+        let head = self.realms.heads.get(realm)?;
+        Some(Usage {
+            epoch: head.epoch,
+            connections: self.realms.connections.count(realm),
+            transactions: self.realms.transactions.count(realm),
+            in_doubt: count_in_doubt(&self.realms.transactions, realm),
+            committed: count_committed(&self.realms.transactions, realm),
+            entries: head.entries,
+        })
+    }
+
+    /// Whether the superior of a realm's transaction is on a connection.
+    pub fn is_with_superior(&self, realm: usize, key: Key) -> bool
+        ensures { result ≡ is_with_superior key (realm_at self.now realm) }
+    {
+        realm < self.realms.heads.len() && is_with_superior(&self.realms.connections, realm, key)
     }
 
     /// Whether a line of this seat may be taken now; else it is held until it may.

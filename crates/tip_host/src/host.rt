@@ -3,6 +3,7 @@ ghost use Rattle.std.specs.Prelude.{◌≡◌, ◌≢◌, ◌↔◌, ℕ, [], No
 ghost use Rattle.std.specs.Option.{option_map_or};
 ghost use Rattle.tip_branch.specs.Always.{Always};
 ghost use Rattle.tip_core.specs.Hosted.{HaveNames, may_take_in, realm as realm_at, standing_in};
+ghost use Rattle.tip_core.specs.Usages.{is_with_superior, usage_of};
 ghost use Rattle.tip_stored.specs.Loading.{spec_of};
 ghost use Rattle.tip_stored.specs.Recovering.{all_adopted};
 ghost use Rattle.tip_stored.specs.declared.stored_core.StepFault.TheVariants as StepFault;
@@ -32,12 +33,12 @@ use crate::serving::{finish, make_ready};
 use std::alloc::{AllocError, Global};
 use std::marker::Model;
 use thiserror::Error;
-use tip_core::{Core, Standing};
+use tip_core::{Core, Standing, Usage};
 use tip_honest::Entry;
 use tip_journal::{AuditFault, Journals, Pass, Reported, Retired, audit, fits};
 use tip_machine::{Event, Head, Item};
 use tip_outbox::Outboxes;
-use tip_rows::RowLog;
+use tip_rows::{Key, RowLog};
 use tip_stored::{RealmSpec, Recovering, StepFault, StoredCore};
 use tip_table::Table;
 
@@ -243,6 +244,20 @@ impl<S: RowLog + Drop> Host<S> {
         ensures { result ≡ may_take_in (within seat) (realm_at self.now.stored.core seat.realm) }
     {
         self.stored.core.may_take(seat.realm, seat.within())
+    }
+
+    /// How much of its limits a realm takes up, and how far its transactions have come; None where it is not hosted.
+    pub fn usage(&self, realm: usize) -> Option<Usage>
+        ensures { result ≡ option_map usage_of (realm_at self.now.stored.core realm) }
+    {
+        self.stored.core.usage(realm)
+    }
+
+    /// Whether the superior of a realm's transaction is on a connection.
+    pub fn is_with_superior(&self, realm: usize, key: Key) -> bool
+        ensures { result ≡ is_with_superior key (realm_at self.now.stored.core realm) }
+    {
+        self.stored.core.is_with_superior(realm, key)
     }
 
     /// Whether a realm takes no entry more before it starts again; a realm that is not hosted is not frozen.

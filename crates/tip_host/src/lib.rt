@@ -29,5 +29,5 @@ pub use opening::{OpenedRow, Opening};
 pub use reply::Reply;
 pub use seat::Seat;
 pub use spoken::Spoken;
-pub use tip_core::Standing;
+pub use tip_core::{Standing, Usage};
 pub use work::{Returned, Work};

@@ -12,10 +12,10 @@ use std::alloc::{AllocError, Global};
 use std::sync::{Mutex, Wait};
 use tip_core::Left;
 use tip_honest::Entry;
-use tip_host::{Host, HostEvent, HostFault, Returned, Seat, Standing, Stepped};
+use tip_host::{Host, HostEvent, HostFault, Returned, Seat, Standing, Stepped, Usage};
 use tip_journal::Pass;
 use tip_recovery::Recovery;
-use tip_rows::RowLog;
+use tip_rows::{Key, RowLog};
 use tip_session::{Outgoing, Ready};
 use tip_stored::RenewFault;
 
@@ -163,6 +163,20 @@ impl<S: RowLog + Drop> Shared<S> {
     {
         let host = self.host.lock(rt);
         host.epoch(realm) == Some(epoch) && host.is_frozen(realm)
+    }
+
+    /// How much of its limits a realm takes up, and how far its transactions have come; None where it is not hosted.
+    pub fn usage<R: Wait>(&self, rt: &R, realm: usize) -> Option<Usage>
+        requires { Always }
+    {
+        self.host.lock(rt).usage(realm)
+    }
+
+    /// Whether the superior of a realm's transaction is on a connection.
+    pub fn is_with_superior<R: Wait>(&self, rt: &R, realm: usize, key: Key) -> bool
+        requires { Always }
+    {
+        self.host.lock(rt).is_with_superior(realm, key)
     }
 
     /// From now on each event is refused. All that wait are woken.
