@@ -12,6 +12,8 @@ from measured import crate_program
 
 # below the ports that Linux gives to clients, so that none of them is taken by an outgoing connection
 FIRST_PORT = 23372
+# how much higher the control port of a realm is
+CONTROL = 400
 # a manager of the script's own is called here
 OWN_PORT = 23999
 OWN_ADDRESS = f"127.0.0.1:{OWN_PORT}"
@@ -24,17 +26,20 @@ def program():
 
 
 class Server:
-    """`tipd serve` with realms of these names, each on a port of its own, over one store."""
+    """`tipd serve` with realms of these names, each on a port of its own, over one store; with control ports where it is said."""
 
-    def __init__(self, folder, names, store=":memory:", votes="y", connections=64, boxes=64, transactions=64, entries=100_000):
+    def __init__(
+        self, folder, names, store=":memory:", votes="y", connections=64, boxes=64, transactions=64, entries=100_000, controls=False, first=FIRST_PORT
+    ):
         self.folder = pathlib.Path(folder)
-        self.ports = {name: FIRST_PORT + place for place, name in enumerate(names)}
+        self.ports = {name: first + place for place, name in enumerate(names)}
         self.store = store if store == ":memory:" else str(self.folder / store)
         self.config = self.folder / "tipd.toml"
         self.errors = self.folder / "errors"
         realms = [
             f'[[realm]]\nname = "{name}"\nlisten = "127.0.0.1:{port}"\naddress = "127.0.0.1:{port}"\nvotes = "{votes}"\n'
             f"connections = {connections}\ntransactions = {transactions}\nboxes = {boxes}\nentries = {entries}\n"
+            + (f'control = "127.0.0.1:{port + CONTROL}"\n' if controls else "")
             for name, port in self.ports.items()
         ]
         self.config.write_text(f'store = "{self.store}"\n' + "".join(realms))
@@ -98,6 +103,24 @@ class Server:
             raise ConnectionError(f"IDENTIFY was answered {said!r}")
         return peer
 
+    def address(self, name):
+        return f"127.0.0.1:{self.ports[name]}"
+
+    def control_address(self, name):
+        return f"127.0.0.1:{self.ports[name] + CONTROL}"
+
+    def control(self, name):
+        """A connection to the control port of a realm."""
+        return Control(socket.create_connection(("127.0.0.1", self.ports[name] + CONTROL), SECONDS))
+
+    def ask(self, name, request, seconds=SECONDS):
+        """What the control port of a realm answers to one request."""
+        control = self.control(name)
+        try:
+            return control.ask(request, seconds)
+        finally:
+            control.close()
+
     def forgets(self, name, transaction):
         """Whether a realm has no transaction of this identifier any more, before long."""
         peer = self.peer(name)
@@ -144,6 +167,25 @@ class Peer:
         self.connection.close()
 
 
+class Control(Peer):
+    """One connection to a control port. An answer is its lines, without the empty one behind them; None where the end comes first."""
+
+    def answer(self, seconds=SECONDS):
+        lines = []
+        while (line := self.hear(seconds)) is not None:
+            if line == "\n":
+                return lines
+            lines.append(line.removesuffix("\n"))
+        return None
+
+    def ask(self, line, seconds=SECONDS):
+        try:
+            self.connection.sendall(line.encode() + b"\n")
+            return self.answer(seconds)
+        except (ConnectionResetError, BrokenPipeError):
+            return None
+
+
 class Manager:
     """A manager of the script's own that others call: it listens, and answers each call in turn."""
 
@@ -161,6 +203,26 @@ class Manager:
 
     def close(self):
         self.listener.close()
+
+
+@contextlib.contextmanager
+def silent_port(port=OWN_PORT):
+    """A port that answers no call at all."""
+    silent = socket.socket()
+    silent.setsockopt(socket.SOL_SOCKET, socket.SO_REUSEADDR, 1)
+    silent.bind(("127.0.0.1", port))
+    silent.listen(0)
+    # the queue of who may wait is full from here on: the system drops who comes later
+    filling = [socket.socket() for _ in range(3)]
+    for some in filling:
+        some.setblocking(False)
+        some.connect_ex(("127.0.0.1", port))
+    time.sleep(0.2)
+    try:
+        yield
+    finally:
+        for some in [silent, *filling]:
+            some.close()
 
 
 @contextlib.contextmanager

@@ -1,9 +1,12 @@
-//! Two realms that are served on two ports of one process, a client of each that commits once, and an operator who asks. What no
-//! clause says: that sockets are accepted, lines read and answers written, and that the server ends with its audit.
+//! Two realms that are served on two ports of one process, a client of each that commits once, an operator who asks, and a
+//! transaction that is pushed from one realm to the other at a control port. What no clause says: that sockets are accepted, lines
+//! read and answers written, and that the server ends with its audit.
 #![tactic(auto)]
 
+mod operating;
 mod told;
 
+use crate::operating::{ask_operator, commit_in_both};
 use crate::told::{Teller, Told};
 use std::alloc::{AllocError, Global};
 use std::io::{self, Write};
@@ -27,6 +30,7 @@ const CONFIG: &[u8] = b"store = \":memory:\"
 name = \"north\"
 listen = \"127.0.0.1:23472\"
 address = \"127.0.0.1:23472\"
+control = \"127.0.0.1:23474\"
 votes = \"y\"
 connections = 8
 transactions = 8
@@ -45,8 +49,8 @@ entries = 100
 
 const PLACES: [&str; 2] = ["127.0.0.1:23472", "127.0.0.1:23473"];
 
-/// How many connections end before the server does: a client and three questions in each realm.
-const SESSIONS: u32 = 8;
+/// How many connections end before the server does: a client and three questions in each realm, and a client that commits in both.
+const SESSIONS: u32 = 9;
 
 /// What an operator says, an empty line among it.
 const SAID: &[u8] = b"IDENTIFY 3 3 - -\n\nQUERY nobody-1-1-1\r\nPULL x y\n";
@@ -111,7 +115,7 @@ fn answers(alloc: Global, socket: &TcpStream) -> Result<Vec<Response>, AllocErro
 }
 
 /// Asks whether the realm at a place is there and has a transaction that nobody began, and says an input to it; prints the answers.
-fn ask_operator<R, W>(rt: &R, alloc: Global, place: &str, output: &mut W) -> io::Result<()>
+fn ask_manager<R, W>(rt: &R, alloc: Global, place: &str, output: &mut W) -> io::Result<()>
 where
     R: Net<Listener = TcpListener, Stream = TcpStream>,
     W: Write,
@@ -132,10 +136,10 @@ where
     }
 }
 
-/// Plays the client of each realm and its operator, and prints what they are answered.
+/// Plays all clients and operators, and prints what they are answered.
 fn play_clients<R, W>(rt: &R, alloc: Global, output: &mut W) -> io::Result<()>
 where
-    R: Net<Listener = TcpListener, Stream = TcpStream>,
+    R: Net<Listener = TcpListener, Stream = TcpStream> + Clock,
     W: Write,
 {
     for place in PLACES {
@@ -144,9 +148,10 @@ where
             writeln!(output, "{response}")?;
         }
         drop(socket);
-        ask_operator(rt, alloc, place, output)?;
+        ask_manager(rt, alloc, place, output)?;
     }
-    Ok(())
+    ask_operator(rt, alloc, output)?;
+    commit_in_both(rt, alloc, PLACES[0], output)
 }
 
 fn main(rt: HostRuntime) -> io::Result<ExitCode> {

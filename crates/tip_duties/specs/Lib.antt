@@ -7,3 +7,4 @@ pub mod Peers
 pub mod Plans
 pub mod Starting
 pub mod Refusals
+pub mod Controls

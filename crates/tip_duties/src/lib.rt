@@ -2,6 +2,7 @@
 //! their rows, which boxes come with a connection, where a peer is called, and what is said of all that.
 #![tactic(auto)]
 
+mod controls;
 mod declaring;
 mod duties;
 mod fault;
@@ -12,6 +13,7 @@ mod refusals;
 mod report;
 mod starting;
 
+pub use controls::are_controls_own;
 pub use declaring::{declarations, may_be_hosted};
 pub use duties::{Dial, Duties};
 pub use fault::ServeFault;

@@ -1,18 +1,19 @@
 //! The end of the server.
+ghost use Rattle.tip_branch.specs.Always.{Always};
+
 use crate::server::{Served, Server};
-use crate::starting::say;
+use crate::starting::{Door, say};
 use std::alloc::Global;
 use std::io::Write;
 use std::net::{Net, TcpListener, TcpStream};
 use std::sync::{Arc, Wait};
 use std::thread;
-use std::thread::{JoinHandle, Threads};
+use std::thread::Threads;
 use std::time::{Clock, Duration};
 use tip_duties::{Heading, ServeFault, entries_of};
 use tip_honest::Entry;
 use tip_journal::{Pass, Reported, Retired};
 use tip_rows::RowLog;
-use tip_settings::Config;
 use tip_shared::{CloseFault, Closed, Shared};
 
 /// How often it is tried to wake a thread that accepts, and how long is waited between.
@@ -25,9 +26,14 @@ where
     S::Medium: Send,
 {
     /// The host is stopped, and all threads but those that accept are ended.
-    pub fn stop<R: Wait + Threads + Eprint>(&mut self, rt: &R) {
+    pub fn stop<R: Wait + Threads + Eprint>(&mut self, rt: &R)
+        requires { Always }
+    {
         self.shared.stop(rt);
         self.inbox.close(rt);
+        for served in self.realms.iter() {
+            served.slots.close(rt);
+        }
         for live in self.live.iter() {
             if let Some(live) = live {
                 live.link.shut();
@@ -125,21 +131,15 @@ fn close<S: RowLog + Drop>(
     }
 }
 
-/// Ends the threads that accept, each by a connection to its own listener. One that is not woken ends with the process.
-pub fn end_accepting<R>(rt: &R, config: &Config, threads: Vec<JoinHandle<()>>)
+/// Ends the threads that accept, each by a connection to its own door. One that is not woken ends with the process.
+pub fn end_accepting<R>(rt: &R, doors: Vec<Door<'_>>)
 where
     R: Net<Listener = TcpListener, Stream = TcpStream> + Wait + Threads + Clock,
 {
-    let mut realm = 0usize;
-    for thread in threads {
-        let is_woken = match config.realms.get(realm) {
-            Some(realm) => wake(rt, realm.listen.as_str()),
-            None => false,
-        };
-        if is_woken {
+    for Door { place, thread } in doors {
+        if wake(rt, place) {
             thread.join(rt);
         }
-        realm = realm.saturating_add(1);
     }
 }
 

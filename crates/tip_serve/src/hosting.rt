@@ -48,7 +48,7 @@ where
         pool.push(Box::new(alloc, Scripted::new(Plan::Yes, Phase::Ready))?)?;
     }
     let Started { mut server, duties } = start(alloc, recovering, config, sessions, pool, shelves)?;
-    let threads = server.begin(rt, config, duties, out)?;
+    let doors = server.begin(rt, config, duties, out)?;
     for _ in rt.forever() {
         let Some(task) = server.next(rt) else {
             break;
@@ -73,6 +73,6 @@ where
         }
     }
     server.stop(rt);
-    end_accepting(rt, config, threads);
+    end_accepting(rt, doors);
     server.report(out)
 }

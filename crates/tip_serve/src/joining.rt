@@ -1,9 +1,9 @@
 //! Threads that have ended.
-use crate::doubts::Maker;
-use crate::server::{Live, Server};
+use crate::server::{Caller, Live, Server};
 use std::sync::Wait;
 use std::thread::Threads;
 use tip_host::Seat;
+use tip_notices::Maker;
 use tip_rows::RowLog;
 use tip_session::SessionEnd;
 use tip_shared::Session;
@@ -30,6 +30,7 @@ where
         if let Some(served) = self.realms.get_mut(link.seat.realm) {
             let _kept = served.passes.push(pass);
         }
+        self.unkeep(link.seat.realm, link.kept.is_some());
         let _freed = self.free.push(place);
         if link.dial.is_none() {
             self.ended = self.ended.saturating_add(1);
@@ -53,9 +54,9 @@ where
     /// The calls at a place are made: their thread is joined.
     pub fn join_caller<R: Threads + Wait>(&mut self, rt: &R, place: usize) {
         if let Some(there) = self.callers.get_mut(place)
-            && let Some(caller) = there.take()
+            && let Some(Caller { thread, .. }) = there.take()
         {
-            caller.join(rt);
+            thread.join(rt);
         }
     }
 }

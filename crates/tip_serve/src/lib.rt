@@ -1,21 +1,15 @@
-//! The serving edge: sockets, threads and standard error round a host that all of them share. What is decided by plain data
-//! stands in `tip_duties`, and what a connection does in `tip_shared`.
+//! The top body of a server, round a host that all its threads share: it alone makes boxes, opens connections, starts threads
+//! and joins them. What is decided by plain data stands in `tip_duties`, and what the other threads do in `tip_threads`.
 #![tactic(auto)]
 
-mod accepting;
-mod dialling;
-mod doubts;
+mod asking;
 mod ending;
-mod hearing;
 mod hosting;
-mod inbox;
 mod joining;
-mod log;
 mod opening;
 mod renewing;
 mod retiring;
 mod rows;
-mod running;
 mod server;
 mod starting;
 

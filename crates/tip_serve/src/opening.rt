@@ -1,20 +1,22 @@
 //! Connections that are opened, either way.
 ghost use Rattle.tip_branch.specs.Always.{Always};
 
-use crate::inbox::Arrival;
 use crate::rows::fresh;
-use crate::running::{EVENT_STACK, Link, peer_of, run_session};
 use crate::server::{Live, Server};
 use std::alloc::{AllocError, Global};
 use std::sync::{Arc, Wait};
-use std::thread::{Builder, Threads};
+use std::thread::Threads;
+use std::time::Clock;
 use tip_branch::{Branch, HeldFresh};
+use tip_control::{Answer, Request};
 use tip_duties::{Connection, Note};
 use tip_host::{HostEvent, HostFault, Seat, Stepped};
-use tip_line::Refusal;
+use tip_line::{Refusal, Word};
+use tip_notices::{Arrival, Ask, Asker, Kept};
 use tip_rows::RowLog;
 use tip_session::DeskFault;
 use tip_shared::run_errand;
+use tip_threads::{Link, peer_of, start_session};
 
 /// Why a socket is no connection.
 #[derive(Drop)]
@@ -38,6 +40,16 @@ impl NotOpened {
     }
 }
 
+impl From<NotOpened> for Refusal {
+    fn from(why: NotOpened) -> Refusal {
+        match why {
+            NotOpened::Refused(refusal) => refusal,
+            NotOpened::Fault(fault) => Refusal::from(fault),
+            NotOpened::Memory => Refusal::Memory,
+        }
+    }
+}
+
 impl From<AllocError> for NotOpened {
     fn from(_: AllocError) -> NotOpened {
         NotOpened::Memory
@@ -57,17 +69,30 @@ where
         boxes: Vec<Box<dyn Branch + Send>>,
     )
     where
-        R: Wait + Threads + Eprint + Copy + Send + Drop + 'static,
+        R: Wait + Threads + Clock + Eprint + Copy + Send + Drop + 'static,
     {
         match self.open_at_host(rt, &arrival, boxes) {
-            Ok(seat) => self.run(rt, arrival, seat),
+            Ok(seat) => {
+                let realm = arrival.realm;
+                self.run(rt, arrival, seat);
+                self.make_room(rt, realm);
+            }
             Err(NotOpened::Refused(Refusal::Frozen)) if !is_second => {
                 self.full = Some(arrival.realm);
-                if arrival.dial.is_none() {
+                if arrival.dial.is_none() || arrival.ask.is_some() {
                     self.held = Some(arrival);
                 }
             }
-            Err(fault) => self.note_refused(rt, &arrival, fault),
+            Err(fault) => self.turn_away(rt, arrival, fault),
+        }
+    }
+
+    /// A socket is no connection: the operator is told why, and whoever has asked for it.
+    pub fn turn_away<R: Wait + Eprint>(&self, rt: &R, arrival: Arrival, why: NotOpened) {
+        self.note_refused(rt, &arrival, &why);
+        let Arrival { ask, .. } = arrival;
+        if let Some(ask) = ask {
+            ask.turn_down(rt, Refusal::from(why));
         }
     }
 
@@ -110,15 +135,19 @@ where
     /// Starts the threads of a connection that was opened at the host; where there is none for it, it is lost.
     fn run<R>(&mut self, rt: &R, arrival: Arrival, seat: Seat)
     where
-        R: Wait + Threads + Eprint + Copy + Send + Drop + 'static,
+        R: Wait + Threads + Clock + Eprint + Copy + Send + Drop + 'static,
     {
         let is_accepted = arrival.dial.is_none();
+        let asker = asker_of(&arrival);
         let Some(place) = self.free.pop() else {
             return;
         };
         self.count(seat);
         if let Err(why) = self.start(rt, arrival, seat, place) {
             self.lose(rt, seat, why);
+            if let Some(asker) = asker {
+                asker.answer(rt, Answer::Refused(Refusal::Memory));
+            }
             self.uncount(rt, seat);
             let _freed = self.free.push(place);
             if is_accepted {
@@ -136,18 +165,15 @@ where
         place: usize,
     ) -> Result<(), &'static str>
     where
-        R: Wait + Threads + Eprint + Copy + Send + Drop + 'static,
+        R: Wait + Threads + Clock + Eprint + Copy + Send + Drop + 'static,
+        requires { Always }
     {
         let link = self.link(arrival, seat, place).map_err(|_| "memory")?;
         let theirs = Arc::try_clone(&link).map_err(|_| "memory")?;
         link.note_opened(rt, self.alloc);
-        let own = *rt;
-        let alloc = self.alloc;
-        let pass = self.shared.pass(alloc);
-        let thread = Builder::new()
-            .stack_size(EVENT_STACK)
-            .spawn(rt, move || run_session(own, alloc, theirs, pass))
-            .map_err(|_| "no-thread")?;
+        let pass = self.shared.pass(self.alloc);
+        let thread = start_session(rt, self.alloc, theirs, pass).map_err(|_| "no-thread")?;
+        self.keep(seat.realm, link.kept.is_some());
         if let Some(there) = self.live.get_mut(place) {
             *there = Some(Live { link, thread });
         }
@@ -160,9 +186,18 @@ where
             realm,
             socket,
             dial,
+            ask,
         } = arrival;
         let Some(served) = self.realms.get(realm) else {
             return Err(AllocError);
+        };
+        let kept = match ask {
+            Some(ask) => {
+                let pulls = served.pulls_with(&ask);
+                let boxes = boxes_of(&ask.request)?;
+                Some(Kept::new(ask, boxes, pulls))
+            }
+            None => None,
         };
         let link = Link {
             shared: Arc::try_clone(&self.shared)?,
@@ -173,6 +208,7 @@ where
             seat,
             place,
             dial,
+            kept,
         };
         Ok(Arc::new(self.alloc, link)?)
     }
@@ -190,22 +226,23 @@ where
             self.log
                 .note(rt, self.alloc, Note::Ended { connection, why });
         }
-        self.make(rt, seat.realm, HostEvent::lost(seat));
+        let _refused = self.make(rt, seat.realm, HostEvent::lost(seat));
     }
 
-    /// One event of the top body's own, and the errands that come of it. Where memory is wanting the server is to end.
-    pub fn make<R: Wait>(&mut self, rt: &R, realm: usize, event: HostEvent) {
+    /// One event of the top body's own, and the errands that come of it; it says why nothing was done, if so. Where memory is
+    /// wanting the server is to end.
+    pub fn make<R: Wait>(&mut self, rt: &R, realm: usize, event: HostEvent) -> Option<Refusal> {
         let stepped = match self.step(rt, realm, event) {
             Ok(stepped) => stepped,
             Err(fault) => {
                 self.is_short = self.is_short || matches!(fault, HostFault::Memory);
-                return;
+                return Some(Refusal::from(fault));
             }
         };
-        let Stepped { work, .. } = stepped;
+        let Stepped { reply, work } = stepped;
         let Ok(work) = work else {
             self.is_short = true;
-            return;
+            return reply.refusal;
         };
         if let Some(served) = self.realms.get_mut(realm) {
             let ran = run_errand(rt, self.alloc, &self.shared, &mut served.own, work);
@@ -213,10 +250,11 @@ where
                 self.is_short = true;
             }
         }
+        reply.refusal
     }
 
-    /// A socket is no connection: the operator is told why.
-    pub fn note_refused<R: Wait + Eprint>(&self, rt: &R, arrival: &Arrival, why: NotOpened) {
+    /// Tells the operator why a socket is no connection.
+    fn note_refused<R: Wait + Eprint>(&self, rt: &R, arrival: &Arrival, why: &NotOpened) {
         let Some(served) = self.realms.get(arrival.realm) else {
             return;
         };
@@ -246,4 +284,18 @@ fn event_of(arrival: &Arrival, boxes: HeldFresh) -> Result<HostEvent, AllocError
             boxes,
         ),
     })
+}
+
+/// Who has asked for a connection.
+fn asker_of(arrival: &Arrival) -> Option<Asker> {
+    let ask = arrival.ask.as_ref()?;
+    ask.asker.copy().ok()
+}
+
+/// The letters of the boxes that come with a connection which is opened for this.
+fn boxes_of(request: &Request) -> Result<Option<Word>, AllocError> {
+    match request {
+        Request::Pull { boxes, .. } => Ok(Some(boxes.copy()?)),
+        _ => Ok(None),
+    }
 }

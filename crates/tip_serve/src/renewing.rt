@@ -1,21 +1,22 @@
 //! Realms that start again while the others are served.
 ghost use Rattle.tip_branch.specs.Always.{Always};
 
-use crate::dialling::{Calls, call_all};
 use crate::rows::dealt_to_rows;
-use crate::running::EVENT_STACK;
-use crate::server::Server;
-use std::alloc::AllocError;
+use crate::server::{Caller, Server};
+use std::alloc::{AllocError, Global};
 use std::net::{Net, TcpListener, TcpStream};
 use std::sync::{Arc, Wait};
-use std::thread::{Builder, Threads};
+use std::thread::Threads;
 use tip_branch::Branch;
+use tip_control::Answer;
 use tip_duties::{Dial, Duties, Note};
 use tip_host::HostEvent;
 use tip_line::Id;
+use tip_notices::Asker;
 use tip_recovery::Recovery;
 use tip_rows::RowLog;
 use tip_stored::RenewFault;
+use tip_threads::{Call, Calls, start_calling};
 
 impl<'a, S: RowLog + Drop + Send + 'static> Server<'a, S>
 where
@@ -28,6 +29,7 @@ where
         realm: usize,
         recovery: Recovery,
         pool: Vec<Box<dyn Branch + Send>>,
+        asker: Option<Asker>,
     )
     where
         R: Net<Listener = TcpListener, Stream = TcpStream>
@@ -39,13 +41,17 @@ where
             + Drop
             + 'static,
     {
+        let epoch = recovery.epoch().saturating_add(1);
         match self.start_again(rt, realm, recovery, pool) {
             Ok(Duties { resumes, dials }) => {
+                if let Some(asker) = asker {
+                    asker.answer(rt, Answer::Epoch(epoch));
+                }
                 self.say_doubts(rt, realm, None);
                 self.resume(rt, realm, resumes);
-                self.call(rt, realm, dials);
+                let _called = self.call(rt, realm, dials);
             }
-            Err(fault) => self.note_stuck(rt, realm, fault),
+            Err(fault) => self.note_not_renewed(rt, realm, fault, asker),
         }
     }
 
@@ -88,12 +94,12 @@ where
         requires { Always }
     {
         for id in resumes {
-            self.make(rt, realm, HostEvent::resume(realm, id));
+            let _refused = self.make(rt, realm, HostEvent::resume(realm, id));
         }
     }
 
-    /// These managers are called, by a thread of their own.
-    pub fn call<R>(&mut self, rt: &R, realm: usize, dials: Vec<Dial>)
+    /// These managers are called, by a thread of their own; false where there is none.
+    pub fn call<R>(&mut self, rt: &R, realm: usize, dials: Vec<Dial>) -> bool
     where
         R: Net<Listener = TcpListener, Stream = TcpStream>
             + Wait
@@ -104,13 +110,26 @@ where
             + Drop
             + 'static,
     {
-        if !dials.is_empty() && self.start_calls(rt, realm, dials).is_err() {
+        if dials.is_empty() {
+            return true;
+        }
+        let is_started = match calls_of(self.alloc, dials) {
+            Ok(calls) => self.start_calls(rt, realm, calls).is_ok(),
+            Err(AllocError) => false,
+        };
+        if !is_started {
             self.note_uncalled(rt, realm);
         }
+        is_started
     }
 
-    /// Starts the thread that calls these managers.
-    fn start_calls<R>(&mut self, rt: &R, realm: usize, dials: Vec<Dial>) -> Result<(), AllocError>
+    /// Starts the thread that makes these calls.
+    pub fn start_calls<R>(
+        &mut self,
+        rt: &R,
+        realm: usize,
+        calls: Vec<Call>,
+    ) -> Result<(), AllocError>
     where
         R: Net<Listener = TcpListener, Stream = TcpStream>
             + Wait
@@ -129,18 +148,13 @@ where
             place,
             realm,
             name: served.config.name.copy()?,
-            dials,
+            calls,
         };
         let inbox = Arc::try_clone(&self.inbox)?;
         let log = Arc::try_clone(&self.log)?;
-        let own = *rt;
-        let alloc = self.alloc;
-        let caller = Builder::new()
-            .stack_size(EVENT_STACK)
-            .spawn(rt, move || call_all(&own, alloc, &inbox, &log, calls))
-            .map_err(|_| AllocError)?;
+        let thread = start_calling(rt, self.alloc, inbox, log, calls)?;
         if let Some(there) = self.callers.get_mut(place) {
-            *there = Some(caller);
+            *there = Some(Caller { realm, thread });
         }
         Ok(())
     }
@@ -166,4 +180,13 @@ where
                 .note(rt, self.alloc, Note::Uncalled { realm: name });
         }
     }
+}
+
+/// The calls of these managers, for rows.
+fn calls_of(alloc: Global, dials: Vec<Dial>) -> Result<Vec<Call>, AllocError> {
+    let mut calls = Vec::with_capacity(alloc, dials.len())?;
+    for dial in dials {
+        calls.push(Call { dial, ask: None })?;
+    }
+    Ok(calls)
 }

@@ -67,6 +67,24 @@ where
         self.retire(rt, seat.realm);
     }
 
+    /// A connection begins that is kept for its realm's operator, if it is one.
+    pub fn keep(&mut self, realm: usize, is_kept: bool) {
+        if let Some(served) = self.realms.get_mut(realm)
+            && is_kept
+        {
+            served.kept = served.kept.saturating_add(1);
+        }
+    }
+
+    /// A connection has ended that was kept for its realm's operator, if it was one.
+    pub fn unkeep(&mut self, realm: usize, is_kept: bool) {
+        if let Some(served) = self.realms.get_mut(realm)
+            && is_kept
+        {
+            served.kept = served.kept.saturating_sub(1);
+        }
+    }
+
     /// A realm has started again in this epoch, for which there is room. The top body goes on with another pass.
     pub fn turn_over<R: Wait>(&mut self, rt: &R, realm: usize, epoch: u32) {
         if let Some(served) = self.realms.get_mut(realm) {

@@ -1,24 +1,28 @@
 //! What the top body keeps, and what it is to do next.
-use crate::doubts::{Doubts, Maker};
-use crate::inbox::{Arrival, Inbox, News, Notice};
-use crate::log::Log;
+ghost use Rattle.tip_branch.specs.Always.{Always};
+
 use crate::opening::NotOpened;
 use crate::rows::count_in;
-use crate::running::Link;
 use std::alloc::Global;
 use std::net::{Net, TcpListener, TcpStream};
 use std::sync::{Arc, Wait};
 use std::thread::{JoinHandle, Threads};
+use std::time::Clock;
 use tip_branch::{Branch, Phase, Plan};
+use tip_control::Answer;
 use tip_duties::Note;
 use tip_honest::Entry;
 use tip_host::{HostEvent, HostFault, Stepped};
 use tip_journal::Pass;
+use tip_line::Refusal;
+use tip_notices::{Arrival, Ask, Asker, Doubts, Inbox, Log, Maker, News, Notice, Slots};
 use tip_recovery::Recovery;
 use tip_rows::RowLog;
+use tip_script::plan_of;
 use tip_settings::RealmConfig;
 use tip_shared::{Session, Shared};
 use tip_stored::RenewFault;
+use tip_threads::Link;
 
 /// A realm that is served.
 #[derive(Drop)]
@@ -34,6 +38,10 @@ pub struct Served<'a> {
     pub starts: Vec<Start>,
     /// The epoch in which its journal was full and it was not renewed, though a session had asked.
     pub stuck: Option<u32>,
+    /// Who is connected to its control port.
+    pub slots: Arc<Slots>,
+    /// How many connections are kept for its operator.
+    pub kept: usize,
 }
 
 /// A start of a realm.
@@ -51,6 +59,13 @@ pub struct Live<S> {
     pub thread: JoinHandle<Session>,
 }
 
+/// A thread that calls managers for a realm.
+#[derive(Drop)]
+pub struct Caller {
+    pub realm: usize,
+    pub thread: JoinHandle<()>,
+}
+
 /// What the top body keeps.
 #[derive(Drop)]
 pub struct Server<'a, S> {
@@ -64,7 +79,7 @@ pub struct Server<'a, S> {
     /// The places of `live` at which nobody is.
     pub free: Vec<usize>,
     /// The threads that call other managers.
-    pub callers: Vec<Option<JoinHandle<()>>>,
+    pub callers: Vec<Option<Caller>>,
     /// How many accepted connections are to end.
     pub sessions: Option<u32>,
     pub ended: u32,
@@ -79,9 +94,27 @@ pub struct Server<'a, S> {
 #[derive(Drop)]
 pub enum Task {
     /// A socket is to be a connection; `is_second` once its realm was renewed for it.
-    Open { arrival: Arrival, is_second: bool },
-    /// A realm is to start again, by what is stored of it.
-    Renew { realm: usize, recovery: Recovery },
+    Open {
+        arrival: Arrival,
+        is_second: bool,
+    },
+    /// A realm is to start again, by what is stored of it, at its operator's word or since its journal is full.
+    Renew {
+        realm: usize,
+        recovery: Recovery,
+        asker: Option<Asker>,
+    },
+}
+
+impl Served<'_> {
+    /// For how many transactions a connection has boxes that is opened for this.
+    pub fn pulls_with(&self, ask: &Ask) -> usize {
+        let boxes = ask.boxes().len();
+        if boxes == 0 {
+            return 0;
+        }
+        self.config.limits.boxes as usize / boxes
+    }
 }
 
 impl<'a, S: RowLog + Drop + Send + 'static> Server<'a, S>
@@ -89,60 +122,7 @@ where
     S::Medium: Send,
 {
     /// What is to be done next; None where the server is to end.
-    pub fn next<R: Wait + Threads + Eprint>(&mut self, rt: &R) -> Option<Task> {
-        for _ in rt.forever() {
-            if let Some(task) = self.held_task(rt) {
-                return Some(task);
-            }
-            if self.is_done() {
-                return None;
-            }
-            match self.inbox.next(rt) {
-                Some(Notice::Arrived(arrival)) => {
-                    return Some(Task::Open {
-                        arrival,
-                        is_second: false,
-                    });
-                }
-                Some(Notice::Ended(place)) => self.join(rt, place),
-                Some(Notice::Called(place)) => self.join_caller(rt, place),
-                Some(Notice::Frozen { realm, epoch }) => self.note_full(rt, realm, epoch),
-                Some(Notice::News(news)) => self.note_news(rt, &news),
-                None => {}
-            }
-        }
-        unreachable!()
-    }
-
-    /// How many boxes a task wants.
-    pub fn box_count(&self, task: &Task) -> usize {
-        match task {
-            Task::Open { arrival, .. } => match self.realms.get(arrival.realm) {
-                Some(served) => served.plans.len(),
-                None => 0,
-            },
-            Task::Renew { recovery, .. } => count_in(recovery.rows()),
-        }
-    }
-
-    /// What the box at a place promises, and in which phase it is: those of a connection by the realm's letters, those of stored
-    /// rows ready and willing.
-    pub fn box_at(&self, task: &Task, place: usize) -> (Plan, Phase) {
-        let willing = (Plan::Yes, Phase::Ready);
-        match task {
-            Task::Open { arrival, .. } => match self.realms.get(arrival.realm) {
-                Some(served) => match served.plans.get(place) {
-                    Some(plan) => (*plan, Phase::Active),
-                    None => willing,
-                },
-                None => willing,
-            },
-            Task::Renew { .. } => willing,
-        }
-    }
-
-    /// Does a task, with the boxes that it wants.
-    pub fn act<R>(&mut self, rt: &R, task: Task, boxes: Vec<Box<dyn Branch + Send>>)
+    pub fn next<R>(&mut self, rt: &R) -> Option<Task>
     where
         R: Net<Listener = TcpListener, Stream = TcpStream>
             + Wait
@@ -153,17 +133,122 @@ where
             + Drop
             + 'static,
     {
+        for _ in rt.forever() {
+            if let Some(task) = self.held_task(rt) {
+                return Some(task);
+            }
+            if self.is_done() {
+                return None;
+            }
+            if let Some(notice) = self.inbox.next(rt)
+                && let Some(task) = self.heed(rt, notice)
+            {
+                return Some(task);
+            }
+        }
+        unreachable!()
+    }
+
+    /// Does what a notice wants, or says which task that is.
+    fn heed<R>(&mut self, rt: &R, notice: Notice) -> Option<Task>
+    where
+        R: Net<Listener = TcpListener, Stream = TcpStream>
+            + Wait
+            + Threads
+            + Eprint
+            + Copy
+            + Send
+            + Drop
+            + 'static,
+    {
+        match notice {
+            Notice::Arrived(arrival) => {
+                return Some(Task::Open {
+                    arrival,
+                    is_second: false,
+                });
+            }
+            Notice::Asked(ask) => return self.hear(rt, ask),
+            Notice::Ended(place) => self.join(rt, place),
+            Notice::Called(place) => self.join_caller(rt, place),
+            Notice::Free(place) => self.note_free(rt, place),
+            Notice::Frozen { realm, epoch } => self.note_full(rt, realm, epoch),
+            Notice::News(news) => self.note_news(rt, &news),
+        }
+        None
+    }
+
+    /// How many boxes a task wants.
+    pub fn box_count(&self, task: &Task) -> usize {
+        match task {
+            Task::Open { arrival, .. } => match (self.realms.get(arrival.realm), &arrival.ask) {
+                (Some(served), None) => served.plans.len(),
+                (Some(served), Some(ask)) => served
+                    .pulls_with(ask)
+                    .saturating_mul(ask.boxes().len()),
+                (None, _) => 0,
+            },
+            Task::Renew { recovery, .. } => count_in(recovery.rows()),
+        }
+    }
+
+    /// What the box at a place promises, and in which phase it is: those of a connection by the realm's letters, those of stored
+    /// rows ready and willing.
+    pub fn box_at(&self, task: &Task, place: usize) -> (Plan, Phase) {
+        let willing = (Plan::Yes, Phase::Ready);
+        match task {
+            Task::Open { arrival, .. } => match self.plan_at(arrival, place) {
+                Some(plan) => (plan, Phase::Active),
+                None => willing,
+            },
+            Task::Renew { .. } => willing,
+        }
+    }
+
+    /// What the box at a place of a socket's connection promises.
+    fn plan_at(&self, arrival: &Arrival, place: usize) -> Option<Plan> {
+        match &arrival.ask {
+            None => self.realms.get(arrival.realm)?.plans.get(place).copied(),
+            Some(ask) => {
+                let boxes = ask.boxes();
+                if boxes.is_empty() {
+                    return None;
+                }
+                Some(plan_of(boxes[place % boxes.len()]))
+            }
+        }
+    }
+
+    /// Does a task, with the boxes that it wants.
+    pub fn act<R>(&mut self, rt: &R, task: Task, boxes: Vec<Box<dyn Branch + Send>>)
+    where
+        R: Net<Listener = TcpListener, Stream = TcpStream>
+            + Wait
+            + Threads
+            + Clock
+            + Eprint
+            + Copy
+            + Send
+            + Drop
+            + 'static,
+    {
         match task {
             Task::Open { arrival, is_second } => self.open(rt, arrival, is_second, boxes),
-            Task::Renew { realm, recovery } => self.renew(rt, realm, recovery, boxes),
+            Task::Renew {
+                realm,
+                recovery,
+                asker,
+            } => self.renew(rt, realm, recovery, boxes, asker),
         }
     }
 
     /// Leaves a task undone, since there is no memory for its boxes.
     pub fn forgo<R: Wait + Eprint>(&mut self, rt: &R, task: Task) {
         match task {
-            Task::Open { arrival, .. } => self.note_refused(rt, &arrival, NotOpened::Memory),
-            Task::Renew { realm, .. } => self.note_stuck(rt, realm, RenewFault::Memory),
+            Task::Open { arrival, .. } => self.turn_away(rt, arrival, NotOpened::Memory),
+            Task::Renew { realm, asker, .. } => {
+                self.note_not_renewed(rt, realm, RenewFault::Memory, asker);
+            }
         }
     }
 
@@ -176,7 +261,13 @@ where
     fn held_task<R: Wait + Eprint>(&mut self, rt: &R) -> Option<Task> {
         if let Some(realm) = self.full.take() {
             match self.shared.doubts(rt, self.alloc, realm) {
-                Ok(recovery) => return Some(Task::Renew { realm, recovery }),
+                Ok(recovery) => {
+                    return Some(Task::Renew {
+                        realm,
+                        recovery,
+                        asker: None,
+                    });
+                }
                 Err(fault) => self.note_stuck(rt, realm, fault),
             }
         }
@@ -221,7 +312,7 @@ where
     }
 
     /// A session has found a realm full: it is renewed once in that epoch.
-    fn note_full<R: Wait + Eprint>(&mut self, rt: &R, realm: usize, epoch: u32) {
+    pub fn note_full<R: Wait + Eprint>(&mut self, rt: &R, realm: usize, epoch: u32) {
         if !self.shared.is_frozen(rt, realm, epoch) {
             return;
         }
@@ -243,8 +334,24 @@ where
         self.full = Some(realm);
     }
 
+    /// A realm did not start again. Where its operator has asked for that he is told, and it goes on.
+    pub fn note_not_renewed<R: Wait + Eprint>(
+        &mut self,
+        rt: &R,
+        realm: usize,
+        fault: RenewFault,
+        asker: Option<Asker>,
+    ) {
+        match asker {
+            Some(asker) => asker.answer(rt, Answer::Refused(Refusal::from(fault))),
+            None => self.note_stuck(rt, realm, fault),
+        }
+    }
+
     /// A realm whose journal is full did not start again: its sockets are shut all the same.
-    pub fn note_stuck<R: Wait + Eprint>(&mut self, rt: &R, realm: usize, fault: RenewFault) {
+    pub fn note_stuck<R: Wait + Eprint>(&mut self, rt: &R, realm: usize, fault: RenewFault)
+        requires { Always }
+    {
         if let Some(served) = self.realms.get(realm) {
             self.log.note(
                 rt,

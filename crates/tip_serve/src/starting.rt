@@ -1,18 +1,13 @@
 //! The start of the server.
 ghost use Rattle.tip_branch.specs.Always.{Always};
 
-use crate::accepting::accept_all;
-use crate::doubts::{Doubts, Watcher};
-use crate::inbox::Inbox;
-use crate::log::Log;
 use crate::rows::dealt_to_all;
-use crate::running::SMALL_STACK;
 use crate::server::{Served, Server, Start};
 use std::alloc::{AllocError, Global};
 use std::io::Write;
 use std::net::{Net, TcpListener, TcpStream};
 use std::sync::{Arc, Wait};
-use std::thread::{Builder, JoinHandle, Threads};
+use std::thread::{JoinHandle, Threads};
 use std::time::Clock;
 use tip_branch::Branch;
 use tip_core::Core;
@@ -21,11 +16,13 @@ use tip_honest::Entry;
 use tip_host::Host;
 use tip_journal::Pass;
 use tip_line::Realm;
+use tip_notices::{Doubts, Inbox, Log, Slots, Watcher};
 use tip_recovery::Recovery;
 use tip_rows::RowLog;
 use tip_settings::{Config, RealmConfig};
 use tip_shared::Shared;
 use tip_stored::{LoadFault, Recovering, StoredCore};
+use tip_threads::{ControlPort, start_accepting, start_controls};
 use tip_watched::Watched;
 
 /// The store of a server, which tells the top body what becomes of its rows.
@@ -161,6 +158,8 @@ fn served(
         passes: Vec::new(alloc),
         starts,
         stuck: None,
+        slots: Arc::new(alloc, Slots::new(alloc)?)?,
+        kept: 0,
     })
 }
 
@@ -168,15 +167,15 @@ impl<'a, S: RowLog + Drop + Send + 'static> Server<'a, S>
 where
     S::Medium: Send,
 {
-    /// Listens, does what a start does for the rows of each realm, and says in between that it is ready. It gives the threads that
-    /// accept; where one can't be made, the server is to end.
+    /// Listens, does what a start does for the rows of each realm, and says in between that it is ready. It gives the doors at which
+    /// connections are accepted; where there is no thread for one, the server is to end.
     pub fn begin<R, W>(
         &mut self,
         rt: &R,
-        config: &Config,
+        config: &'a Config,
         duties: Vec<Duties>,
         out: &mut W,
-    ) -> Result<Vec<JoinHandle<()>>, ServeFault>
+    ) -> Result<Vec<Door<'a>>, ServeFault>
     where
         R: Net<Listener = TcpListener, Stream = TcpStream>
             + Wait
@@ -189,7 +188,7 @@ where
             + 'static,
         W: Write,
     {
-        let listeners = listen_all(rt, self.alloc, config)?;
+        let entrances = listen_all(rt, self.alloc, config)?;
         say_listening(self.alloc, config, out)?;
         let mut calls = Vec::new(self.alloc);
         for (realm, Duties { resumes, dials }) in duties.into_iter().enumerate() {
@@ -199,32 +198,123 @@ where
         }
         say(self.alloc, out, Heading::Ready)?;
         for (realm, dials) in calls.into_iter().enumerate() {
-            self.call(rt, realm, dials);
+            let _called = self.call(rt, realm, dials);
         }
-        let threads = start_accepting(rt, self.alloc, &self.inbox, &listeners);
-        self.is_short = threads.len() < listeners.len();
-        Ok(threads)
+        self.open_doors(rt, entrances)
+    }
+
+    /// Starts the threads that accept connections.
+    fn open_doors<R>(
+        &mut self,
+        rt: &R,
+        entrances: Vec<Entrance<'a>>,
+    ) -> Result<Vec<Door<'a>>, ServeFault>
+    where
+        R: Wait + Threads + Clock + Copy + Send + Drop + 'static,
+    {
+        let mut doors = Vec::with_capacity(self.alloc, entrances.len())?;
+        for entrance in entrances {
+            let place = entrance.place;
+            match self.start_accepting(rt, entrance) {
+                Ok(thread) => doors.push(Door { place, thread })?,
+                Err(AllocError) => self.is_short = true,
+            }
+        }
+        Ok(doors)
+    }
+
+    /// Starts the thread that accepts the connections that come in at a place.
+    fn start_accepting<R>(
+        &self,
+        rt: &R,
+        entrance: Entrance<'a>,
+    ) -> Result<JoinHandle<()>, AllocError>
+    where
+        R: Wait + Threads + Clock + Copy + Send + Drop + 'static,
+        requires { Always }
+    {
+        let Entrance {
+            realm,
+            listener,
+            is_control,
+            ..
+        } = entrance;
+        if is_control {
+            start_controls(rt, self.alloc, self.control_port(realm)?, listener)
+        } else {
+            start_accepting(rt, Arc::try_clone(&self.inbox)?, realm, listener)
+        }
+    }
+
+    /// What the threads of a realm's control port share.
+    fn control_port(&self, realm: usize) -> Result<Arc<ControlPort<S>>, AllocError>
+        requires { Always }
+    {
+        let Some(served) = self.realms.get(realm) else {
+            return Err(AllocError);
+        };
+        let port = ControlPort::new(
+            Arc::try_clone(&self.shared)?,
+            Arc::try_clone(&self.inbox)?,
+            Arc::try_clone(&served.slots)?,
+            realm,
+            served.config.limits,
+        );
+        Ok(Arc::new(self.alloc, port)?)
     }
 }
 
-/// Where the connections of each realm are accepted.
-fn listen_all<R: Net<Listener = TcpListener, Stream = TcpStream>>(
+/// A place at which connections come in, and the thread that accepts them.
+#[derive(Drop)]
+pub struct Door<'a> {
+    pub place: &'a str,
+    pub thread: JoinHandle<()>,
+}
+
+/// A place at which connections to a realm come in: those of other managers, or of its operator.
+#[derive(Drop)]
+struct Entrance<'a> {
+    place: &'a str,
+    realm: usize,
+    listener: TcpListener,
+    is_control: bool,
+}
+
+/// Where connections come in.
+fn listen_all<'a, R: Net<Listener = TcpListener, Stream = TcpStream>>(
     rt: &R,
     alloc: Global,
-    config: &Config,
-) -> Result<Vec<Arc<TcpListener>>, ServeFault> {
-    let mut listeners = Vec::new(alloc);
-    for realm in config.realms.iter() {
-        match TcpListener::bind(rt, realm.listen.as_str()) {
-            Ok(listener) => listeners.push(Arc::new(alloc, listener)?)?,
-            Err(_) => {
-                return Err(ServeFault::Listen {
-                    name: realm.name.copy()?,
-                });
-            }
+    config: &'a Config,
+) -> Result<Vec<Entrance<'a>>, ServeFault> {
+    let mut entrances = Vec::new(alloc);
+    for (number, realm) in config.realms.iter().enumerate() {
+        entrances.push(entrance_at(rt, number, realm, realm.listen.as_str(), false)?)?;
+        if let Some(control) = &realm.control {
+            entrances.push(entrance_at(rt, number, realm, control.as_str(), true)?)?;
         }
     }
-    Ok(listeners)
+    Ok(entrances)
+}
+
+/// Listens at a place.
+fn entrance_at<'a, R: Net<Listener = TcpListener, Stream = TcpStream>>(
+    rt: &R,
+    number: usize,
+    realm: &RealmConfig,
+    place: &'a str,
+    is_control: bool,
+) -> Result<Entrance<'a>, ServeFault> {
+    match TcpListener::bind(rt, place) {
+        Ok(listener) => Ok(Entrance {
+            place,
+            realm: number,
+            listener,
+            is_control,
+        }),
+        Err(_) => Err(ServeFault::Listen {
+            name: realm.name.copy()?,
+        }),
+    }
 }
 
 /// Says where the connections of each realm are accepted.
@@ -246,38 +336,4 @@ pub fn say<W: Write>(alloc: Global, out: &mut W, heading: Heading<'_>) -> Result
         return Err(ServeFault::Write);
     }
     Ok(())
-}
-
-/// Starts the thread that accepts the connections of each realm. There are fewer where one can't be made.
-fn start_accepting<R>(
-    rt: &R,
-    alloc: Global,
-    inbox: &Arc<Inbox>,
-    listeners: &[Arc<TcpListener>],
-) -> Vec<JoinHandle<()>>
-where
-    R: Wait + Threads + Clock + Copy + Send + Drop + 'static,
-{
-    let mut threads = Vec::new(alloc);
-    let own = *rt;
-    let mut realm = 0usize;
-    for listener in listeners {
-        let (Ok(inbox), Ok(listener)) = (Arc::try_clone(inbox), Arc::try_clone(listener)) else {
-            return threads;
-        };
-        if threads.reserve(1).is_err() {
-            return threads;
-        }
-        let started = Builder::new()
-            .stack_size(SMALL_STACK)
-            .spawn(rt, move || accept_all(&own, &inbox, realm, &listener));
-        match started {
-            Ok(thread) => {
-                let _kept = threads.push(thread);
-            }
-            Err(_) => return threads,
-        }
-        realm = realm.saturating_add(1);
-    }
-    threads
 }

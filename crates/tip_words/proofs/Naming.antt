@@ -1,6 +1,6 @@
 -- Words in which `clap` finds no fault name one of the orders.
 use Rattle.std.proofs.Common.{◌≡◌, ◌∙◌, ℕ, Bool, cond, not, ◌&&◌, ◌||◌, true, false, List, [], ◌∷◌, Option, Some, None, refl, sym, ap, codes, is_some, true≢false}
-use Rattle.std.specs.Prelude.{IsSomeAnd, find, option_map}
+use Rattle.std.specs.Prelude.{IsSomeAnd, option_map}
 use Rattle.std.specs.List.{fold, list_any}
 use Rattle.std.specs.Str.{bytes_eq}
 use Rattle.std.proofs.lemmas.Slice.Eq.{bytes_eq-Decides}
@@ -9,11 +9,11 @@ use Rattle.clap.specs.Lexer.{long_of, short_of}
 use Rattle.clap.specs.Kinds.{check_kinds, or_else}
 use Rattle.clap.specs.Facts.{explicit_source}
 use Rattle.clap.specs.Takes.{is_given}
-use Rattle.clap.specs.Faults.{check_fault, defaults_fault, entered_fault, level_fault, other_fault, settle_fault, step_fault, turn_fault, walk_fault, word_fault}
+use Rattle.clap.specs.Faults.{check_fault, defaults_fault, entered_fault, level_fault, other_fault, settle_fault, step_fault, walk_fault, word_fault}
 use Rattle.clap.specs.Simple.{argument_words, built_leaf, entered, help_shape, inherited, label_of, marked_built, names_of, on_top, rows_at, with_leaf_noted}
 use Rattle.clap.specs.Walk.{Held, Names, Outcome, Step, Waiting, Walk, after_flag, after_step, arg_by_index, answers_to, bundle, done, finished, idle, long_met, arg_by_long, long_or_other, next, nothing_held, option, plain, plain_word, positional, refused, settled, short_or_plain, subcommand, subcommand_met, subcommand_or_other, to_positional, trailing, value, waits, walk, walk_from, walked, walked_from, word_met}
 use Rattle.clap.proofs.OnLiterals.{clap_on_literals}
-use Rattle.tip_words.specs.Commands.{alone, check, ping, play, query, rows, send, serve, sessions, settle, tipd}
+use Rattle.tip_words.specs.Commands.{alone, ask, bare_ask, check, ping, play, query, rows, send, serve, sessions, settle, tipd}
 use Rattle.tip_words.specs.Orders.{is_command}
 
 nothing_first : (a b : Kinds) → or_else a b ≡ [] → a ≡ []
@@ -130,7 +130,7 @@ below app = built_leaf (inherited (on_top with_leaf_noted (on_top marked_built t
 -- the subcommand of `tipd` at which a walk stops
 entered_is_order : (stop : Option (Text × List Text)) → StopsNoHelp stop → is_some (entered (built tipd) stop) ≡ true
     → IsSomeAnd (entered (built tipd) stop) (λ found. is_command found.0 ≡ true)
-unfolding tipd alone play serve rows check ping query settle send
+unfolding tipd alone play serve rows check ping query settle send ask bare_ask
 entered_is_order None none found = absurd (true≢false (sym found))
 entered_is_order (Some stop) none found =
     let met : Shape → Bool = λ s. answers_to stop.0 (label_of s) in
@@ -144,8 +144,9 @@ entered_is_order (Some stop) none found =
     (this_or rows_of IsOrder (below query) _ refl
     (this_or rows_of IsOrder (below settle) _ refl
     (this_or rows_of IsOrder (below send) _ refl
+    (this_or rows_of IsOrder (below ask) _ refl
     (not_last rows_of IsOrder (built_leaf help_shape) (met (built_leaf help_shape)) (help_is_other stop.0 none _ refl))
-    (met (below send))) (met (below settle))) (met (below query))) (met (below ping))) (met (below check))) (met (below rows))) (met (below serve))) (met (below play)) found
+    (met (below ask))) (met (below send))) (met (below settle))) (met (below query))) (met (below ping))) (met (below check))) (met (below rows))) (met (below serve))) (met (below play)) found
 
 -- a level without a fault
 level_is_faultless : (s : Shape) (names : Names) (h : Held) (words : List Text) (has : Bool) (below : Kinds) → level_fault s names h words has below ≡ []
@@ -179,9 +180,9 @@ names_order words fault =
     (not (false && is_some (entered app end.stopped)) && list_any (λ a. a.required && not (is_given a.id rows_at_end)) app.top.rules) faultless.1)
 
 pub is_simple_tipd : is_simple tipd ≡ true
-unfolding clap_on_literals tipd alone play serve rows check sessions ping query settle send
+unfolding clap_on_literals tipd alone play serve rows check sessions ping query settle send ask bare_ask
 is_simple_tipd = refl
 
 pub is_free_tipd : is_simple_and_free tipd ≡ true
-unfolding clap_on_literals tipd alone play serve rows check sessions ping query settle send
+unfolding clap_on_literals tipd alone play serve rows check sessions ping query settle send ask bare_ask
 is_free_tipd = refl

@@ -19,6 +19,10 @@ needed name = record (option name) { required = true }
 abbrev pub given : List ℕ → Rule
 given name = record (new_rule name) { value_names = 1; action = Some Set; required = true }
 
+-- one that may be there
+abbrev pub maybe : List ℕ → Rule
+maybe name = record (new_rule name) { value_names = 1; action = Some Set }
+
 -- a whole number, 1 to 4,294,967,295
 unfoldable pub sessions : Rule
 sessions = record (option (codes "sessions")) { parser = Some (parser.Signed (pos 1) (pos 4294967295)) }
@@ -47,6 +51,13 @@ settle = with_rule (with_rule (with_rule (new_app (codes "settle")) (given (code
 unfoldable pub send : App
 send = with_rule (new_app (codes "send")) (given (codes "address"))
 
+-- without the words behind a request's name
+unfoldable pub bare_ask : App
+bare_ask = with_rule (with_rule (new_app (codes "ask")) (given (codes "control"))) (given (codes "request"))
+
+unfoldable pub ask : App
+ask = with_rule (with_rule (with_rule bare_ask (maybe (codes "first"))) (maybe (codes "second"))) (maybe (codes "third"))
+
 -- without its subcommands, one of which is to be named
 unfoldable pub alone : App
 alone = let named = new_app (codes "tipd") in record named {
@@ -55,7 +66,7 @@ alone = let named = new_app (codes "tipd") in record named {
 
 -- TIPD, with its subcommands
 unfoldable pub tipd : App
-tipd = fold with_subcommand alone (play.top ∷ serve.top ∷ rows.top ∷ check.top ∷ ping.top ∷ query.top ∷ settle.top ∷ send.top ∷ [])
+tipd = fold with_subcommand alone (play.top ∷ serve.top ∷ rows.top ∷ check.top ∷ ping.top ∷ query.top ∷ settle.top ∷ send.top ∷ ask.top ∷ [])
 
 -- a command of the code is this one, and no option of it is another's too
 abbrev pub IsCommand : App → Command → Type 0

@@ -7,7 +7,7 @@ use Rattle.clap.specs.Words.{Row, Text, first_of, subcommand_of}
 use Rattle.clap.specs.Walk.{one_of}
 use Rattle.tip_words.specs.Commands.{tipd}
 use Rattle.tip_words.specs.declared.order.Order.{Order}
-use Rattle.tip_words.specs.declared.order.Order.TheVariants.{Check, Ping, Play, Query, Rows, Send, Serve, Settle}
+use Rattle.tip_words.specs.declared.order.Order.TheVariants.{Ask, Check, Ping, Play, Query, Rows, Send, Serve, Settle}
 
 -- the value of an option that is required
 abbrev pub text_in : Text → List Row → Text
@@ -28,7 +28,7 @@ IsNumberIn rows = IsNumberOf (one_of (codes "sessions") rows)
 
 -- a subcommand that is an order
 abbrev pub is_command : Text → Bool
-is_command name = list_any (bytes_eq name) (codes "play" ∷ codes "serve" ∷ codes "rows" ∷ codes "check" ∷ codes "ping" ∷ codes "query" ∷ codes "settle" ∷ codes "send" ∷ [])
+is_command name = list_any (bytes_eq name) (codes "play" ∷ codes "serve" ∷ codes "rows" ∷ codes "check" ∷ codes "ping" ∷ codes "query" ∷ codes "settle" ∷ codes "send" ∷ codes "ask" ∷ [])
 
 -- the order that a subcommand is, with its values
 abbrev pub Says : Text × List Row → Order → Type 0
@@ -39,6 +39,7 @@ Says found (Check config store) = (found.0 ≡ codes "check") × (option_map (λ
 Says found (Ping address) = (found.0 ≡ codes "ping") × (address.now ≡ text_in (codes "address") found.1)
 Says found (Query address id) = (found.0 ≡ codes "query") × (address.now ≡ text_in (codes "address") found.1) × (id.now ≡ text_in (codes "id") found.1)
 Says found (Send address) = (found.0 ≡ codes "send") × (address.now ≡ text_in (codes "address") found.1)
+Says found (Ask control request first second third) = (found.0 ≡ codes "ask") × (control.now ≡ text_in (codes "control") found.1) × (request.now ≡ text_in (codes "request") found.1) × (option_map (λ s. s.now) first ≡ first_of (codes "first") found.1) × (option_map (λ s. s.now) second ≡ first_of (codes "second") found.1) × (option_map (λ s. s.now) third ≡ first_of (codes "third") found.1)
 Says found (Settle address id decision) = (found.0 ≡ codes "settle") × (address.now ≡ text_in (codes "address") found.1) × (id.now ≡ text_in (codes "id") found.1) × (decision.now ≡ text_in (codes "decision") found.1)
 
 -- THE ORDER THAT IS IN WORDS: the subcommand that `clap` finds there, with its values

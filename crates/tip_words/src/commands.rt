@@ -1,13 +1,16 @@
 //! The commands of `tipd`, as `clap` is told of them.
 ghost use Rattle.std.specs.Prelude.{◌≡◌, false, IfOk};
 ghost use Rattle.clap.specs.Words.{rule_of};
-ghost use Rattle.tip_words.specs.Commands.{IsCommand, alone, check, given, option, ping, play, query, rows, send, serve, sessions, settle, tipd};
+ghost use Rattle.tip_words.specs.Commands.{IsCommand, alone, ask, bare_ask, check, given, maybe, option, ping, play, query, rows, send, serve, sessions, settle, tipd};
 
 use clap::{Arg, ArgAction, Command, value_parser};
 use std::alloc::{AllocError, Global};
 
 /// The help of an address.
 const ADDRESS: &str = "Where the manager listens, as HOST:PORT";
+
+/// The help of what stands behind a request's name.
+const REST: &str = "What the request names, in its order";
 
 /// `tipd` with its subcommands.
 pub(crate) fn tipd<'a>(alloc: Global) -> Result<Command<'a>, AllocError>
@@ -21,7 +24,8 @@ pub(crate) fn tipd<'a>(alloc: Global) -> Result<Command<'a>, AllocError>
         .subcommand(ping(alloc)?)?
         .subcommand(query(alloc)?)?
         .subcommand(settle(alloc)?)?
-        .subcommand(send(alloc)?)
+        .subcommand(send(alloc)?)?
+        .subcommand(ask(alloc)?)
 }
 
 /// `tipd` without its subcommands, one of which is to be named.
@@ -124,6 +128,37 @@ fn send<'a>(alloc: Global) -> Result<Command<'a>, AllocError>
         .arg(given(alloc, "address", "ADDRESS", ADDRESS))
 }
 
+#[tactic(auto, unfolding(crate::specs::Commands::ask))]
+fn ask<'a>(alloc: Global) -> Result<Command<'a>, AllocError>
+    ensures { IfOk result (IsCommand ask) }
+{
+    bare_ask(alloc)?
+        .arg(maybe(alloc, "first", "WORD", REST))?
+        .arg(maybe(alloc, "second", "WORD", REST))?
+        .arg(maybe(alloc, "third", "WORD", REST))
+}
+
+/// `ask` without the words behind a request's name.
+#[tactic(auto, unfolding(crate::specs::Commands::bare_ask))]
+fn bare_ask<'a>(alloc: Global) -> Result<Command<'a>, AllocError>
+    ensures { IfOk result (IsCommand bare_ask) }
+{
+    Command::new(alloc, "ask")
+        .about("Asks the control port of a realm, and writes what it answers")
+        .arg(given(
+            alloc,
+            "control",
+            "CONTROL",
+            "The control port of the realm, as HOST:PORT",
+        ))?
+        .arg(given(
+            alloc,
+            "request",
+            "REQUEST",
+            "status, doubts, retry, renew, push or pull",
+        ))
+}
+
 /// How many connections are to end before the server does.
 #[tactic(auto, unfolding(crate::specs::Commands::sessions))]
 fn sessions<'a>(alloc: Global) -> Arg<'a>
@@ -146,6 +181,17 @@ fn option<'a>(alloc: Global, name: &'static str, value: &'static str, help: &'st
 {
     Arg::new(alloc, name)
         .long(name)
+        .value_name(value)
+        .action(ArgAction::Set)
+        .help(help)
+}
+
+/// A value that may be there, the next word.
+fn maybe<'a>(alloc: Global, name: &'static str, value: &'static str, help: &'static str) -> Arg<'a>
+    ensures rule { rule_of result ≡ maybe name.now }
+    ensures local { result.global ≡ false }
+{
+    Arg::new(alloc, name)
         .value_name(value)
         .action(ArgAction::Set)
         .help(help)

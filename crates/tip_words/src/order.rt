@@ -41,4 +41,12 @@ pub enum Order<'a> {
     Send {
         address: &'a str,
     },
+    /// To ask the control port of a realm, `HOST:PORT`: the name of a request, and up to three words behind it.
+    Ask {
+        control: &'a str,
+        request: &'a str,
+        first: Option<&'a str>,
+        second: Option<&'a str>,
+        third: Option<&'a str>,
+    },
 }

@@ -76,6 +76,15 @@ fn order_of<'a>(name: &str, found: &ArgMatches<'a>) -> Order<'a>
             address: text_in(found, "address"),
         };
     }
+    if name == "ask" {
+        return Order::Ask {
+            control: text_in(found, "control"),
+            request: text_in(found, "request"),
+            first: found.get_str("first"),
+            second: found.get_str("second"),
+            third: found.get_str("third"),
+        };
+    }
     Order::Play {
         store: found.get_str("store"),
     }

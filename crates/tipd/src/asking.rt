@@ -1,9 +1,11 @@
 //! Questions to a manager that runs.
-use std::io;
+use std::alloc::{AllocError, Global};
+use std::io::{self, BufReader};
 use std::net::{TcpStream, ToSocketAddrs};
 use std::process::ExitCode;
 use std::time::Duration;
 use tip_asking::{Asked, Decision, ask};
+use tip_control::AskFault;
 use tip_line::{Id, WordFault};
 
 /// How long a manager may take to be reached, at each of the places that its name has.
@@ -60,6 +62,51 @@ pub fn send(rt: &HostRuntime, address: &str) -> ExitCode {
             ExitCode::from(fault.status())
         }
     }
+}
+
+/// Asks the control port of a realm, and tells its answer on standard output.
+pub fn ask_control(
+    rt: &HostRuntime,
+    control: &str,
+    request: &str,
+    rest: &[Option<&str>],
+) -> ExitCode {
+    let Some(socket) = reach(rt, control) else {
+        return unreached(rt, control);
+    };
+    let alloc = rt.alloc();
+    let asked = match BufReader::new(alloc, &socket) {
+        Ok(mut reader) => match line_of(alloc, request, rest) {
+            Ok(line) => tip_control::ask(
+                alloc,
+                &mut reader,
+                &mut &socket,
+                line.as_str(),
+                &mut io::writer(rt),
+            ),
+            Err(fault) => Err(AskFault::from(fault)),
+        },
+        Err(_) => Err(AskFault::Memory),
+    };
+    match asked {
+        Ok(verdict) => ExitCode::from(verdict.status()),
+        Err(fault) => {
+            let _written = eprintln!(rt; "tipd: {fault}");
+            ExitCode::from(1)
+        }
+    }
+}
+
+/// A request as it is said, without its end.
+fn line_of(alloc: Global, request: &str, rest: &[Option<&str>]) -> Result<String, AllocError> {
+    let mut line = String::from_str(alloc, request)?;
+    for word in rest {
+        if let Some(word) = word {
+            line.push_str(" ")?;
+            line.push_str(word)?;
+        }
+    }
+    Ok(line)
 }
 
 /// Says that nobody is there.

@@ -7,7 +7,7 @@ mod serving;
 mod settings;
 mod store;
 
-use crate::asking::{ping, query, send, settle};
+use crate::asking::{ask_control, ping, query, send, settle};
 use crate::checking::check;
 use crate::serving::{Setting, serve, serve_in};
 use crate::store::{list_store, play_in_store};
@@ -96,13 +96,12 @@ fn main(rt: HostRuntime) -> io::Result<ExitCode> {
         Order::Play { store } => end_play(&rt, play_all(&rt, store)),
         Order::Rows { store } => end_rows(&rt, list_store(&rt, store)),
         Order::Serve { config, sessions } => {
-            let Setting { config, store } = match Setting::of(&rt, config) {
-                Ok(setting) => setting,
-                Err(fault) => return Ok(end_serve(&rt, Err(fault))),
-            };
-            let served = match store {
-                Some(conn) => serve_in(&rt, rt.alloc(), conn, &config, sessions),
-                None => serve(&rt, rt.alloc(), &config, sessions),
+            let served = match Setting::of(&rt, config) {
+                Ok(Setting { config, store }) => match store {
+                    Some(conn) => serve_in(&rt, rt.alloc(), conn, &config, sessions),
+                    None => serve(&rt, rt.alloc(), &config, sessions),
+                },
+                Err(fault) => Err(fault),
             };
             end_serve(&rt, served)
         }
@@ -115,5 +114,12 @@ fn main(rt: HostRuntime) -> io::Result<ExitCode> {
             id,
             decision,
         } => settle(&rt, address, id, decision),
+        Order::Ask {
+            control,
+            request,
+            first,
+            second,
+            third,
+        } => ask_control(&rt, control, request, &[first, second, third]),
     })
 }

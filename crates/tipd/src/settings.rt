@@ -1,7 +1,7 @@
 //! The configuration in a file.
 use std::fs;
 use thiserror::Error;
-use tip_duties::may_be_hosted;
+use tip_duties::{are_controls_own, may_be_hosted};
 use tip_settings::{Config, ConfigFault, read_config};
 
 /// Why a file has no configuration that can be served.
@@ -13,6 +13,8 @@ pub enum SettingFault {
     Wrong(ConfigFault),
     #[error("more than 64 realms, or two of one name")]
     Realms,
+    #[error("`control` is no loopback address with a port")]
+    Control,
     #[error("out of memory")]
     Memory,
 }
@@ -21,8 +23,9 @@ pub enum SettingFault {
 pub fn settings_in(rt: &HostRuntime, path: &str) -> Result<Config, SettingFault> {
     let bytes = fs::read(rt, path).map_err(|_| SettingFault::Read)?;
     match read_config(rt.alloc(), &bytes) {
-        Ok(config) if may_be_hosted(&config.realms) => Ok(config),
-        Ok(_) => Err(SettingFault::Realms),
+        Ok(config) if !may_be_hosted(&config.realms) => Err(SettingFault::Realms),
+        Ok(config) if !are_controls_own(&config.realms) => Err(SettingFault::Control),
+        Ok(config) => Ok(config),
         Err(ConfigFault::Memory) => Err(SettingFault::Memory),
         Err(fault) => Err(SettingFault::Wrong(fault)),
     }

@@ -29,8 +29,9 @@ returns c =
     let ping = sym c.eq-4.ensures ∙ c.if-eq-4.false in
     let query = sym c.eq-5.ensures ∙ c.if-eq-5.false in
     let settle = sym c.eq-6.ensures ∙ c.if-eq-6.false in
-    let send = sym c.eq-7.ensures ∙ c.if-eq-7.false in (
-      same c.args.name.now (codes "play") (first_is _ _ c.requires (none_is _ _ serve (none_is _ _ rows (none_is _ _ check (none_is _ _ ping (none_is _ _ query (none_is _ _ settle (none_is _ _ send refl)))))))),
+    let send = sym c.eq-7.ensures ∙ c.if-eq-7.false in
+    let ask = sym c.eq-8.ensures ∙ c.if-eq-8.false in (
+      same c.args.name.now (codes "play") (first_is _ _ c.requires (none_is _ _ serve (none_is _ _ rows (none_is _ _ check (none_is _ _ ping (none_is _ _ query (none_is _ _ settle (none_is _ _ send (none_is _ _ ask refl))))))))),
       c.get_str-2.ensures ∙ first_value-rows (found_of c.args.found.now) (codes "store"),
     )
 
@@ -39,4 +40,14 @@ returns-then-eq-3 c = (
   same c.args.name.now (codes "check") (sym c.eq-3.ensures ∙ c.if-eq-3.true),
   c.get_str.ensures ∙ first_value-rows (found_of c.args.found.now) (codes "config"),
   c.get_str-then-eq-3.ensures ∙ first_value-rows (found_of c.args.found.now) (codes "store"),
+)
+
+pub returns-then-eq-8 : goal.returns-then-eq-8
+returns-then-eq-8 c = (
+  same c.args.name.now (codes "ask") (sym c.eq-8.ensures ∙ c.if-eq-8.true),
+  c.text_in-then-eq-8.ensures,
+  c.text_in-then-eq-8-2.ensures,
+  c.get_str-then-eq-8.ensures ∙ first_value-rows (found_of c.args.found.now) (codes "first"),
+  c.get_str-then-eq-8-2.ensures ∙ first_value-rows (found_of c.args.found.now) (codes "second"),
+  c.get_str-then-eq-8-3.ensures ∙ first_value-rows (found_of c.args.found.now) (codes "third"),
 )

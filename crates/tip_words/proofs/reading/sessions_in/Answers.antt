@@ -1,7 +1,7 @@
-use Rattle.std.proofs.Common.{◌≡◌, ℕ, List, Option, Some, None, Ok, Err, Result, refl, sym, subst}
+use Rattle.std.proofs.Common.{◌≡◌, ℕ, List, Option, Some, None, Ok, Err, Result, refl, subst}
 use Rattle.std.specs.Str.Parse.{ExplainsUnsignedError, HasUnsignedDigitsIfOk, ParsesUnsigned}
 use Rattle.clap.proofs.WalkLemmas.{one_text-rows}
-use Rattle.clap.specs.Words.{ReadsOne, found_of, one_text, rows_of, Text}
+use Rattle.clap.specs.Words.{ReadsOne, found_of, one_text, Text}
 use Rattle.tip_words.specs.Orders.{IsNumberOf}
 use Rattle.std.proofs.Common.{codes}
 use Rattle.tip_words.proofs.reading.sessions_in.Goals as goal

@@ -1,6 +1,6 @@
-use Rattle.std.proofs.Common.{◌≡◌, ◌∙◌, sym, ap, List, [], Option, Some, None, ℕ, unwrap_or}
+use Rattle.std.proofs.Common.{◌∙◌, ap, List, [], Option, ℕ, unwrap_or}
 use Rattle.clap.proofs.WalkLemmas.{first_value-rows}
-use Rattle.clap.specs.Words.{found_of, first_of, rows_of}
+use Rattle.clap.specs.Words.{found_of}
 use Rattle.tip_words.proofs.reading.text_in.Goals as goal
 
 pub returns-in-Some : goal.returns-in-Some

@@ -1,0 +1,5 @@
+pub mod Answers
+pub mod Asking
+pub mod Lines
+pub mod Refusals
+pub mod Requests

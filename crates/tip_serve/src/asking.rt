@@ -1,0 +1,345 @@
+//! What the top body does at an operator's word.
+ghost use Rattle.tip_branch.specs.Always.{Always};
+
+use crate::server::{Server, Task};
+use std::alloc::AllocError;
+use std::net::{Net, TcpListener, TcpStream};
+use std::sync::{Arc, Wait};
+use std::thread::Threads;
+use tip_control::{Answer, Request};
+use tip_duties::{Dial, Duties};
+use tip_host::{HostEvent, Seat};
+use tip_line::{Address, Refusal};
+use tip_machine::Purpose;
+use tip_notices::{Ask, Asker};
+use tip_recovery::Recovery;
+use tip_rows::{Key, RowLog};
+use tip_threads::{Call, Link};
+
+/// How many threads may call managers for a realm before its operator may not have its rows called again.
+const MOST_CALLERS: usize = 8;
+
+impl<'a, S: RowLog + Drop + Send + 'static> Server<'a, S>
+where
+    S::Medium: Send,
+{
+    /// Does what an operator asks, or says which task that is.
+    pub fn hear<R>(&mut self, rt: &R, ask: Ask) -> Option<Task>
+    where
+        R: Net<Listener = TcpListener, Stream = TcpStream>
+            + Wait
+            + Threads
+            + Eprint
+            + Copy
+            + Send
+            + Drop
+            + 'static,
+    {
+        match &ask.request {
+            Request::Retry => self.retry(rt, ask.realm, ask.asker),
+            Request::Renew => return self.renewal(rt, ask.realm, ask.asker),
+            Request::Push { .. } | Request::Pull { .. } => self.ask_manager(rt, ask),
+            Request::Status | Request::Doubts => {
+                ask.asker.answer(rt, Answer::Refused(Refusal::Unknown));
+            }
+        }
+        None
+    }
+
+    /// The task of starting a realm again at its operator's word.
+    fn renewal<R: Wait>(&mut self, rt: &R, realm: usize, asker: Asker) -> Option<Task> {
+        match self.shared.doubts(rt, self.alloc, realm) {
+            Ok(recovery) => Some(Task::Renew {
+                realm,
+                recovery,
+                asker: Some(asker),
+            }),
+            Err(fault) => {
+                asker.answer(rt, Answer::Refused(Refusal::from(fault)));
+                None
+            }
+        }
+    }
+
+    /// Does again what a start does for the rows of a realm.
+    fn retry<R>(&mut self, rt: &R, realm: usize, asker: Asker)
+    where
+        R: Net<Listener = TcpListener, Stream = TcpStream>
+            + Wait
+            + Threads
+            + Eprint
+            + Copy
+            + Send
+            + Drop
+            + 'static,
+    {
+        let tried = if self.count_callers(realm) < MOST_CALLERS {
+            match self.shared.doubts(rt, self.alloc, realm) {
+                Ok(stored) => self.try_again(rt, realm, &stored),
+                Err(fault) => Err(Refusal::from(fault)),
+            }
+        } else {
+            Err(Refusal::Busy)
+        };
+        let answer = match tried {
+            Ok(calls) => Answer::Calls(calls),
+            Err(why) => Answer::Refused(why),
+        };
+        asker.answer(rt, answer);
+    }
+
+    /// How many threads call managers for a realm.
+    fn count_callers(&self, realm: usize) -> usize {
+        let mut count = 0usize;
+        for caller in self.callers.iter() {
+            if let Some(caller) = caller
+                && caller.realm == realm
+            {
+                count = count.saturating_add(1);
+            }
+        }
+        count
+    }
+
+    /// Tries again what is left of a realm's transactions, and calls the managers that its rows name; how many it calls. A superior
+    /// that is on a connection is not called.
+    fn try_again<R>(&mut self, rt: &R, realm: usize, stored: &Recovery) -> Result<usize, Refusal>
+    where
+        R: Net<Listener = TcpListener, Stream = TcpStream>
+            + Wait
+            + Threads
+            + Eprint
+            + Copy
+            + Send
+            + Drop
+            + 'static,
+    {
+        let Duties { resumes, dials } = Duties::of(self.alloc, stored.rows())?;
+        let dials = self.still_wanted(rt, realm, dials)?;
+        let count = dials.len();
+        self.resume(rt, realm, resumes);
+        if self.call(rt, realm, dials) {
+            Ok(count)
+        } else {
+            Err(Refusal::Memory)
+        }
+    }
+
+    /// Those of these calls whose manager is not a superior that is on a connection.
+    fn still_wanted<R: Wait>(
+        &self,
+        rt: &R,
+        realm: usize,
+        dials: Vec<Dial>,
+    ) -> Result<Vec<Dial>, AllocError> {
+        let mut wanted = Vec::new(self.alloc);
+        for dial in dials {
+            if !self.is_superior_there(rt, realm, &dial) {
+                wanted.push(dial)?;
+            }
+        }
+        Ok(wanted)
+    }
+
+    /// Whether a superior that is to be called is on a connection.
+    fn is_superior_there<R: Wait>(&self, rt: &R, realm: usize, dial: &Dial) -> bool {
+        let Purpose::Query(id) = &dial.purpose else {
+            return false;
+        };
+        match id.parts() {
+            Some(parts) => match Key::of(parts) {
+                Some(key) => self.shared.is_with_superior(rt, realm, key),
+                None => false,
+            },
+            None => false,
+        }
+    }
+
+    /// Asks another manager to take part in a transaction, or to let us, on an idle connection to it, else on one that is opened.
+    fn ask_manager<R>(&mut self, rt: &R, ask: Ask)
+    where
+        R: Net<Listener = TcpListener, Stream = TcpStream>
+            + Wait
+            + Threads
+            + Eprint
+            + Copy
+            + Send
+            + Drop
+            + 'static,
+    {
+        if !self.has_branches(&ask) {
+            return ask.asker.answer(rt, Answer::Refused(Refusal::WrongCount));
+        }
+        match self.idle_for(rt, &ask) {
+            Some(link) => self.ask_on(rt, &link, ask),
+            None => self.open_for(rt, ask),
+        }
+    }
+
+    /// Whether what is to be pulled has a box for each of the realm's branches.
+    fn has_branches(&self, ask: &Ask) -> bool {
+        match (&ask.request, self.realms.get(ask.realm)) {
+            (Request::Pull { boxes, .. }, Some(served)) => {
+                boxes.as_str().len() == served.config.branches.as_slice().len()
+            }
+            _ => true,
+        }
+    }
+
+    /// A connection of the realm that is idle, and fit for this: it is taken.
+    fn idle_for<R: Wait>(&self, rt: &R, ask: &Ask) -> Option<Arc<Link<S>>>
+        requires { Always }
+    {
+        let address = address_in(&ask.request)?;
+        for live in self.live.iter() {
+            if let Some(live) = live
+                && live.link.seat.realm == ask.realm
+                && let Some(kept) = &live.link.kept
+                && live.link.is_to(address)
+                && let Ok(link) = Arc::try_clone(&live.link)
+                && kept.take_for(rt, &ask.request)
+            {
+                return Some(link);
+            }
+        }
+        None
+    }
+
+    /// Opens a connection for this.
+    fn open_for<R>(&mut self, rt: &R, ask: Ask)
+    where
+        R: Net<Listener = TcpListener, Stream = TcpStream>
+            + Wait
+            + Threads
+            + Eprint
+            + Copy
+            + Send
+            + Drop
+            + 'static,
+    {
+        let realm = ask.realm;
+        self.make_room(rt, realm);
+        let Ok(asker) = ask.asker.copy() else {
+            return;
+        };
+        if self.start_calls_for(rt, realm, ask).is_err() {
+            asker.answer(rt, Answer::Refused(Refusal::Memory));
+        }
+    }
+
+    /// Starts the thread that calls a manager for this.
+    fn start_calls_for<R>(&mut self, rt: &R, realm: usize, ask: Ask) -> Result<(), AllocError>
+    where
+        R: Net<Listener = TcpListener, Stream = TcpStream>
+            + Wait
+            + Threads
+            + Eprint
+            + Copy
+            + Send
+            + Drop
+            + 'static,
+    {
+        let Some(address) = address_in(&ask.request) else {
+            return Err(AllocError);
+        };
+        let dial = Dial {
+            address: address.copy()?,
+            purpose: Purpose::Plain,
+        };
+        let mut calls = Vec::new(self.alloc);
+        calls.push(Call {
+            dial,
+            ask: Some(ask),
+        })?;
+        self.start_calls(rt, realm, calls)
+    }
+
+    /// Nothing is under way on a connection that is kept: what it was opened for is asked, if it was not yet.
+    pub fn note_free<R: Wait + Eprint>(&mut self, rt: &R, place: usize) {
+        let Some(Some(live)) = self.live.get(place) else {
+            return;
+        };
+        let Ok(link) = Arc::try_clone(&live.link) else {
+            return;
+        };
+        let first = match &link.kept {
+            Some(kept) => kept.take_first(rt),
+            None => None,
+        };
+        match first {
+            Some(ask) => self.ask_on(rt, &link, ask),
+            None => self.make_room(rt, link.seat.realm),
+        }
+    }
+
+    /// Asks this on a connection that was taken for it.
+    fn ask_on<R: Wait + Eprint>(&mut self, rt: &R, link: &Link<S>, ask: Ask)
+        requires { Always }
+    {
+        let Some(kept) = &link.kept else {
+            return;
+        };
+        let Ask {
+            realm,
+            request,
+            asker,
+        } = ask;
+        kept.await_response(rt, asker, &request);
+        match self.make_asked(rt, link.seat, request) {
+            None => kept.begin(rt),
+            Some(why) => {
+                kept.turn_down(rt, why);
+                if why == Refusal::Frozen {
+                    self.note_full(rt, realm, link.seat.epoch);
+                }
+            }
+        }
+    }
+
+    /// The event of asking this on a connection; why nothing is asked, if so.
+    fn make_asked<R: Wait>(&mut self, rt: &R, seat: Seat, request: Request) -> Option<Refusal>
+        requires { Always }
+    {
+        match request {
+            Request::Push { id, .. } => self.make(rt, seat.realm, HostEvent::ask_push(seat, id)),
+            Request::Pull { superior, .. } => {
+                self.make(rt, seat.realm, HostEvent::ask_pull(seat, superior))
+            }
+            _ => Some(Refusal::Unknown),
+        }
+    }
+
+    /// Where a realm has as many connections as it may, those end that are kept and idle.
+    pub fn make_room<R: Wait>(&self, rt: &R, realm: usize)
+        requires { Always }
+    {
+        let Some(served) = self.realms.get(realm) else {
+            return;
+        };
+        if served.kept == 0 {
+            return;
+        }
+        let most = served.config.limits.connections as usize;
+        match self.shared.usage(rt, realm) {
+            Some(usage) if usage.connections >= most => {}
+            _ => return,
+        }
+        for live in self.live.iter() {
+            if let Some(live) = live
+                && live.link.seat.realm == realm
+                && let Some(kept) = &live.link.kept
+                && kept.take(rt)
+            {
+                live.link.shut();
+            }
+        }
+    }
+}
+
+/// Where the manager is that is to be asked.
+fn address_in(request: &Request) -> Option<&Address> {
+    match request {
+        Request::Push { address, .. } | Request::Pull { address, .. } => Some(address),
+        _ => None,
+    }
+}
