@@ -1,13 +1,15 @@
 -- How much of its limits a realm takes up, and how far its transactions have come (the counts are ours).
-use Rattle.std.specs.Prelude.{Bool, false, Option, Some, None, filter, length}
+use Rattle.std.specs.Prelude.{ℕ, Bool, false, not, ◌&&◌, List, Option, Some, None, drop, filter, length}
 use Rattle.std.specs.List.{list_any}
 use Rattle.tip_rows.specs.Keys.{Key}
 use Rattle.tip_txn.specs.declared.answer.Phase.{Phase}
 use Rattle.tip_outlook.specs.Searches.{HeldTransaction}
 use Rattle.tip_machine.specs.Connections.{is_superior_of}
 use Rattle.tip_machine.specs.States.{State}
-use Rattle.tip_machine.specs.Transactions.{is_committed, is_prepared}
-use Rattle.tip_machine.specs.Types.{seen}
+use Rattle.tip_machine.specs.Transactions.{has_key, is_committed, is_prepared}
+use Rattle.tip_machine.specs.Types.{Transaction, seen}
+use Rattle.tip_txn.specs.Parts.{is_pair, is_settled}
+use Rattle.tip_txn.specs.declared.part.Participant.{Participant}
 use Rattle.tip_core.specs.declared.usage.Usage.{Usage}
 
 -- has this transaction come so far?
@@ -29,3 +31,16 @@ usage_of state = record {
 abbrev pub is_with_superior : Key → Option State → Bool
 is_with_superior key None = false
 is_with_superior key (Some state) = list_any (is_superior_of key) state.connections
+
+-- is this the subordinate of that address and identifier, and has it still to acknowledge the commit (RFC 2371, section 13, COMMIT)?
+abbrev pub is_due : List ℕ → List ℕ → Participant → Bool
+is_due address id part = is_pair address id part && not (is_settled part)
+
+-- is this the transaction of that key, committed, and does it owe the commit to that subordinate?
+abbrev pub owes : Key → List ℕ → List ℕ → Transaction → Bool
+owes key address id transaction = has_key key transaction && is_committed transaction.phase && list_any (is_due address id) (drop 1 transaction.parts)
+
+-- is the commit of a transaction still owed to a subordinate? not in a realm that is not there
+abbrev pub is_owed : Key → List ℕ → List ℕ → Option State → Bool
+is_owed key address id None = false
+is_owed key address id (Some state) = list_any (owes key address id) state.transactions

@@ -13,16 +13,16 @@ ghost use Rattle.tip_table.specs.Kept.{of};
 ghost use Rattle.tip_core.specs.Hosted.{realm as realm_at, room_in, may_take_in, must_wait_in, standing_in, HaveNames, IsRoomFor, Steps};
 ghost use Rattle.tip_core.specs.Recovering.{IsOf, taking_up};
 ghost use Rattle.tip_core.specs.Renewing.{HasRoom};
-ghost use Rattle.tip_core.specs.Usages.{is_with_superior, usage_of};
+ghost use Rattle.tip_core.specs.Usages.{is_owed, is_with_superior, usage_of};
 
 use crate::happened::Happened;
 use crate::recovering::reopen_all;
 use crate::renewing::{Left, Parting, renew, room_to_renew};
 use crate::starts::Starts;
-use crate::usage::{Usage, count_committed, count_in_doubt, is_with_superior};
+use crate::usage::{Usage, count_committed, count_in_doubt, is_owed, is_with_superior};
 use std::alloc::{AllocError, Global};
 use std::marker::Model;
-use tip_line::{Realm, Refusal};
+use tip_line::{Address, Id, Realm, Refusal};
 use tip_machine::{Connection, Event, Head, Outcome, Seat, Start, Transaction};
 use tip_outlook::Turns;
 use tip_recovery::Recovery;
@@ -239,6 +239,14 @@ impl Core {
         ensures { result ≡ is_with_superior key (realm_at self.now realm) }
     {
         realm < self.realms.heads.len() && is_with_superior(&self.realms.connections, realm, key)
+    }
+
+    /// Whether a realm's transaction still owes the commit to the subordinate of an address and identifier.
+    pub fn is_owed(&self, realm: usize, key: Key, address: &Address, id: &Id) -> bool
+        ensures { result ≡ is_owed key address.now id.now (realm_at self.now realm) }
+    {
+        realm < self.realms.heads.len()
+            && is_owed(&self.realms.transactions, realm, key, address, id)
     }
 
     /// Whether a line of this seat may be taken now; else it is held until it may.

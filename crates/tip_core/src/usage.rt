@@ -5,13 +5,14 @@ ghost use Rattle.tip_machine.specs.Connections.{is_superior_of};
 ghost use Rattle.tip_machine.specs.Transactions.{is_committed, is_prepared};
 ghost use Rattle.tip_machine.specs.Types.{seen};
 ghost use Rattle.tip_table.specs.Kept.{of};
-ghost use Rattle.tip_core.specs.Usages.{is_held_at};
+ghost use Rattle.tip_core.specs.Usages.{is_due, is_held_at, owes};
 
+use tip_line::{Address, Id};
 use tip_machine::{Connection, Transaction};
 use tip_outlook::SuperiorOf;
 use tip_rows::Key;
 use tip_table::{Table, Test};
-use tip_txn::Phase;
+use tip_txn::{Ballot, Participant, Phase};
 
 /// How much of its limits a realm takes up, and how far its transactions have come.
 #[derive(Clone, Copy, Debug, PartialEq, Eq)]
@@ -50,6 +51,44 @@ impl Test<Transaction> for IsCommitted {
     }
 }
 
+/// The transaction of a key, where it owes the commit to a subordinate.
+#[derive(Clone, Copy)]
+struct Owing<'a> {
+    key: Key,
+    address: &'a Address,
+    id: &'a Id,
+}
+
+impl Test<Transaction> for Owing<'_> {
+    ghost passes = { λ owing transaction.
+        owes owing.key owing.address.now owing.id.now (seen transaction) };
+
+    fn passes(&self, transaction: &Transaction) -> bool {
+        transaction.key == self.key
+            && matches!(transaction.txn.phase(), Phase::Committed)
+            && have_due(transaction.txn.others(), self.address, self.id)
+    }
+}
+
+/// Whether one of these subordinates is that of an address and identifier, and is owed the commit.
+fn have_due(subordinates: &[Participant], address: &Address, id: &Id) -> bool
+    ensures { result ≡ list_any (is_due address.now id.now) subordinates.now }
+{
+    subordinates.iter().any(|part| is_due(part, address, id))
+}
+
+/// Whether a subordinate is that of an address and identifier, said yes, and has not acknowledged the commit.
+fn is_due(part: &Participant, address: &Address, id: &Id) -> bool
+    ensures { result ≡ is_due address.now id.now part.now }
+{
+    match (&part.address, &part.id) {
+        (Some(other), Some(name)) => {
+            other == address && name == id && part.answer == Some(Ballot::Yes) && !part.acknowledged
+        }
+        _ => false,
+    }
+}
+
 /// How many of a realm's transactions are in doubt.
 pub(crate) fn count_in_doubt(transactions: &Table<Transaction>, realm: usize) -> usize
     ensures { result ≡ length (filter (λ transaction. is_prepared transaction.phase)
@@ -72,4 +111,21 @@ pub(crate) fn is_with_superior(connections: &Table<Connection>, realm: usize, ke
     ensures { result ≡ list_any (is_superior_of key) (of connections.now realm) }
 {
     connections.find(realm, &SuperiorOf { key }).is_some()
+}
+
+/// Whether a realm's transaction owes the commit to the subordinate of an address and identifier.
+#[tactic(auto, using(crate::proofs::Usages::any_at, tip_rules::proofs::Works::any_found))]
+pub(crate) fn is_owed(
+    transactions: &Table<Transaction>,
+    realm: usize,
+    key: Key,
+    address: &Address,
+    id: &Id,
+) -> bool
+    ensures { result ≡ list_any (owes key address.now id.now)
+        (map seen (of transactions.now realm)) }
+{
+    transactions
+        .find(realm, &Owing { key, address, id })
+        .is_some()
 }

@@ -3,7 +3,7 @@ ghost use Rattle.std.specs.Prelude.{◌≡◌, ◌≢◌, ◌↔◌, ℕ, [], No
 ghost use Rattle.std.specs.Option.{option_map_or};
 ghost use Rattle.tip_branch.specs.Always.{Always};
 ghost use Rattle.tip_core.specs.Hosted.{HaveNames, may_take_in, realm as realm_at, standing_in};
-ghost use Rattle.tip_core.specs.Usages.{is_with_superior, usage_of};
+ghost use Rattle.tip_core.specs.Usages.{is_owed, is_with_superior, usage_of};
 ghost use Rattle.tip_stored.specs.Loading.{spec_of};
 ghost use Rattle.tip_stored.specs.Recovering.{all_adopted};
 ghost use Rattle.tip_stored.specs.declared.stored_core.StepFault.TheVariants as StepFault;
@@ -36,6 +36,7 @@ use thiserror::Error;
 use tip_core::{Core, Standing, Usage};
 use tip_honest::Entry;
 use tip_journal::{AuditFault, Journals, Pass, Reported, Retired, audit, fits};
+use tip_line::{Address, Id};
 use tip_machine::{Event, Head, Item};
 use tip_outbox::Outboxes;
 use tip_rows::{Key, RowLog};
@@ -258,6 +259,13 @@ impl<S: RowLog + Drop> Host<S> {
         ensures { result ≡ is_with_superior key (realm_at self.now.stored.core realm) }
     {
         self.stored.core.is_with_superior(realm, key)
+    }
+
+    /// Whether a realm's transaction still owes the commit to the subordinate of an address and identifier.
+    pub fn is_owed(&self, realm: usize, key: Key, address: &Address, id: &Id) -> bool
+        ensures { result ≡ is_owed key address.now id.now (realm_at self.now.stored.core realm) }
+    {
+        self.stored.core.is_owed(realm, key, address, id)
     }
 
     /// Whether a realm takes no entry more before it starts again; a realm that is not hosted is not frozen.

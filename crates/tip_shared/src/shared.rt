@@ -14,6 +14,7 @@ use tip_core::Left;
 use tip_honest::Entry;
 use tip_host::{Host, HostEvent, HostFault, Returned, Seat, Standing, Stepped, Usage};
 use tip_journal::Pass;
+use tip_line::{Address, Id};
 use tip_recovery::Recovery;
 use tip_rows::{Key, RowLog};
 use tip_session::{Outgoing, Ready};
@@ -177,6 +178,20 @@ impl<S: RowLog + Drop> Shared<S> {
         requires { Always }
     {
         self.host.lock(rt).is_with_superior(realm, key)
+    }
+
+    /// Whether a realm's transaction still owes the commit to the subordinate of an address and identifier.
+    pub fn is_owed<R: Wait>(
+        &self,
+        rt: &R,
+        realm: usize,
+        key: Key,
+        address: &Address,
+        id: &Id,
+    ) -> bool
+        requires { Always }
+    {
+        self.host.lock(rt).is_owed(realm, key, address, id)
     }
 
     /// From now on each event is refused. All that wait are woken.

@@ -184,7 +184,7 @@ impl<S: RowLog + Drop> ControlPort<S> {
         }
     }
 
-    /// Tells which outcome a row waits for, or whom it owes one.
+    /// Tells which outcome a row waits for, or whom it still owes one.
     fn tell_row<R: Wait>(
         &self,
         rt: &R,
@@ -210,12 +210,17 @@ impl<S: RowLog + Drop> ControlPort<S> {
             }
             Row::Committed { subordinates, .. } => {
                 for (address, subordinate) in subordinates.as_slice() {
-                    let owed = Owed {
-                        id,
-                        address,
-                        subordinate,
-                    };
-                    writeln!(told, "{owed}")?;
+                    if self
+                        .shared
+                        .is_owed(rt, self.realm, row.key(), address, subordinate)
+                    {
+                        let owed = Owed {
+                            id,
+                            address,
+                            subordinate,
+                        };
+                        writeln!(told, "{owed}")?;
+                    }
                 }
                 Ok(())
             }
