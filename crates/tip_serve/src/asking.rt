@@ -220,7 +220,7 @@ where
         let realm = ask.realm;
         self.make_room(rt, realm);
         let Ok(asker) = ask.asker.copy() else {
-            return;
+            return ask.turn_down(rt, Refusal::Memory);
         };
         if self.start_calls_for(rt, realm, ask).is_err() {
             asker.answer(rt, Answer::Refused(Refusal::Memory));

@@ -72,9 +72,9 @@ where
         R: Wait + Threads + Clock + Eprint + Copy + Send + Drop + 'static,
     {
         match self.open_at_host(rt, &arrival, boxes) {
-            Ok(seat) => {
+            Ok((seat, asker)) => {
                 let realm = arrival.realm;
-                self.run(rt, arrival, seat);
+                self.run(rt, arrival, seat, asker);
                 self.make_room(rt, realm);
             }
             Err(NotOpened::Refused(Refusal::Frozen)) if !is_second => {
@@ -96,19 +96,20 @@ where
         }
     }
 
-    /// The connection's place is made ready, and it is opened at the host.
+    /// The connection's place is made ready, and it is opened at the host: its seat, and who has asked for it.
     fn open_at_host<R: Wait>(
         &mut self,
         rt: &R,
         arrival: &Arrival,
         boxes: Vec<Box<dyn Branch + Send>>,
-    ) -> Result<Seat, NotOpened> {
+    ) -> Result<(Seat, Option<Asker>), NotOpened> {
         self.reserve(rt, arrival.realm)?;
+        let asker = asker_of(arrival)?;
         let boxes = fresh(self.alloc, boxes)?;
         let event = event_of(arrival, boxes)?;
         match self.step(rt, arrival.realm, event) {
             Ok(Stepped { reply, .. }) => match (reply.opened, reply.refusal) {
-                (Some(seat), _) => Ok(seat),
+                (Some(seat), _) => Ok((seat, asker)),
                 (None, Some(refusal)) => Err(NotOpened::Refused(refusal)),
                 (None, None) => Err(NotOpened::Memory),
             },
@@ -133,12 +134,11 @@ where
     }
 
     /// Starts the threads of a connection that was opened at the host; where there is none for it, it is lost.
-    fn run<R>(&mut self, rt: &R, arrival: Arrival, seat: Seat)
+    fn run<R>(&mut self, rt: &R, arrival: Arrival, seat: Seat, asker: Option<Asker>)
     where
         R: Wait + Threads + Clock + Eprint + Copy + Send + Drop + 'static,
     {
         let is_accepted = arrival.dial.is_none();
-        let asker = asker_of(&arrival);
         let Some(place) = self.free.pop() else {
             return;
         };
@@ -287,9 +287,11 @@ fn event_of(arrival: &Arrival, boxes: HeldFresh) -> Result<HostEvent, AllocError
 }
 
 /// Who has asked for a connection.
-fn asker_of(arrival: &Arrival) -> Option<Asker> {
-    let ask = arrival.ask.as_ref()?;
-    ask.asker.copy().ok()
+fn asker_of(arrival: &Arrival) -> Result<Option<Asker>, AllocError> {
+    match &arrival.ask {
+        Some(ask) => Ok(Some(ask.asker.copy()?)),
+        None => Ok(None),
+    }
 }
 
 /// The letters of the boxes that come with a connection which is opened for this.
