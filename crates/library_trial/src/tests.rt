@@ -1,10 +1,6 @@
-//! One file for each library whose growths are refused, and the greatest sizes.
+//! One file for each library, and one for the greatest sizes.
 mod branches;
 mod dialogues;
-mod journals;
-mod readers;
 mod rows;
 mod samples;
 mod sizes;
-mod tables;
-mod transactions;

@@ -1,8 +1,8 @@
 //! One file for each subject. A function that has a host of others makes no boxes: it would get no proof, so it is given them.
 mod again;
 mod boxes;
+mod closings;
 mod eight;
-mod errands;
 mod held;
 mod lines;
 mod overlap;

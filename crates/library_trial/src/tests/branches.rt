@@ -1,4 +1,4 @@
-//! What no clause says: dropped parties, boxes that are handed back, and whose branches are told.
+//! What no clause says: dropped parties, and whose branches are told.
 
 use counting_branch::{Counters, Probe};
 use std::alloc::Global;
@@ -6,8 +6,8 @@ use std::sync::{Arc, Mutex};
 use std::test::Fail;
 use std::thread;
 use tip_branch::{
-    Badge, Branch, Call, Errand, Fresh, HeldFresh, HeldParty, HeldPrepared, NotesRoom, Party,
-    PartyRoom, Phase, Plan, Prepared, Settled, Vote, are_numbers,
+    Badge, Branch, Errand, Fresh, HeldFresh, HeldParty, NotesRoom, Party, PartyRoom, Phase, Plan,
+    Settled, Vote, are_numbers,
 };
 use tip_line::{Id, Realm};
 
@@ -39,12 +39,6 @@ fn a_dropped_party_aborts_its_active_member_alone(rt: HostRuntime) -> Result<(),
         numbers,
         boxes,
     );
-    assert_eq!(rt; party.epoch(), 7);
-    assert_eq!(rt; party.realm().as_str(), "north");
-    assert_eq!(rt; party.id().as_str(), "north-1-1-1");
-    assert_eq!(rt; party.phase_of(2), Some(Phase::Ready));
-    assert_eq!(rt; party.phase_of(5), Some(Phase::Active));
-    assert_eq!(rt; party.phase_of(1), None);
     drop(party);
     assert_eq!(rt; ready.aborts(), 0);
     assert_eq!(rt; active.aborts(), 1);
@@ -64,55 +58,6 @@ fn make_party(alloc: Global, boxes: Vec<Box<dyn Branch + Send>>) -> Result<Party
 }
 
 #[test]
-fn nobody_is_asked_after_a_no(rt: HostRuntime) -> Result<(), Fail> {
-    let alloc = rt.alloc();
-    let counters = Arc::new(alloc, Counters::new())?;
-    let mut boxes: Vec<Box<dyn Branch + Send>> = Vec::new(alloc);
-    for plan in [Plan::Yes, Plan::No, Plan::Yes] {
-        boxes.push(Box::new(alloc, Probe::new(plan, 0, Phase::Active, &counters)?)?)?;
-    }
-    let mut party = make_party(alloc, boxes)?;
-    party.give(Errand::Vote);
-    assert_eq!(rt; party.vote_all(), Vote::No);
-    assert_eq!(rt; party.call_of(1), Some(Call::Vote(Vote::Yes)));
-    assert_eq!(rt; party.call_of(2), Some(Call::Vote(Vote::No)));
-    assert_eq!(rt; party.call_of(3), None);
-    assert_eq!(rt; party.phase_of(3), Some(Phase::Active));
-    party.give(Errand::Abort);
-    assert_eq!(rt; party.settle(), Settled::Done);
-    assert_eq!(rt; party.call_of(1), Some(Call::Abort));
-    assert_eq!(rt; party.call_of(2), None);
-    assert_eq!(rt; counters.aborts(), 1);
-    let boxes = party.spend();
-    assert_eq!(rt; counters.aborts(), 2);
-    assert_eq!(rt; boxes.len(), 3);
-    Ok(())
-}
-
-#[test]
-fn prepared_boxes_are_taken_up_again(rt: HostRuntime) -> Result<(), Fail> {
-    let alloc = rt.alloc();
-    let counters = Arc::new(alloc, Counters::new())?;
-    let mut boxes: Vec<Box<dyn Branch + Send>> = Vec::new(alloc);
-    boxes.push(Box::new(alloc, Probe::new(Plan::Yes, 0, Phase::Ready, &counters)?)?)?;
-    let prepared = Prepared::of(boxes)?;
-    let held = HeldPrepared::of(prepared.into_lot(alloc).map_err(|_| "no memory")?);
-    let numbers = [3];
-    assert_eq!(rt; numbers.len(), held.len());
-    assert!(rt; are_numbers(&numbers));
-    let notes = NotesRoom::new(alloc)?;
-    let mut party = held.into_party(notes, make_realm(alloc)?, 2, make_id(alloc)?, &numbers);
-    party.give(Errand::Commit);
-    let mut party = party.into_party();
-    assert!(rt; party.errand() == Errand::Commit);
-    assert_eq!(rt; party.vote_of(3), None);
-    party.give(Errand::Commit);
-    assert_eq!(rt; party.settle(), Settled::Done);
-    assert_eq!(rt; party.call_of(3), Some(Call::Commit(Settled::Done)));
-    Ok(())
-}
-
-#[test]
 fn a_party_crosses_threads_behind_a_lock(rt: HostRuntime) -> Result<(), Fail> {
     let alloc = rt.alloc();
     let counters = Arc::new(alloc, Counters::new())?;
@@ -128,77 +73,6 @@ fn a_party_crosses_threads_behind_a_lock(rt: HostRuntime) -> Result<(), Fail> {
     other.join(&rt);
     assert_eq!(rt; counters.aborts(), 1);
     assert!(rt; shared.lock(&rt).is_none());
-    Ok(())
-}
-
-/// A boxed branch, made again where memory was refused.
-fn make_box(
-    alloc: Global,
-    phase: Phase,
-    counters: &Arc<Counters>,
-) -> Result<Box<dyn Branch + Send>, Fail> {
-    match Box::new(alloc, Probe::new(Plan::Yes, 0, phase, counters)?) {
-        Ok(branch) => Ok(branch),
-        Err(_) => Ok(Box::new(alloc, Probe::new(Plan::Yes, 0, phase, counters)?)?),
-    }
-}
-
-/// One boxed branch, by itself.
-fn make_boxes(
-    alloc: Global,
-    phase: Phase,
-    counters: &Arc<Counters>,
-) -> Result<Vec<Box<dyn Branch + Send>>, Fail> {
-    let mut boxes: Vec<Box<dyn Branch + Send>> = match Vec::with_capacity(alloc, 1) {
-        Ok(boxes) => boxes,
-        Err(_) => Vec::with_capacity(alloc, 1)?,
-    };
-    boxes.push(make_box(alloc, phase, counters)?)?;
-    Ok(boxes)
-}
-
-/// Counters, made again where memory was refused.
-fn make_counters(alloc: Global) -> Result<Arc<Counters>, Fail> {
-    match Arc::new(alloc, Counters::new()) {
-        Ok(counters) => Ok(counters),
-        Err(_) => Ok(Arc::new(alloc, Counters::new())?),
-    }
-}
-
-/// A growth that is refused is asked for again, so that this holds whichever one is refused; so does what follows.
-#[test]
-fn a_refused_growth_gives_fresh_boxes_back(rt: HostRuntime) -> Result<(), Fail> {
-    let alloc = rt.alloc();
-    let counters = make_counters(alloc)?;
-    let fresh = Fresh::of(make_boxes(alloc, Phase::Active, &counters)?)?;
-    let lot = match fresh.into_lot(alloc) {
-        Ok(lot) => lot,
-        Err(fault) => fault.value.into_lot(alloc).map_err(|_| "no memory")?,
-    };
-    assert_eq!(rt; lot.len(), 1);
-    assert_eq!(rt; counters.aborts(), 0);
-    Ok(())
-}
-
-#[test]
-fn a_refused_growth_gives_prepared_boxes_back(rt: HostRuntime) -> Result<(), Fail> {
-    let alloc = rt.alloc();
-    let counters = make_counters(alloc)?;
-    let prepared = Prepared::of(make_boxes(alloc, Phase::Ready, &counters)?)?;
-    let lot = match prepared.into_lot(alloc) {
-        Ok(lot) => lot,
-        Err(fault) => fault.value.into_lot(alloc).map_err(|_| "no memory")?,
-    };
-    assert_eq!(rt; lot.len(), 1);
-    assert_eq!(rt; counters.aborts(), 0);
-    Ok(())
-}
-
-#[test]
-fn room_for_a_party_may_be_asked_for_again(rt: HostRuntime) -> Result<(), Fail> {
-    if PartyRoom::new(rt.alloc(), 8).is_err() {
-        let _ = PartyRoom::new(rt.alloc(), 8)?;
-    }
     Ok(())
 }
 

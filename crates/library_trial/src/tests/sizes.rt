@@ -25,15 +25,6 @@ fn long(alloc: Global, form: &str) -> Result<String, AllocError> {
 }
 
 #[test]
-fn the_longest_words_are_read(rt: HostRuntime) -> Result<(), Fail> {
-    let alloc = rt.alloc();
-    let text = long(alloc, "@")?;
-    let word = Word::new(alloc, text.as_bytes())?;
-    assert_eq!(rt; word.as_str(), text.as_str());
-    Ok(())
-}
-
-#[test]
 fn the_longest_commands_are_read_and_printed(rt: HostRuntime) -> Result<(), Fail> {
     let alloc = rt.alloc();
     let text = long(alloc, "PULL @ @")?;

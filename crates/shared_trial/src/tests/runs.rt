@@ -1,4 +1,4 @@
-//! Hosts that are run by lists of moves: each kind of move is made while memory is there, and where a run halts.
+//! Hosts that are run by lists of moves: a transaction in doubt outlives a restart, and a renewal, while memory is there.
 ghost use Rattle.tip_branch.specs.Always.{Always};
 
 use super::boxes::{opening, promised};
@@ -10,11 +10,9 @@ use std::test::Fail;
 use tip_host::{HostEvent, Seat};
 use tip_machine::Heard;
 use tip_rows::MemRows;
-use tip_run::{Halt, Move, RunFault, Running, Shown};
+use tip_run::{Move, Running};
 
 const NORTH: usize = 0;
-
-const COMMIT: &[&str] = &["IDENTIFY 3 3 - -", "BEGIN", "COMMIT"];
 
 const PUSH: &[&str] = &["IDENTIFY 3 3 a.x -", "PUSH s1", "PREPARE"];
 
@@ -56,56 +54,22 @@ fn begun(alloc: Global) -> Option<Running<MemRows>>
 /// What there is once moves were made.
 #[derive(Drop)]
 struct Made {
-    /// How many lines wait on the first connection of north in a start.
-    waiting: usize,
     /// How many entries the pass has.
     entries: usize,
     /// How many processes were before.
     earlier: usize,
-    shown: Vec<Shown>,
 }
 
 /// These moves are made.
-fn move_all(alloc: Global, running: Running<MemRows>, moves: Vec<Move>, epoch: u32) -> Option<Made>
+fn move_all(alloc: Global, running: Running<MemRows>, moves: Vec<Move>) -> Option<Made>
     requires { Always }
 {
-    let (running, shown) = running.run(alloc, moves).ok()?;
-    let (host, pass, earlier) = running.into_parts();
+    let (running, _) = running.run(alloc, moves).ok()?;
+    let (_, pass, earlier) = running.into_parts();
     Some(Made {
-        waiting: host.waiting(first(epoch)),
         entries: pass.noted().len(),
         earlier: earlier.len(),
-        shown,
     })
-}
-
-/// These moves are not made.
-fn halted(alloc: Global, running: Running<MemRows>, moves: Vec<Move>) -> Option<Halt<MemRows>>
-    requires { Always }
-{
-    running.run(alloc, moves).err()
-}
-
-/// A transaction commits: its branch votes, and is told; then nobody waits.
-fn commits(alloc: Global) -> Option<bool> {
-    let counters = Arc::new(alloc, Counters::new()).ok()?;
-    let mut moves = lines(alloc, 1, COMMIT, &counters)?;
-    for _ in 0..3 {
-        moves.push(Move::Go { realm: NORTH }).ok()?;
-    }
-    let made = move_all(alloc, begun(alloc)?, moves, 1)?;
-    let is_over = made.shown.len() == 7 && matches!(made.shown.last(), Some(Shown::Nobody));
-    Some(is_over && made.waiting == 3 && made.entries == 6 && counters.counted() == (1, 1, 0))
-}
-
-/// A party is lost before it has voted, and has no entry.
-fn loses(alloc: Global) -> Option<bool> {
-    let counters = Arc::new(alloc, Counters::new()).ok()?;
-    let mut moves = lines(alloc, 1, COMMIT, &counters)?;
-    moves.push(Move::Lose { realm: NORTH }).ok()?;
-    let made = move_all(alloc, begun(alloc)?, moves, 1)?;
-    let is_lost = matches!(made.shown.last(), Some(Shown::Lost(_)));
-    Some(is_lost && made.entries == 4 && counters.counted() == (0, 0, 1))
 }
 
 /// A transaction is promised.
@@ -127,6 +91,7 @@ fn aborting(alloc: Global) -> Option<Vec<Move>>
     Some(moves)
 }
 
+/// It is promised in one process, and aborted in the next.
 fn restarts(alloc: Global) -> Option<bool> {
     let counters = Arc::new(alloc, Counters::new()).ok()?;
     let mut moves = promising(alloc, &counters)?;
@@ -134,10 +99,11 @@ fn restarts(alloc: Global) -> Option<bool> {
     moves.push(Move::Restart { boxes }).ok()?;
     let mut behind = aborting(alloc)?;
     moves.append(&mut behind).ok()?;
-    let made = move_all(alloc, begun(alloc)?, moves, 2)?;
+    let made = move_all(alloc, begun(alloc)?, moves)?;
     Some(made.entries == 10 && made.earlier == 1 && counters.counted() == (1, 0, 1))
 }
 
+/// It is promised in one start of its realm, and aborted in the next of the same process.
 fn renews(alloc: Global) -> Option<bool> {
     let counters = Arc::new(alloc, Counters::new()).ok()?;
     let mut moves = promising(alloc, &counters)?;
@@ -150,37 +116,8 @@ fn renews(alloc: Global) -> Option<bool> {
         .ok()?;
     let mut behind = aborting(alloc)?;
     moves.append(&mut behind).ok()?;
-    let made = move_all(alloc, begun(alloc)?, moves, 2)?;
+    let made = move_all(alloc, begun(alloc)?, moves)?;
     Some(made.entries == 10 && made.earlier == 0 && counters.counted() == (1, 0, 1))
-}
-
-/// Boxes for a row that is not there end the run, behind two moves. The store comes back.
-fn halts(alloc: Global) -> Option<bool> {
-    let counters = Arc::new(alloc, Counters::new()).ok()?;
-    let mut moves = lines(alloc, 1, &["IDENTIFY 3 3 - -"], &counters)?;
-    let boxes = promised(alloc, &counters)?.into_iter().next()?;
-    moves
-        .push(Move::Renew {
-            realm: NORTH,
-            boxes,
-        })
-        .ok()?;
-    moves.push(Move::Go { realm: NORTH }).ok()?;
-    let halt = halted(alloc, begun(alloc)?, moves)?;
-    let is_whole = halt.pass.noted().len() == 2 && halt.store.is_some();
-    Some(halt.fault == RunFault::Boxes && halt.shown.len() == 2 && is_whole)
-}
-
-#[test]
-fn a_run_of_moves_commits(rt: HostRuntime) -> Result<(), Fail> {
-    assert!(rt; commits(rt.alloc()) == Some(true));
-    Ok(())
-}
-
-#[test]
-fn who_is_lost_in_a_run_is_rolled_back(rt: HostRuntime) -> Result<(), Fail> {
-    assert!(rt; loses(rt.alloc()) == Some(true));
-    Ok(())
 }
 
 #[test]
@@ -192,11 +129,5 @@ fn a_transaction_in_doubt_outlives_a_restart(rt: HostRuntime) -> Result<(), Fail
 #[test]
 fn a_transaction_in_doubt_outlives_a_renewal(rt: HostRuntime) -> Result<(), Fail> {
     assert!(rt; renews(rt.alloc()) == Some(true));
-    Ok(())
-}
-
-#[test]
-fn a_run_halts_where_boxes_do_not_fit(rt: HostRuntime) -> Result<(), Fail> {
-    assert!(rt; halts(rt.alloc()) == Some(true));
     Ok(())
 }

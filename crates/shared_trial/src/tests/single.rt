@@ -56,32 +56,6 @@ pub fn written<R: Wait>(
     Some((end, octets))
 }
 
-/// What lines say that may all wait to go out, and what is answered to them.
-fn lines_and_answers(alloc: Global) -> Option<(String, String)> {
-    let mut lines = String::from_str(alloc, "IDENTIFY 3 3 - -\r\n").ok()?;
-    let mut answers = String::from_str(alloc, "IDENTIFIED 3\r\n").ok()?;
-    for _ in 0..20 {
-        lines.push_str("QUERY x\r\nPULL x z\r\n").ok()?;
-        answers.push_str("QUERIEDNOTFOUND\r\nNOTPULLED\r\n").ok()?;
-    }
-    Some((lines, answers))
-}
-
-/// Lines come at once, and each is answered, in order, though the other side has closed.
-fn are_answered<R: Wait>(rt: &R, alloc: Global) -> Option<bool> {
-    let shared = shared(alloc, 100)?;
-    let mut pass = shared.pass(alloc);
-    let seat = opened(rt, alloc, &shared, &mut pass, north(alloc)?)?;
-    let (lines, answers) = lines_and_answers(alloc)?;
-    let (read, _) = read(rt, alloc, &shared, seat, &lines);
-    let (end, octets) = written(rt, alloc, &shared, seat)?;
-    Some(
-        read == SessionEnd::PeerClosed
-            && end == SessionEnd::PeerClosed
-            && octets.as_slice() == answers.as_bytes(),
-    )
-}
-
 /// The end of a host wants each entry in a pass.
 fn is_audited<R: Wait>(rt: &R, alloc: Global) -> Option<bool> {
     let shared = shared(alloc, 100)?;
@@ -126,12 +100,6 @@ fn is_stopped<R: Wait>(rt: &R, alloc: Global) -> Option<bool> {
     let (read, _) = read(rt, alloc, &shared, seat, "QUERY x\r\n");
     let (end, _) = written(rt, alloc, &shared, seat)?;
     Some(refused && read == SessionEnd::HostStopped && end == SessionEnd::HostStopped)
-}
-
-#[test]
-fn lines_at_once_are_answered_in_order(rt: HostRuntime) -> Result<(), Fail> {
-    assert!(rt; are_answered(&rt, rt.alloc()) == Some(true));
-    Ok(())
 }
 
 #[test]

@@ -1,13 +1,12 @@
 //! Eight that work at one host: in each realm a thousand commits, a thousand transactions that are pushed and committed, and a
-//! thousand connections that are lost with a transaction open. They work one after another here, and in threads in `eight`.
+//! thousand connections that are lost with a transaction open.
 ghost use Rattle.tip_branch.specs.Always.{Always};
 
 use super::boxes::opening;
-use super::realms::{opened, shared};
+use super::realms::opened;
 use counting_branch::Counters;
 use std::alloc::Global;
 use std::sync::{Arc, Wait};
-use std::test::Fail;
 use tip_honest::Entry;
 use tip_host::HostEvent;
 use tip_journal::Pass;
@@ -121,18 +120,6 @@ pub fn entries_of(
     Some(entries)
 }
 
-/// How many sessions were right, and how many entries each realm has.
-fn all_work<R: Wait>(rt: &R, alloc: Global) -> Option<(usize, Vec<u32>)> {
-    let shared = shared(alloc, 1_000_000)?;
-    let mut workers = all_workers(alloc)?;
-    for worker in &mut workers {
-        worker.work(rt, &shared);
-    }
-    let (right, passes) = done_by(alloc, workers)?;
-    let entries = entries_of(alloc, shared, passes)?;
-    Some((right, entries))
-}
-
 impl Worker {
     pub fn work<R: Wait>(&mut self, rt: &R, shared: &Shared<MemRows>) {
         for _ in 0..self.tasks.len() {
@@ -158,14 +145,4 @@ impl Worker {
         }
         Some(())
     }
-}
-
-#[test]
-fn each_session_of_eight_is_right(rt: HostRuntime) -> Result<(), Fail> {
-    let Some((right, entries)) = all_work(&rt, rt.alloc()) else {
-        return Err(Fail::new("out of memory"));
-    };
-    assert_eq!(rt; right, 6_000);
-    assert!(rt; entries.iter().all(|count| *count == 19_000));
-    Ok(())
 }
