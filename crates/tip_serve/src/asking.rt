@@ -4,16 +4,17 @@ ghost use Rattle.tip_branch.specs.Always.{Always};
 use crate::server::{Server, Task};
 use std::alloc::AllocError;
 use std::net::{Net, TcpListener, TcpStream};
+use std::slice;
 use std::sync::{Arc, Wait};
 use std::thread::Threads;
 use tip_control::{Answer, Request};
 use tip_duties::{Dial, Duties};
 use tip_host::{HostEvent, Seat};
-use tip_line::{Address, Refusal};
+use tip_line::{Address, Id, Refusal};
 use tip_machine::Purpose;
 use tip_notices::{Ask, Asker};
-use tip_recovery::Recovery;
-use tip_rows::{Key, RowLog};
+use tip_recovery::{Recovery, Unfinished};
+use tip_rows::{Row, RowLog};
 use tip_threads::{Call, Link};
 
 /// How many threads may call managers for a realm before its operator may not have its rows called again.
@@ -101,8 +102,7 @@ where
         count
     }
 
-    /// Tries again what is left of a realm's transactions, and calls the managers that its rows name; how many it calls. A superior
-    /// that is on a connection is not called.
+    /// Tries again what is left of a realm's transactions, and calls the managers that its rows name; how many it calls.
     fn try_again<R>(&mut self, rt: &R, realm: usize, stored: &Recovery) -> Result<usize, Refusal>
     where
         R: Net<Listener = TcpListener, Stream = TcpStream>
@@ -114,8 +114,7 @@ where
             + Drop
             + 'static,
     {
-        let Duties { resumes, dials } = Duties::of(self.alloc, stored.rows())?;
-        let dials = self.still_wanted(rt, realm, dials)?;
+        let Duties { resumes, dials } = self.duties_again(rt, realm, stored)?;
         let count = dials.len();
         self.resume(rt, realm, resumes);
         if self.call(rt, realm, dials) {
@@ -125,33 +124,39 @@ where
         }
     }
 
-    /// Those of these calls whose manager is not a superior that is on a connection.
-    fn still_wanted<R: Wait>(
+    /// What is to be done again for a realm's rows: as at a start, but that no superior is called that is on a connection, and no
+    /// subordinate that has acknowledged.
+    fn duties_again<R: Wait>(
         &self,
         rt: &R,
         realm: usize,
-        dials: Vec<Dial>,
-    ) -> Result<Vec<Dial>, AllocError> {
-        let mut wanted = Vec::new(self.alloc);
-        for dial in dials {
-            if !self.is_superior_there(rt, realm, &dial) {
-                wanted.push(dial)?;
+        stored: &Recovery,
+    ) -> Result<Duties, AllocError> {
+        let mut all = Duties {
+            resumes: Vec::new(self.alloc),
+            dials: Vec::new(self.alloc),
+        };
+        for row in stored.rows() {
+            let Duties { mut resumes, dials } = Duties::of(self.alloc, slice::from_ref(row))?;
+            all.resumes.append(&mut resumes)?;
+            for dial in dials {
+                if self.is_wanted(rt, realm, row, &dial) {
+                    all.dials.push(dial)?;
+                }
             }
         }
-        Ok(wanted)
+        Ok(all)
     }
 
-    /// Whether a superior that is to be called is on a connection.
-    fn is_superior_there<R: Wait>(&self, rt: &R, realm: usize, dial: &Dial) -> bool {
-        let Purpose::Query(id) = &dial.purpose else {
-            return false;
-        };
-        match id.parts() {
-            Some(parts) => match Key::of(parts) {
-                Some(key) => self.shared.is_with_superior(rt, realm, key),
+    /// Whether a manager that a row names is still to be called.
+    fn is_wanted<R: Wait>(&self, rt: &R, realm: usize, row: &Unfinished, dial: &Dial) -> bool {
+        match &dial.purpose {
+            Purpose::Query(_) => !self.shared.is_with_superior(rt, realm, row.key()),
+            Purpose::Reconnect(_, number) => match subordinate_at(row.row(), *number) {
+                Some((address, id)) => self.shared.is_owed(rt, realm, row.key(), address, id),
                 None => false,
             },
-            None => false,
+            Purpose::Plain => false,
         }
     }
 
@@ -333,6 +338,17 @@ where
                 live.link.shut();
             }
         }
+    }
+}
+
+/// The subordinate of a number in a committed row.
+fn subordinate_at(row: &Row, number: u32) -> Option<&(Address, Id)> {
+    match row {
+        Row::Committed { subordinates, .. } => {
+            let place = number.checked_sub(1)?;
+            subordinates.as_slice().get(place as usize)
+        }
+        Row::Prepared { .. } => None,
     }
 }
 
