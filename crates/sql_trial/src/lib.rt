@@ -1,4 +1,5 @@
-//! Trials of rows in SQLite: what no clause of `tip_sql` says, over databases in memory; and what an operator is shown of them.
+//! Trials of rows in SQLite: what no clause of `tip_sql` says, over databases in memory; what an operator is shown of them; and what the
+//! end of the process or of the machine leaves.
 #![tactic(auto)]
 
 ghost use Rattle.std.specs.Prelude.{◌≡◌, codes, MatchResult};

@@ -3,4 +3,5 @@ mod databases;
 mod listings;
 mod schemas;
 mod steps;
+mod stopping;
 mod stored;

@@ -1,4 +1,4 @@
-//! What no clause says. What is expected is what the calls are said to do, and not what was once answered.
+//! What a stop leaves, through the whole stored core over rows in SQLite, on disks that stop.
 mod acts;
 mod boxes;
 mod calls;
