@@ -1,5 +1,5 @@
 -- How much of its limits a realm takes up, and how far its transactions have come (the counts are ours).
-use Rattle.std.specs.Prelude.{ℕ, Bool, false, not, ◌&&◌, List, Option, Some, None, drop, filter, length}
+use Rattle.std.specs.Prelude.{ℕ, Bool, false, ◌&&◌, List, Option, Some, None, drop, filter, length}
 use Rattle.std.specs.List.{list_any}
 use Rattle.tip_rows.specs.Keys.{Key}
 use Rattle.tip_txn.specs.declared.answer.Phase.{Phase}
@@ -8,8 +8,7 @@ use Rattle.tip_machine.specs.Connections.{is_superior_of}
 use Rattle.tip_machine.specs.States.{State}
 use Rattle.tip_machine.specs.Transactions.{has_key, is_committed, is_prepared}
 use Rattle.tip_machine.specs.Types.{Transaction, seen}
-use Rattle.tip_txn.specs.Parts.{is_pair, is_settled}
-use Rattle.tip_txn.specs.declared.part.Participant.{Participant}
+use Rattle.tip_txn.specs.Parts.{is_due}
 use Rattle.tip_core.specs.declared.usage.Usage.{Usage}
 
 -- has this transaction come so far?
@@ -32,11 +31,7 @@ abbrev pub is_with_superior : Key → Option State → Bool
 is_with_superior key None = false
 is_with_superior key (Some state) = list_any (is_superior_of key) state.connections
 
--- is this the subordinate of that address and identifier, and has it still to acknowledge the commit (RFC 2371, section 13, COMMIT)?
-abbrev pub is_due : List ℕ → List ℕ → Participant → Bool
-is_due address id part = is_pair address id part && not (is_settled part)
-
--- is this the transaction of that key, committed, and does it owe the commit to that subordinate?
+-- is this the transaction of that key, committed, and does it owe the commit to that subordinate (RFC 2371, section 13, COMMIT)?
 abbrev pub owes : Key → List ℕ → List ℕ → Transaction → Bool
 owes key address id transaction = has_key key transaction && is_committed transaction.phase && list_any (is_due address id) (drop 1 transaction.parts)
 

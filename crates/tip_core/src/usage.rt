@@ -5,14 +5,14 @@ ghost use Rattle.tip_machine.specs.Connections.{is_superior_of};
 ghost use Rattle.tip_machine.specs.Transactions.{is_committed, is_prepared};
 ghost use Rattle.tip_machine.specs.Types.{seen};
 ghost use Rattle.tip_table.specs.Kept.{of};
-ghost use Rattle.tip_core.specs.Usages.{is_due, is_held_at, owes};
+ghost use Rattle.tip_core.specs.Usages.{is_held_at, owes};
 
 use tip_line::{Address, Id};
 use tip_machine::{Connection, Transaction};
 use tip_outlook::SuperiorOf;
 use tip_rows::Key;
 use tip_table::{Table, Test};
-use tip_txn::{Ballot, Participant, Phase};
+use tip_txn::Phase;
 
 /// How much of its limits a realm takes up, and how far its transactions have come.
 #[derive(Clone, Copy, Debug, PartialEq, Eq)]
@@ -66,26 +66,7 @@ impl Test<Transaction> for Owing<'_> {
     fn passes(&self, transaction: &Transaction) -> bool {
         transaction.key == self.key
             && matches!(transaction.txn.phase(), Phase::Committed)
-            && have_due(transaction.txn.others(), self.address, self.id)
-    }
-}
-
-/// Whether one of these subordinates is that of an address and identifier, and is owed the commit.
-fn have_due(subordinates: &[Participant], address: &Address, id: &Id) -> bool
-    ensures { result ≡ list_any (is_due address.now id.now) subordinates.now }
-{
-    subordinates.iter().any(|part| is_due(part, address, id))
-}
-
-/// Whether a subordinate is that of an address and identifier, said yes, and has not acknowledged the commit.
-fn is_due(part: &Participant, address: &Address, id: &Id) -> bool
-    ensures { result ≡ is_due address.now id.now part.now }
-{
-    match (&part.address, &part.id) {
-        (Some(other), Some(name)) => {
-            other == address && name == id && part.answer == Some(Ballot::Yes) && !part.acknowledged
-        }
-        _ => false,
+            && transaction.txn.owes(self.address, self.id)
     }
 }
 

@@ -58,3 +58,7 @@ is_yes (Some answer.Lost) = false
 -- has it nothing to acknowledge any more? who said yes has, until it has acknowledged the commit (RFC 2371, section 13, COMMIT)
 abbrev pub is_settled : Participant → Bool
 is_settled p = not (is_yes p.answer) || p.acknowledged
+
+-- is this the part of that address and identifier, and has it still to acknowledge the commit?
+abbrev pub is_due : List ℕ → List ℕ → Participant → Bool
+is_due address id p = is_pair address id p && not (is_settled p)

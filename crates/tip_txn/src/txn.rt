@@ -2,7 +2,7 @@
 ghost use Rattle.std.specs.Prelude.{◌≡◌, ◌≢◌, ◌+◌, ◌-◌, ◌<◌, ◌≤◌, ◌↔◌, false, [], ◌∷◌, ◌++◌, drop, length, IsTrue, IsOk, OnOk, OnErr, IfOk, Some, None, is_some, slice_get};
 ghost use Rattle.std.specs.List.{list_all, list_any};
 ghost use Rattle.std.specs.Option.{option_copied};
-ghost use Rattle.tip_txn.specs.Parts.{answers_of, answer_at, is_pair, is_enlisted, is_settled, changed_at, named, answered, acknowledged, enlisted};
+ghost use Rattle.tip_txn.specs.Parts.{answers_of, answer_at, is_due, is_pair, is_enlisted, is_settled, changed_at, named, answered, acknowledged, enlisted};
 ghost use Rattle.tip_txn.specs.Decisions.{Decides, Says};
 ghost use Rattle.tip_txn.specs.Transactions.{fresh, local_party, recovered, exists_in};
 ghost use Rattle.tip_txn.specs.declared.answer.Phase.TheVariants.{Active, Asking};
@@ -225,6 +225,13 @@ impl<A: Allocator> Txn<A> {
         are_settled(&self.others)
     }
 
+    /// Whether the commit is still owed to the subordinate of this address and identifier.
+    pub fn owes(&self, address: &Address, id: &Id) -> bool
+        ensures { result ≡ list_any (is_due address.now id.now) (drop 1 self.now.parts) }
+    {
+        have_due(&self.others, address, id)
+    }
+
     /// Whether a part has this address and identifier.
     fn is_enlisted(&self, address: &Address, id: &Id) -> bool
         ensures { result ≡ is_enlisted self.now.parts address.now (Some id.now) }
@@ -252,6 +259,15 @@ fn is_settled(part: &Participant) -> bool
     ensures { result ≡ is_settled part.now }
 {
     part.answer != Some(Ballot::Yes) || part.acknowledged
+}
+
+/// Whether one of the parts has this address and identifier, and has not acknowledged the commit.
+fn have_due(parts: &[Participant], address: &Address, id: &Id) -> bool
+    ensures { result ≡ list_any (is_due address.now id.now) parts.now }
+{
+    parts
+        .iter()
+        .any(|part| is_pair(part, address, id) && !is_settled(part))
 }
 
 /// What the local party and the others decide.
