@@ -1,5 +1,5 @@
 -- What playing a script has written.
-use Rattle.std.proofs.Common.{◌≡◌, arith, inl, inr, ◌++◌, ℕ, List, [], Option, Some, None, append-nil, refl, sym, subst}
+use Rattle.std.proofs.Common.{◌≡◌, inl, inr, ◌++◌, ℕ, List, [], Option, Some, None, append-nil, refl, sym, subst}
 use Rattle.std.specs.Io.KnownBytes.{Appends}
 use Rattle.std.specs.Prelude.{Err, IfSome, Ok, Result}
 use Rattle.tip_rows.specs.Logs.{Keeping}
@@ -52,7 +52,7 @@ module _ (basis : Basis) (written : AreWritten basis) (script : List ℕ) (rest 
 pub memory_is_written : AreWritten in_memory
 memory_is_written declaration = record {
   rises = refl;
-  rows = record { rising = refl; keys = λ k d less. absurd (omega (arith, less)); spelled = refl; earlier = refl; whole = λ k d less. absurd (omega (arith, less)) };
+  rows = record { rising = refl; spelled = refl; earlier = refl };
   known_once = refl;
 }
 

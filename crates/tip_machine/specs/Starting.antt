@@ -1,14 +1,13 @@
--- WHAT A RUN BEGINS WITH (ours): what the first start of a process makes of a realm's declaration and of its rows, in a store
--- that only tipd wrote.
+-- WHAT A RUN BEGINS WITH (ours): what the start of a process makes of a realm's declaration and of the rows that it finds.
 use Rattle.std.specs.Prelude.{◌≡◌, ℕ, ◌+◌, ◌==◌, ◌&&◌, nat_lt, Bool, true, List, [], ◌∷◌, length}
-use Rattle.std.specs.List.{All, list_all}
+use Rattle.std.specs.List.{list_all}
 use Rattle.tip_branch.specs.declared.branch.Badge.{Badge}
 use Rattle.tip_line.specs.Words.{is_address, is_realm}
 use Rattle.tip_rows.specs.Branches.{are_branches}
-use Rattle.tip_rows.specs.Keys.{Key, IsKey}
+use Rattle.tip_rows.specs.Keys.{Key}
 use Rattle.tip_rows.specs.Labels.{is_label}
 use Rattle.tip_rows.specs.Logs.{is_rising, last_epoch}
-use Rattle.tip_rows.specs.Rows.{IsRow, branches_of}
+use Rattle.tip_rows.specs.Rows.{branches_of}
 use Rattle.tip_rows.specs.declared.row.Row.{Row}
 use Rattle.tip_machine.specs.Heads.{are_allowed, is_within}
 use Rattle.tip_machine.specs.Invariants.{are_known_once}
@@ -32,13 +31,11 @@ is_starting head =
     is_realm head.name && is_address head.address && are_allowed head.limits && are_declared head.branches
     && is_within 1 last_epoch head.epoch && (head.given == 0) && (head.entries == 0)
 
--- rows as tipd writes them, of earlier epochs
+-- rows of earlier epochs, as an honest run leaves them: by rising key, and none whose identifier could be another's
 pub record AreRowsBefore (epoch : ℕ) (rows : List (Key × Row)) : Type 0 where
   pub rising : is_rising rows ≡ true
-  pub keys : All (λ stored. IsKey stored.0) rows
   pub spelled : list_all (λ stored. is_spelled stored.0) rows ≡ true
   pub earlier : list_all (λ stored. nat_lt stored.0.epoch epoch) rows ≡ true
-  pub whole : All (λ stored. IsRow stored.1) rows
 
 -- each row's branches get exactly their boxes
 abbrev pub are_adopted : (Key → List Badge) → List (Key × Row) → Bool
