@@ -1,5 +1,5 @@
 -- AGREEMENT OF A RUN: a realm stays true to its word, so no branch is told to commit where one is told to abort.
-use Rattle.std.proofs.Common.{◌≡◌, true, false, List, [], ◌∷◌, ◌++◌, Option, Some, None, refl, ap, subst, sym, ◌∙◌, inl, inr, ℕ, Bool}
+use Rattle.std.proofs.Common.{◌≡◌, true, false, List, [], ◌∷◌, ◌++◌, Option, Some, None, refl, subst, sym, ◌∙◌, inl, inr, ℕ, Bool}
 use Rattle.std.specs.Prelude.{◌&&◌, flat_map, not}
 use Rattle.std.specs.List.{list_any}
 use Rattle.std.proofs.lemmas.Bool.{and_parts, or_left}
@@ -18,20 +18,18 @@ use Rattle.tip_machine.specs.Honest.{brings_no_party, is_honest, is_run}
 use Rattle.tip_machine.specs.Invariants.{IsSound}
 use Rattle.tip_machine.specs.Invariants.Bounds.{is_spelled}
 use Rattle.tip_machine.specs.Invariants.Parties.{are_out}
-use Rattle.tip_machine.specs.Moves.{Move, World, drops_here, gone_for, led_to, lost_from, moved, picked, renewed, restarted_from, stepped}
+use Rattle.tip_machine.specs.Moves.{Move, World, drops_here, gone_for, led_to, lost_from, moved, picked, renewed, restarted_from}
 use Rattle.tip_machine.specs.Outputs.{Output, drops_of}
-use Rattle.tip_machine.specs.Returns.{Back, event_of}
+use Rattle.tip_machine.specs.Returns.{Back}
 use Rattle.tip_machine.specs.Starting.{IsStart}
-use Rattle.tip_machine.specs.States.{State, transaction_of}
-use Rattle.tip_machine.specs.Steps.{frozen, is_open, step}
-use Rattle.tip_machine.specs.Types.{Event, Transaction}
+use Rattle.tip_machine.specs.States.{transaction_of}
+use Rattle.tip_machine.specs.Steps.{step}
+use Rattle.tip_machine.specs.Types.{Transaction}
 use Rattle.tip_machine.specs.declared.event.Outcome.{Outcome}
 use Rattle.tip_machine.specs.declared.event.Outcome.TheVariants.{NoChange, Refused, Stored}
-use Rattle.tip_machine.specs.declared.head.Head.{Head}
-use Rattle.tip_machine.proofs.Stepping.{step-went}
-use Rattle.tip_machine.proofs.Walks.{either}
 use Rattle.tip_agreement.proofs.Truthful.{any_verdict}
 use Rattle.tip_agreement.specs.Truth.{IsTrueTo, Word, fits, word_of}
+use Rattle.tip_agreement.proofs.Declared.{name_led}
 use Rattle.tip_agreement.proofs.Errands.{out_behind, first_due}
 use Rattle.tip_agreement.proofs.Holding.{back_true, event_true, lost_true, still_true}
 use Rattle.tip_agreement.proofs.Kept.{moved_sound}
@@ -119,37 +117,6 @@ run_true world (move ∷ moves) shown sound true_to honest =
     let next = (moved move world).world in
     subst (λ xs. IsTrueTo xs (led_to next moves)) (append_assoc shown (moved move world).shown (shown_in (traced next moves)))
     (run_true next moves (shown ++ (moved move world).shown) (moved_sound move world sound parts.0) (moved_true move world shown sound true_to parts.0) parts.1)
-
--- The realm keeps its name
-
-name_stepped : (state : State) (event : Event) (outcome : Outcome) → (step state event outcome).state.head.name ≡ state.head.name
-name_stepped state event outcome = either (λ w. w.state.head.name ≡ state.head.name) (is_open state) _ (frozen event state) (elim (step-went state event outcome) [ inl goes ↦ ap (λ (h : Head). h.name) goes.head | inr opens ↦ ap (λ (h : Head). h.name) opens.head ]) refl
-
-name_gone : (back : Back) (outcome : Outcome) (errands : List PartyNotes) (world : World) → (gone_for errands back outcome world).world.state.head.name ≡ world.state.head.name
-unfolding stepped
-name_gone back outcome [] world = refl
-name_gone back outcome (party ∷ errands) world = name_stepped world.state (event_of party back) outcome
-
-name_lost : (errands : List PartyNotes) (world : World) → (lost_from errands world).world.state.head.name ≡ world.state.head.name
-name_lost [] world = refl
-name_lost (party ∷ errands) world = refl
-
-name_renewed : (boxes : Key → List Badge) (outcome : Outcome) (world : World) → (renewed boxes outcome world).world.state.head.name ≡ world.state.head.name
-name_renewed boxes Stored world = refl
-name_renewed boxes Refused world = refl
-name_renewed boxes NoChange world = refl
-
-pub name_moved : (move : Move) (world : World) → (moved move world).world.state.head.name ≡ world.state.head.name
-unfolding stepped
-name_moved (Move.Step event outcome) world = name_stepped world.state event outcome
-name_moved (Move.Go place back outcome) world = name_gone back outcome (picked place world.errands) world
-name_moved (Move.Lose place) world = name_lost (picked place world.errands) world
-name_moved (Move.Restart boxes) world = refl
-name_moved (Move.Renew boxes outcome) world = name_renewed boxes outcome world
-
-pub name_led : (world : World) (moves : List Move) → (led_to world moves).state.head.name ≡ world.state.head.name
-name_led world [] = refl
-name_led world (move ∷ moves) = name_led (moved move world).world moves ∙ name_moved move world
 
 -- TRUE TO ITS WORD, it tells none to commit where it tells one to abort
 pub one_word : (shown : List Output) (world : World) (key : Key) → is_spelled key ≡ true → IsTrueTo shown world → is_unanimous (told world.state.head.name (identifier world.state.head.name key) shown) ≡ true

@@ -7,7 +7,7 @@ use Rattle.tip_rows.specs.Branches.{are_branches}
 use Rattle.tip_rows.specs.Labels.{is_label}
 use Rattle.std.proofs.lemmas.Bool.{or_parts}
 use Rattle.std.specs.Prelude.{length, nat_lt}
-use Rattle.tip_agreement.proofs.Agreeing.{any_of, moved_true, name_led, run_true, start_true}
+use Rattle.tip_agreement.proofs.Agreeing.{any_of, moved_true, run_true, start_true}
 use Rattle.tip_agreement.proofs.Backing.{same_row}
 use Rattle.tip_agreement.proofs.Restarts.{start_sound}
 use Rattle.tip_agreement.proofs.Telling.{told_more}
@@ -25,7 +25,7 @@ use Rattle.std.proofs.lemmas.Bool.Decides.{nat_tests}
 use Rattle.std.proofs.lemmas.Option.{none-some}
 use Rattle.std.specs.Prelude.{filter_map}
 use Rattle.std.specs.Str.{bytes_eq}
-use Rattle.tip_agreement.proofs.Agreeing.{name_moved}
+use Rattle.tip_agreement.proofs.Declared.{name_led, name_moved}
 use Rattle.tip_agreement.proofs.Bounded.{in_bounds}
 use Rattle.tip_agreement.proofs.Closing.{is_stoppable}
 use Rattle.tip_agreement.proofs.Kept.{moved_sound}

@@ -40,7 +40,8 @@ use Rattle.tip_machine.specs.declared.event.Outcome.TheVariants.{NoChange, Refus
 use Rattle.tip_machine.specs.declared.transaction.PartyPlace.TheVariants.{Here, Out, Spent}
 use Rattle.tip_machine.proofs.Stepping.{returned-silent}
 use Rattle.tip_agreement.specs.Truth.{IsTrueTo, is_uncalled, verdict_of, will_tell}
-use Rattle.tip_agreement.proofs.Agreeing.{any_of, moved_true, name_led, name_moved, run_true, start_true}
+use Rattle.tip_agreement.proofs.Agreeing.{any_of, moved_true, run_true, start_true}
+use Rattle.tip_agreement.proofs.Declared.{name_led, name_moved}
 use Rattle.tip_agreement.proofs.Apart.{all_changed}
 use Rattle.tip_agreement.proofs.Backing.{more_shown, moved_by, now_shown, same_row}
 use Rattle.tip_agreement.proofs.Bounded.{AreSpelled, in_bounds}

@@ -64,7 +64,7 @@ use Rattle.tip_line.specs.declared.refusal.Refusal.{Refusal}
 use Rattle.tip_line.specs.declared.refusal.Refusal.TheVariants.{Busy}
 use Rattle.tip_machine.proofs.Lists.{find_any}
 use Rattle.tip_machine.proofs.Walks.{either, found_passes}
-use Rattle.tip_agreement.proofs.Agreeing.{name_moved}
+use Rattle.tip_agreement.proofs.Declared.{name_moved}
 use Rattle.tip_agreement.proofs.Bounded.{found_by_id, in_bounds}
 use Rattle.tip_agreement.proofs.Kept.{moved_sound}
 use Rattle.tip_agreement.proofs.Keys.{key_self}

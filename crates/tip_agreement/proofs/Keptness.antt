@@ -21,7 +21,7 @@ use Rattle.tip_machine.specs.Types.{Event}
 use Rattle.tip_machine.specs.declared.event.Outcome.{Outcome}
 use Rattle.tip_machine.specs.declared.event.Outcome.TheVariants.{NoChange, Refused, Stored}
 use Rattle.tip_machine.proofs.Stepping.{step-epoch, step-named}
-use Rattle.tip_agreement.proofs.Agreeing.{name_moved}
+use Rattle.tip_agreement.proofs.Declared.{name_moved}
 use Rattle.tip_agreement.proofs.Kept.{moved_sound}
 use Rattle.tip_agreement.proofs.Restarts.{start_sound}
 use Rattle.tip_agreement.proofs.Rows.{to_says}

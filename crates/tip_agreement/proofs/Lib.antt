@@ -20,6 +20,7 @@ pub mod Commanded
 pub mod Commanding
 pub mod Concluding
 pub mod Deciding
+pub mod Declared
 pub mod Denying
 pub mod Enlisting
 pub mod Errands

@@ -16,7 +16,8 @@ use Rattle.tip_machine.specs.Heads.{are_allowed, is_within}
 use Rattle.tip_machine.specs.Honest.{is_run}
 use Rattle.tip_machine.specs.Moves.{Move, World, led_to}
 use Rattle.tip_machine.specs.Starting.{IsStart, are_declared}
-use Rattle.tip_agreement.proofs.Agreeing.{name_led, run_true, start_true}
+use Rattle.tip_agreement.proofs.Agreeing.{run_true, start_true}
+use Rattle.tip_agreement.proofs.Declared.{name_led}
 use Rattle.tip_agreement.proofs.Restarts.{start_sound}
 use Rattle.tip_agreement.specs.Truth.{IsOurs}
 use Rattle.tip_agreement.specs.Telling.{is_told_of}

@@ -24,7 +24,7 @@ use Rattle.tip_machine.specs.Invariants.Links.{are_distinct}
 use Rattle.tip_machine.specs.Invariants.Parties.{are_out, is_due, is_of_this_start, is_sent}
 use Rattle.tip_machine.specs.Invariants.Stored.{is_stored_as}
 use Rattle.tip_machine.specs.Moves.{Move, World, moved, renewed, restarted_from, risen}
-use Rattle.tip_machine.specs.Starting.{IsStart, are_adopted, are_declared}
+use Rattle.tip_machine.specs.Starting.{IsStart, are_adopted, are_declared, is_starting}
 use Rattle.tip_machine.specs.declared.event.Outcome.{Outcome}
 use Rattle.tip_machine.specs.declared.event.Outcome.TheVariants.{NoChange, Stored, Refused}
 use Rattle.tip_machine.specs.States.{State, transaction_of}
@@ -35,6 +35,7 @@ use Rattle.tip_machine.specs.declared.transaction.Origin.{Origin}
 use Rattle.tip_machine.specs.declared.transaction.Origin.TheVariants as origin
 use Rattle.tip_machine.proofs.Walks.{found_passes}
 use Rattle.tip_rows.proofs.OrderLemmas.{same_key}
+use Rattle.tip_agreement.specs.Successors.{started_over}
 use Rattle.tip_agreement.proofs.Apart.{all_found, all_more, kept_apart}
 use Rattle.tip_agreement.proofs.Keys.{key_self}
 use Rattle.tip_line.specs.Words.{is_address, is_realm}
@@ -222,6 +223,29 @@ pub renewing_sound : (boxes : Key → List Badge) (outcome : Outcome) (world : W
 renewing_sound boxes Stored world sound can = renewed_sound boxes Stored world sound can
 renewing_sound boxes Refused world sound can = renewed_sound boxes Refused world sound can
 renewing_sound boxes NoChange world sound can = absurd (cc)
+
+-- What is left may begin a run
+
+-- keys that were given are of an epoch before a later one
+rows_earlier : (state : State) (epoch : ℕ) (rows : List (Key × Row)) → state.head.epoch < epoch → list_all (λ (t : Transaction). was_given state t.key) state.transactions ≡ true → list_all (λ (e : Key × Row). is_some (transaction_of e.0 state)) rows ≡ true → list_all (λ (e : Key × Row). nat_lt e.0.epoch epoch) rows ≡ true
+rows_earlier state epoch rows later given stands = all_more _ _ rows (λ e was. let less = given_before state e.0 was in grind (arith, nat_tests, less, later)) (each_row state (was_given state) rows given stands)
+
+pub may_begin : (world : World) (head : Head) (boxes : Key → List Badge) → IsSound world → is_starting head ≡ true → world.state.head.epoch < head.epoch → are_adopted boxes world.rows ≡ true → IsStart (started_over head boxes world)
+may_begin world head boxes sound starting later adopted =
+    let stored = and_parts (is_rising world.rows && list_all (λ (t : Transaction). is_stored_as t.phase t (row_at t.key world.rows)) world.state.transactions) _ sound.stored in
+    let rows = and_parts (is_rising world.rows) _ stored.0 in
+    let given = (and_parts _ (list_all (λ (t : Transaction). was_given world.state t.key) world.state.transactions) sound.keyed).1 in
+    let spelled = (and_parts _ (list_all (λ (t : Transaction). is_spelled t.key) world.state.transactions) sound.bounded).1 in
+    let stands = all_open world.state world.rows world.rows rows.1 stored.1 (rows_at world.rows rows.0) in
+    record {
+      head = starting;
+      rows = record { rising = rows.0; spelled = each_row world.state is_spelled world.rows spelled stored.1; earlier = rows_earlier world.state head.epoch world.rows later given stored.1 };
+      boxes = boxes;
+      adopted = adopted;
+      state = refl;
+      known_once = once_again world.state sound.known_once boxes head world.rows rows.0 stands;
+      errands = refl;
+    }
 
 -- A START IS SOUND
 pub start_sound : (world : World) → IsStart world → IsSound world

@@ -1,2 +1,3 @@
+pub mod Successors
 pub mod Telling
 pub mod Truth

@@ -1,21 +1,24 @@
 //! Laws of a realm's runs, each carried by a function that does nothing.
-ghost use Rattle.std.specs.Prelude.{◌≡◌, ◌||◌, not, ℕ, ◌++◌, List, [], Some, is_none, true};
+ghost use Rattle.std.specs.Prelude.{◌≡◌, ◌<◌, ◌||◌, not, ℕ, ◌++◌, List, [], Some, is_none, true};
+ghost use Rattle.tip_branch.specs.declared.branch.Badge.{Badge};
 ghost use Rattle.tip_rows.specs.Keys.{Key};
 ghost use Rattle.tip_txn.specs.declared.answer.Phase.TheVariants.{Committed};
 ghost use Rattle.tip_machine.specs.Agreement.Traces.{at_each, shown_in, traced};
 ghost use Rattle.tip_machine.specs.Agreement.{IsAgreed, is_asked, is_backed, is_denied, is_kept, is_one, row_in, was_committed};
 ghost use Rattle.tip_machine.specs.Answers.{identifier};
 ghost use Rattle.tip_machine.specs.Given.{are_numbered};
-ghost use Rattle.tip_machine.specs.Honest.{is_honest, is_run};
+ghost use Rattle.tip_machine.specs.Honest.{can_start, is_honest, is_run};
 ghost use Rattle.tip_machine.specs.Invariants.Bounds.{is_spelled};
 ghost use Rattle.tip_machine.specs.Invariants.{IsSound, are_keyed};
 ghost use Rattle.tip_machine.specs.Moves.{Move, World, led_to, moved};
 ghost use Rattle.tip_machine.specs.Outputs.{Output};
-ghost use Rattle.tip_machine.specs.Starting.{IsStart};
+ghost use Rattle.tip_machine.specs.Starting.{IsStart, are_adopted, is_starting};
 ghost use Rattle.tip_machine.specs.States.{State, transaction_of};
 ghost use Rattle.tip_machine.specs.Steps.{step};
 ghost use Rattle.tip_machine.specs.Types.{Event, Transaction};
 ghost use Rattle.tip_machine.specs.declared.event.Outcome.{Outcome};
+ghost use Rattle.tip_machine.specs.declared.head.Head.{Head};
+ghost use Rattle.tip_agreement.specs.Successors.{GoesOver, declaration_of, started_over};
 ghost use Rattle.tip_agreement.specs.Telling.{is_told_of};
 ghost use Rattle.tip_agreement.specs.Truth.{IsTrueTo, has_committed_row};
 
@@ -131,4 +134,28 @@ pub fn one_realm_tells_of_an_identifier()
         is_run one moves ≡ true → IsStart other → is_run other others ≡ true →
         is_told_of id one moves ≡ true → is_told_of id other others ≡ true →
         one.state.head.name ≡ other.state.head.name }
+{}
+
+/// A run keeps the realm's declaration.
+pub fn a_run_keeps_the_declaration()
+    ensures { (world : World) (moves : List Move) →
+        declaration_of (led_to world moves).state.head ≡ declaration_of world.state.head }
+{}
+
+/// ACROSS PROCESSES: an honest run goes on in the next process, where it starts the realm from the rows that were left, declared as
+/// before. So what both processes tell is told in one run, which began with the first.
+pub fn a_run_goes_on_in_the_next_process()
+    ensures { (start : World) (moves : List Move) (boxes : Key → List Badge) →
+        is_run start moves ≡ true → can_start boxes (led_to start moves) ≡ true →
+        GoesOver start moves boxes }
+{}
+
+/// The rows that an honest run leaves are rows that a run may begin with, in any later epoch and however the realm is declared then:
+/// by rising key, of earlier epochs, and no two in doubt of one transaction of one superior.
+pub fn what_a_run_leaves_may_begin_a_run()
+    ensures { (start : World) (moves : List Move) (head : Head) (boxes : Key → List Badge) →
+        IsStart start → is_run start moves ≡ true → is_starting head ≡ true →
+        (led_to start moves).state.head.epoch < head.epoch →
+        are_adopted boxes (led_to start moves).rows ≡ true →
+        IsStart (started_over head boxes (led_to start moves)) }
 {}

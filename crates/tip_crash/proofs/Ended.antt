@@ -25,6 +25,7 @@ use Rattle.tip_machine.specs.Types.{Event}
 use Rattle.tip_machine.specs.declared.event.Change.{Change}
 use Rattle.tip_machine.specs.declared.event.Outcome.{Outcome}
 use Rattle.tip_machine.specs.declared.event.Outcome.TheVariants.{NoChange, Stored, Refused}
+use Rattle.tip_machine.proofs.Stepping.{step-epoch}
 use Rattle.tip_agreement.proofs.Runs.{led_on, run_on, run_one, shows_on, shows_one}
 use Rattle.tip_agreement.proofs.Asked.{run_is_agreed}
 use Rattle.tip_crash.specs.Crashes.{HasEnded, IsLeft, IsUnder, Under, Happens, Returns, move_of}
@@ -61,6 +62,10 @@ rows_of : (event : Event) (outcome : Outcome) (world : World) → (stepped event
 unfolding stepped
 rows_of event outcome world = refl
 
+epoch_of : (event : Event) (outcome : Outcome) (world : World) → (stepped event outcome world).world.state.head.epoch ≡ world.state.head.epoch
+unfolding stepped
+epoch_of event outcome world = step-epoch world.state event outcome
+
 shown_of : (event : Event) (outcome : Outcome) (world : World) → (stepped event outcome world).shown ≡ outputs event (wants world.state event) outcome (step world.state event outcome).answer
 unfolding stepped
 shown_of event outcome world = refl
@@ -74,6 +79,7 @@ pub record Last (world : World) (event : Event) (outcome : Outcome) (move : Move
   pub behind : List Output
   pub shown : (moved move world).shown ≡ before ++ (brought event ++ behind)
   pub rows : (moved move world).world.rows ≡ rows_after (wants world.state event) outcome world.rows
+  pub epoch : (moved move world).world.state.head.epoch ≡ world.state.head.epoch
 
 shows_brought : (event : Event) (outcome : Outcome) (world : World) → (before : List Output) × (behind : List Output) × ((stepped event outcome world).shown ≡ before ++ (brought event ++ behind))
 shows_brought event outcome world =
@@ -92,6 +98,7 @@ last world (Happens other) event outcome is fit =
       behind = shows.1;
       shown = shows.2;
       rows = rows_of event outcome world;
+      epoch = epoch_of event outcome world;
     })
 last world (Returns place back) event outcome (party, errands, out, met, can) fit =
     let there : World = record world { errands = errands } in
@@ -103,6 +110,7 @@ last world (Returns place back) event outcome (party, errands, out, met, can) fi
       behind = shows.1;
       shown = ap (λ m. m.shown) goes ∙ shows.2;
       rows = ap (λ m. m.world.rows) goes ∙ rows_of event outcome there;
+      epoch = ap (λ m. m.world.state.head.epoch) goes ∙ epoch_of event outcome there;
     }
 
 -- What was told
@@ -148,6 +156,7 @@ has_ended start moves under event rows starts run is left =
       outcome = became.0;
       run = whole;
       left = ap (λ (w : World). w.rows) (led_on start moves (move ∷ [])) ∙ end.rows ∙ became.2;
+      epoch = ap (λ (w : World). w.state.head.epoch) (led_on start moves (move ∷ [])) ∙ end.epoch;
       told_one = λ id. told_fewer start.state.head.name id (shown_in (traced start moves)) end.before (brought event) end.behind
           (sym (ap (λ l. is_unanimous (told start.state.head.name id l)) (shows_on start moves (move ∷ []) ∙ ap (λ l. shown_in (traced start moves) ++ l) (shows_one world move) ∙ ap (λ l. shown_in (traced start moves) ++ l) end.shown)) ∙ (run_is_agreed start (moves ++ move ∷ []) id starts whole).one);
       agreed = λ later next id. run_is_agreed start ((moves ++ move ∷ []) ++ later) id starts (run_on start (moves ++ move ∷ []) later whole next);

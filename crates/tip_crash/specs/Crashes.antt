@@ -39,5 +39,6 @@ pub record HasEnded (start : World) (moves : List Move) (under : Under) (event :
   pub outcome : Outcome
   pub run : is_run start (moves ++ move_of under outcome ∷ []) ≡ true
   pub left : (led_to start (moves ++ move_of under outcome ∷ [])).rows ≡ rows
+  pub epoch : (led_to start (moves ++ move_of under outcome ∷ [])).state.head.epoch ≡ (led_to start moves).state.head.epoch
   pub told_one : (id : List ℕ) → is_unanimous (told start.state.head.name id (shown_in (traced start moves) ++ brought event)) ≡ true
   pub agreed : (later : List Move) → is_run (led_to start (moves ++ move_of under outcome ∷ [])) later ≡ true → (id : List ℕ) → IsAgreed start (traced start ((moves ++ move_of under outcome ∷ []) ++ later)) id

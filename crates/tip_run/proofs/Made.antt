@@ -2,7 +2,7 @@
 use Rattle.std.proofs.Common.{◌≡◌, ◌++◌, ◌∷◌, ◌∙◌, ℕ, suc, List, [], Option, length, inl, refl, ap, subst, sym}
 use Rattle.std.specs.List.{list_any}
 use Rattle.std.proofs.lemmas.Bool.{or_left, or_right}
-use Rattle.tip_agreement.proofs.Agreeing.{name_led}
+use Rattle.tip_agreement.proofs.Declared.{name_led}
 use Rattle.tip_agreement.proofs.Naming.{one_tells}
 use Rattle.tip_core.specs.Hosted.{HaveNames}
 use Rattle.tip_honest.proofs.Onward.{goes_still}
