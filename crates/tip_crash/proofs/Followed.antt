@@ -26,7 +26,7 @@ use Rattle.tip_crash.specs.Crashes.{HasEnded, IsLeft, IsUnder, Under, move_of}
 use Rattle.tip_crash.specs.Followed.{BeginsBehind, BeginsOver, HasGoneOn, MayBegin}
 
 module _ {S : Type 0} (kept : Keeping S) (start : World) (moves : List Move) (starts : IsStart start) (run : is_run start moves ≡ true) (new : Host S) (place : ℕ) where
-  world : World
+  abbrev pub world : World
   world = led_to start moves
 
   started : (spec : RealmSpec) → BeginsBehind kept start moves spec new place → HasStarted kept spec world.state.head.epoch world.rows new place

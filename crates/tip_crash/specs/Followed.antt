@@ -16,6 +16,7 @@ use Rattle.tip_machine.specs.Moves.{Move, World, led_to, loaded}
 use Rattle.tip_machine.specs.Starting.{IsStart}
 use Rattle.tip_rows.specs.Keys.{Key}
 use Rattle.tip_rows.specs.Logs.{IsPart, Keeping, Log}
+use Rattle.tip_rows.specs.declared.row.Row.{Row}
 use Rattle.tip_run.specs.Starts.{HasStarted, IsBegun, first_of}
 use Rattle.tip_stored.specs.declared.realm_spec.RealmSpec.{RealmSpec}
 

@@ -26,7 +26,7 @@ use Rattle.tip_rows.specs.declared.row.Row.{Row}
 use Rattle.tip_honest.proofs.Agreed.{agreed_so}
 use Rattle.tip_honest.proofs.Boxes.{adopted_so, loaded_again}
 use Rattle.tip_honest.proofs.More.{honest_more}
-use Rattle.tip_honest.specs.Hosts.{AreAllHonest, AreOthersKept, Brings, HasCome, HasHonestRun, IsHonestAt, IsLost, IsRenewed, IsSame, Known}
+use Rattle.tip_honest.specs.Hosts.{AreAllHonest, AreOthersKept, Brings, HasCome, HasHonestRun, IsEventOf, IsHonestAt, IsLost, IsRenewed, IsSame, Known}
 use Rattle.tip_honest.specs.Honesty.{AreHonest, Journal, boxes_of, came_back, entered_in, next_of, noted}
 use Rattle.tip_honest.specs.declared.entry.Entry.{Entry}
 
@@ -37,6 +37,7 @@ entry_by event outcome = record { event = event; outcome = outcome }
 
 pub record IsMove (world : World) (event : Event) (outcome : Outcome) (left : List PartyNotes) : Type 0 where
   pub move : Move
+  pub is : IsEventOf world.errands event outcome move
   pub honest : is_honest move world ≡ true
   pub goes : (moved move world).world ≡ (stepped event outcome (record world { errands = left })).world
   pub notes : (journals : List Journal) → noted move world journals ≡ cond (is_open world.state) (entered_in (Some (entry_by event outcome)) journals) journals
@@ -44,12 +45,14 @@ pub record IsMove (world : World) (event : Event) (outcome : Outcome) (left : Li
 pub is_move : (world : World) (event : Event) (outcome : Outcome) (left : List PartyNotes) → Brings world.errands event left → fits (wants world.state event) outcome ≡ true → IsMove world event outcome left
 is_move world event outcome left (inl (none, same)) fit = record {
   move = Move.Step event outcome;
+  is = (none, refl, refl);
   honest = and_from (brings_no_party event) _ none fit;
   goes = ap (λ es. (stepped event outcome (record world { errands = es })).world) (sym same);
   notes = λ journals. refl;
 }
 is_move world event outcome left (inr (spot, party, back, out, can, is)) fit = record {
   move = Move.Go spot back outcome;
+  is = (party, left, out, is, refl);
   honest = rw out (and_from (can_answer party.errand back party.members) _ can (ap (λ e. fits (wants world.state e) outcome) (sym is) ∙ fit));
   goes = ap (λ es. (gone_for es back outcome world).world) out ∙ ap (λ e. (stepped e outcome (record world { errands = left })).world) (sym is);
   notes = λ journals. ap (λ es. cond (is_open world.state) (entered_in (came_back es back outcome) journals) journals) out ∙ ap (λ e. cond (is_open world.state) (entered_in (Some (entry_by e outcome)) journals) journals) (sym is);

@@ -19,19 +19,19 @@ use Rattle.tip_honest.proofs.Agreed.{agreed_so}
 use Rattle.tip_honest.proofs.Chained.{after_some, may_behind}
 use Rattle.tip_honest.proofs.Hosting.{entry_by, is_move, world_is}
 use Rattle.tip_honest.proofs.More.{journals_on}
-use Rattle.tip_honest.specs.Hosts.{Brings, GoesOn}
+use Rattle.tip_honest.specs.Hosts.{Brings, GoesBy, GoesOn, IsEventOf}
 use Rattle.tip_honest.specs.Honesty.{AreHonest, Journal, entered_in, next_of, noted}
 
 -- Going on
 
 -- as it is
-pub goes_still : {world : World} {journals : List Journal} (before : AreHonest world journals) (now : World) (all : List Journal) → now ≡ world → all ≡ journals → GoesOn before now all
+pub goes_still : {world : World} {journals : List Journal} (before : AreHonest world journals) (now : World) (all : List Journal) → now ≡ world → all ≡ journals → GoesBy before now all (λ more. more ≡ [])
 goes_still before now all same still =
     let honest : AreHonest now all = record { start = before.start; first = before.first; moves = before.moves; run = before.run; led = before.led ∙ sym same; kept = before.kept ∙ sym still } in
-    record { run = record { honest = honest; agreed = agreed_so now all honest }; from = refl; more = []; moves = sym (append-nil before.moves) }
+    (record { run = record { honest = honest; agreed = agreed_so now all honest }; from = refl; more = []; moves = sym (append-nil before.moves) }, refl)
 
 -- by an honest move
-pub goes_by : {world : World} {journals : List Journal} (before : AreHonest world journals) (move : Move) (now : World) (all : List Journal) → is_honest move world ≡ true → (moved move world).world ≡ now → noted move world journals ≡ all → GoesOn before now all
+pub goes_by : {world : World} {journals : List Journal} (before : AreHonest world journals) (move : Move) (now : World) (all : List Journal) → is_honest move world ≡ true → (moved move world).world ≡ now → noted move world journals ≡ all → GoesBy before now all (λ more. more ≡ move ∷ [])
 goes_by {world = world} {journals = journals} before move now all honest leads notes =
     let honestly : AreHonest now all = record {
       start = before.start;
@@ -41,16 +41,19 @@ goes_by {world = world} {journals = journals} before move now all honest leads n
       led = led_on before.start before.moves (move ∷ []) ∙ ap (λ w. (moved move w).world) before.led ∙ leads;
       kept = journals_on before.start before.moves (move ∷ []) _ ∙ (λ i. noted move (before.led i) (before.kept i)) ∙ notes;
     } in
-    record { run = record { honest = honestly; agreed = agreed_so now all honestly }; from = refl; more = move ∷ []; moves = refl }
+    (record { run = record { honest = honestly; agreed = agreed_so now all honestly }; from = refl; more = move ∷ []; moves = refl }, refl)
 
 -- and on
-pub goes_further : {world : World} {journals : List Journal} (before : AreHonest world journals) (mid : World) (some : List Journal) (now : World) (all : List Journal) (first : GoesOn before mid some) → GoesOn first.run.honest now all → GoesOn before now all
-goes_further before mid some now all first later = record {
-  run = later.run;
-  from = later.from ∙ first.from;
-  more = first.more ++ later.more;
-  moves = later.moves ∙ ap (λ m. m ++ later.more) first.moves ∙ append_assoc before.moves first.more later.more;
-}
+pub goes_further : {world : World} {journals : List Journal} (before : AreHonest world journals) (mid : World) (some : List Journal) (now : World) (all : List Journal) (first : GoesOn before mid some) → (later : GoesOn first.run.honest now all) → GoesBy before now all (λ more. more ≡ first.more ++ later.more)
+goes_further before mid some now all first later = (
+  record {
+    run = later.run;
+    from = later.from ∙ first.from;
+    more = first.more ++ later.more;
+    moves = later.moves ∙ ap (λ m. m ++ later.more) first.moves ∙ append_assoc before.moves first.more later.more;
+  },
+  refl,
+)
 
 -- A realm has a journal
 
@@ -62,28 +65,30 @@ some_journal world journals is = subst (λ (js : List Journal). 0 < length js) i
 module _ (state : State) (rows : List (Key × Row)) (out : List PartyNotes) (earlier own : List Journal) (before : AreHonest (record { state = state; rows = rows; errands = out }) (earlier ++ own)) where
   -- an event
   pub event_goes : (event : Event) (outcome : Outcome) (left : List PartyNotes) → 0 < length own → Brings out event left → fits (wants state event) outcome ≡ true →
-      GoesOn before (record { state = (step state event outcome).state; rows = rows_after (wants state event) outcome rows; errands = left ++ option_to_list (step state event outcome).answer.work }) (earlier ++ cond (is_open state) (entered_in (Some (entry_by event outcome)) own) own)
+      GoesBy before (record { state = (step state event outcome).state; rows = rows_after (wants state event) outcome rows; errands = left ++ option_to_list (step state event outcome).answer.work }) (earlier ++ cond (is_open state) (entered_in (Some (entry_by event outcome)) own) own)
+      (λ more. (move : Move) × IsEventOf out event outcome move × (more ≡ move ∷ []))
   event_goes event outcome left some brings fit =
       let move = is_move (record { state = state; rows = rows; errands = out }) event outcome left brings fit in
-      goes_by before move.move _ _ move.honest
+      let goes = goes_by before move.move _ _ move.honest
       (move.goes ∙ world_is event outcome (record { state = state; rows = rows; errands = left }))
-      (move.notes (earlier ++ own) ∙ may_behind (is_open state) (Some (entry_by event outcome)) earlier own some)
+      (move.notes (earlier ++ own) ∙ may_behind (is_open state) (Some (entry_by event outcome)) earlier own some) in
+      (goes.0, (move.move, move.is, goes.1))
 
   quiet : (b : Bool) (js : List Journal) → cond b js js ≡ js
   quiet true js = refl
   quiet false js = refl
 
   -- a party that is lost
-  pub loss_goes : (spot : ℕ) (party : PartyNotes) (rest : List PartyNotes) → picked spot out ≡ party ∷ rest → GoesOn before (record { state = state; rows = rows; errands = rest }) (earlier ++ own)
+  pub loss_goes : (spot : ℕ) (party : PartyNotes) (rest : List PartyNotes) → picked spot out ≡ party ∷ rest → GoesBy before (record { state = state; rows = rows; errands = rest }) (earlier ++ own) (λ more. more ≡ Move.Lose spot ∷ [])
   loss_goes spot party rest was =
       goes_by before (Move.Lose spot) _ _ refl (ap (λ es. (lost_from es (record { state = state; rows = rows; errands = out })).world) was) (quiet (is_open state) (earlier ++ own))
 
   -- a renewal
   pub renewal_goes : (boxes : Key → List Badge) → can_start boxes (record { state = state; rows = rows; errands = out }) ≡ true →
-      GoesOn before (record { state = restarted_from boxes (record { state = state; rows = rows; errands = out }); rows = rows; errands = out }) (earlier ++ (own ++ next_of boxes (record { state = state; rows = rows; errands = out }) ∷ []))
+      GoesBy before (record { state = restarted_from boxes (record { state = state; rows = rows; errands = out }); rows = rows; errands = out }) (earlier ++ (own ++ next_of boxes (record { state = state; rows = rows; errands = out }) ∷ [])) (λ more. more ≡ Move.Renew boxes Stored ∷ [])
   renewal_goes boxes can = goes_by before (Move.Renew boxes Stored) _ _ can refl (append_assoc earlier own _)
 
   -- a restart
   pub restart_goes : (boxes : Key → List Badge) → can_start boxes (record { state = state; rows = rows; errands = out }) ≡ true →
-      GoesOn before (record { state = restarted_from boxes (record { state = state; rows = rows; errands = out }); rows = rows; errands = [] }) ((earlier ++ own) ++ next_of boxes (record { state = state; rows = rows; errands = out }) ∷ [])
+      GoesBy before (record { state = restarted_from boxes (record { state = state; rows = rows; errands = out }); rows = rows; errands = [] }) ((earlier ++ own) ++ next_of boxes (record { state = state; rows = rows; errands = out }) ∷ []) (λ more. more ≡ Move.Restart boxes ∷ [])
   restart_goes boxes can = goes_by before (Move.Restart boxes) _ _ can refl refl

@@ -52,6 +52,10 @@ pub record GoesOn {world : World} {journals : List Journal} (before : AreHonest 
   pub more : List Move
   pub moves : run.honest.moves ≡ before.moves ++ more
 
+-- of the moves that it has made more this holds
+abbrev pub GoesBy : {world : World} {journals : List Journal} → AreHonest world journals → World → List Journal → (List Move → Type 0) → Type 0
+GoesBy before now all by = (goes : GoesOn before now all) × by goes.more
+
 -- So it is of a realm of a host. Where no realm is, no journal is, and nobody is out
 abbrev pub HasHonestRun : Option State → List PartyNotes → List (Key × Row) → Option (List Journal) → Type 0
 HasHonestRun None out rows None = out ≡ []
@@ -76,6 +80,12 @@ abbrev pub Brings : List PartyNotes → Event → List PartyNotes → Type 0
 Brings out event left =
     ((brings_no_party event ≡ true) × (left ≡ out))
     ⊎ ((spot : ℕ) × (party : PartyNotes) × (back : Back) × (picked spot out ≡ party ∷ left) × (can_answer party.errand back party.members ≡ true) × (event ≡ event_of party back))
+
+-- THE MOVE that an event is: the event itself, or one of these parties that are out, which comes back so
+abbrev pub IsEventOf : List PartyNotes → Event → Outcome → Move → Type 0
+IsEventOf out event outcome (Move.Step one became) = (brings_no_party event ≡ true) × (one ≡ event) × (became ≡ outcome)
+IsEventOf out event outcome (Move.Go spot back became) = (party : PartyNotes) × (left : List PartyNotes) × (picked spot out ≡ party ∷ left) × (event ≡ event_of party back) × (became ≡ outcome)
+IsEventOf out event outcome other = ⊥
 
 -- AN EVENT has come at a place, where this realm stood, and its change had this outcome
 pub record HasCome (old new : Known) (place : ℕ) (event : Event) (outcome : Outcome) (state : State) : Type 0 where

@@ -31,7 +31,7 @@ use Rattle.tip_stored.specs.Recovering.{Recovering, adopted_each, all_adopted, a
 use Rattle.tip_stored.specs.declared.realm_spec.RealmSpec.{RealmSpec}
 use Rattle.tip_run.proofs.Given.{boxes_at, given_all, given_boxes, given_stored, gives}
 use Rattle.tip_run.specs.Giving.{AreEachGiven, AreGiven}
-use Rattle.tip_run.specs.Halts.{HandsBack, IsReliable, IsWhyNotBegun, IsWhyNotRestarted, MayBeLeft}
+use Rattle.tip_run.specs.Halts.{HandsBack, IsWhyNotBegun, IsWhyNotRestarted, MayBeLeft}
 use Rattle.tip_run.specs.Starts.{AreDeclared, HasBoxes, HasStarted, IsBegun, IsRestarted, first_of}
 use Rattle.tip_run.specs.declared.halt.Stuck.{Stuck}
 
@@ -182,23 +182,26 @@ module _ {S : Type 0} (kept : Keeping S) (old : Host S) (specs : List RealmSpec)
   not_again (Err stuck) why = inr (specs, declared, subst (λ s. IsWhyNotBegun kept specs s boxes stuck.store stuck.fault) same why)
 
   -- the store of a start that was not made
-  pub hands_back : {T : Type 0} (result : Result T (Stuck S)) → IfErr result (λ stuck. IsReliable kept stuck.store → kept.is_true store) → ((left : S) (log : Log) → kept.stands store log → IfErr result (λ stuck. stuck.store ≡ Some left → (now : Log) × IsOnTheWay (names_of specs) log now × kept.stands left now)) → IfErr result (λ stuck. stuck.store ≡ None → (loaded : Recovering S) × Loads kept specs store (Ok loaded)) → IfErr result (λ stuck. HandsBack kept old true stuck.store)
-  hands_back (Ok host) truth rows lost = tt
-  hands_back (Err stuck) truth rows lost = record {
+  pub hands_back : {T : Type 0} (result : Result T (Stuck S)) → IfErr result (λ stuck. kept.is_true stuck.store → kept.is_true store) → ((log : Log) → kept.stands store log → IfErr result (λ stuck. (now : Log) × IsOnTheWay (names_of specs) log now × kept.stands stuck.store now)) → IfErr result (λ stuck. HandsBack kept old true stuck.store)
+  hands_back (Ok host) truth rows = tt
+  hands_back (Err stuck) truth rows = record {
     truth = λ reliable. subst kept.is_true same (truth reliable);
-    rows = λ left is log stood.
-        let way = rows left log (subst (λ s. kept.stands s log) (sym same) stood) is in
+    rows = λ log stood.
+        let way = rows log (subst (λ s. kept.stands s log) (sym same) stood) in
         (way.0, inr (specs, declared, way.1), way.2);
-    lost = λ none. let read = lost none in (specs, declared, read.0, subst (λ s. Loads kept specs s (Ok read.0)) same read.1);
   }
 
+-- The store of realms that were loaded, and do not begin
+module _ {S : Type 0} (kept : Keeping S) (specs : List RealmSpec) (store : S) (loaded : Recovering S) (loads : Loads kept specs store (Ok loaded)) (left : S) (same : left ≡ loaded.store) where
+  pub loaded_true : kept.is_true left → kept.is_true store
+  loaded_true truth = loads.ok.truth (subst kept.is_true same truth)
+
+  pub loaded_rows : (log : Log) → kept.stands store log → (now : Log) × IsOnTheWay (names_of specs) log now × kept.stands left now
+  loaded_rows log stood = let way = loads.ok.rows log stood in (way.0, inr way.1, subst (λ s. kept.stands s way.0) (sym same) way.2)
+
 -- The store of a host that ends, since a move was not made: it is as it was, or may be relied on no less
-pub ended_back : {S : Type 0} (kept : Keeping S) (old : Host S) (restarts : Bool) (store : S) (left : Option S) → left ≡ Some store → (kept.is_true store → kept.is_true old.stored.store) → ((log : Log) → kept.stands old.stored.store log → kept.stands store log) → HandsBack kept old restarts left
-ended_back {S = S} kept old restarts store left is truth rows = record {
-  truth = λ reliable. truth (subst (IsReliable kept) is reliable);
-  rows = λ there here log stood. (log, same restarts log, subst (λ s. kept.stands s log) (same_Some store there (sym is ∙ here)) (rows log stood));
-  lost = λ none. absurd (none-some store (sym none ∙ is));
-} where
+pub ended_back : {S : Type 0} (kept : Keeping S) (old : Host S) (restarts : Bool) (left : S) → (kept.is_true left → kept.is_true old.stored.store) → ((log : Log) → kept.stands old.stored.store log → kept.stands left log) → HandsBack kept old restarts left
+ended_back kept old restarts left truth rows = record { truth = truth; rows = λ log stood. (log, same restarts log, rows log stood) } where
   same : (restarts : Bool) (log : Log) → MayBeLeft old restarts log log
   same true log = inl refl
   same false log = refl

@@ -1,5 +1,5 @@
 -- A RUN: what holds of it by its moves.
-use Rattle.std.proofs.Common.{◌≡◌, ◌++◌, ◌∷◌, ◌∙◌, ℕ, suc, List, [], Option, length, inl, refl, ap, subst, sym}
+use Rattle.std.proofs.Common.{◌≡◌, ◌++◌, ◌∷◌, ◌∙◌, ℕ, suc, List, [], length, inl, refl, ap, subst, sym}
 use Rattle.std.specs.List.{list_any}
 use Rattle.std.proofs.lemmas.Bool.{or_left, or_right}
 use Rattle.tip_agreement.proofs.Declared.{name_led}
@@ -15,6 +15,7 @@ use Rattle.tip_run.proofs.Noting.{made_noted}
 use Rattle.tip_run.proofs.Resting.{made_rests}
 use Rattle.tip_run.proofs.Storing.{made_stores, made_truth}
 use Rattle.tip_run.specs.Moves.{AreMade, IsMade, Move}
+use Rattle.tip_run.specs.Refined.{AreTo, IsTo}
 use Rattle.tip_run.specs.Running.{IsAtRest, Running, world_at}
 use Rattle.tip_run.specs.Runs.{AreApart, AreHonestRuns, GoesOn, HasNoted, HasRun, Stores, is_restart}
 use Rattle.tip_run.specs.Halts.{IsWhyNotMade}
@@ -52,15 +53,15 @@ module _ {S : Type 0} (kept : Keeping S) where
       let is = kind kept old between next one made in
       noted_on old between new (made_noted kept old between next rest is) (noted between new moves shown (made_rests kept old between next rest is) more)
 
-  honest : (old new : Running S) (moves : List Move) (shown : List Shown) → IsAtRest old.host → AreMade kept old moves shown new → AreHonestRuns kept old moves new
-  honest old new [] [] rest same place state journals here are before relied = subst (λ r. GoesOn r place before) (sym same) (record { state = state; here = here; all = journals; journals_are = are; goes = goes_still before (world_at old place state) journals refl refl })
+  honest : (old new : Running S) (moves : List Move) (shown : List Shown) → IsAtRest old.host → AreMade kept old moves shown new → AreHonestRuns kept old moves shown new
+  honest old new [] [] rest same place state journals here are before relied = subst (λ r. GoesOn r place before (AreTo place [] [])) (sym same) (record { state = state; here = here; all = journals; journals_are = are; goes = goes_still before (world_at old place state) journals refl refl })
   honest old new [] (one ∷ shown) rest is place state journals here are before relied = absurd is
   honest old new (next ∷ moves) [] rest is place state journals here are before relied = absurd is
   honest old new (next ∷ moves) (one ∷ shown) rest (between, made, more) place state journals here are before relied =
       let is = kind kept old between next one made in
       let first = made_goes_on kept old between next rest is place
       (λ again. let may = relied (or_left (is_restart next) (list_any is_restart moves) again) in (truth_first between new moves shown more may.0, may.1)) state journals here are before in
-      further kept between new place before first (λ was. honest between new moves shown (made_rests kept old between next rest is) more place first.state first.all first.here first.journals_are was
+      further kept between new place before (IsTo place next one) (AreTo place moves shown) (AreTo place (next ∷ moves) (one ∷ shown)) (λ some others is are. (some, others, is, are, refl)) first (λ was. honest between new moves shown (made_rests kept old between next rest is) more place first.state first.all first.here first.journals_are was
       (λ again. let may = relied (or_right (is_restart next) (list_any is_restart moves) again) in (may.0, made_stores kept old between next rest.names is (truth_first between new moves shown more may.0) place may.1)))
 
 -- of an identifier one realm alone tells
@@ -95,7 +96,7 @@ as_many kept old new (next ∷ moves) [] is = absurd is
 as_many kept old new (next ∷ moves) (one ∷ shown) (between, made, rest) = ap suc (as_many kept between new moves shown rest)
 
 -- memory may be wanting for any move
-pub wants_memory : {S : Type 0} (kept : Keeping S) (old : Running S) (next : Move) (left : Option S) → IsWhyNotMade kept old next left fault.Memory
+pub wants_memory : {S : Type 0} (kept : Keeping S) (old : Running S) (next : Move) (left : S) → IsWhyNotMade kept old next left fault.Memory
 wants_memory kept old (move.Step event) left = tt
 wants_memory kept old (move.Go place) left = tt
 wants_memory kept old (move.Lose place) left = tt

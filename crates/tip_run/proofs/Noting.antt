@@ -17,6 +17,7 @@ use Rattle.tip_run.proofs.MoveKinds.{Kind}
 use Rattle.tip_run.proofs.Resting.{grow_served}
 use Rattle.tip_run.proofs.Begun.{among, first_journals}
 use Rattle.tip_run.specs.Moves.{AreRestarted, HasTaken, IsLost, Move}
+use Rattle.tip_run.specs.declared.shown.Shown.{Shown}
 use Rattle.tip_run.specs.Running.{HasJournal, IsAtRest, Running, earlier_of, journals_of}
 use Rattle.tip_run.specs.Runs.{HasNoted, notes_of}
 
@@ -57,13 +58,13 @@ module _ {S : Type 0} (kept : Keeping S) where
         ∙ sym (append-nil (all_notes place (earlier_of old.earlier place ++ own)))
         ∙ sym (ap (λ f. notes_of place (option_map (λ js. earlier_of old.earlier place ++ js) f) ++ []) here)
 
-  pub made_noted : (old new : Running S) (next : Move) → IsAtRest old.host → Kind kept old new next → HasNoted old new
-  made_noted old new next rest (Kind.Stepped here event said is) = has_noted old new (grow_served kept old.host new.host old.noted new.noted here event None is.reply rest.begun is.serves) is.earlier
-  made_noted old new next rest (Kind.Returned here said is) =
+  pub made_noted : (old new : Running S) (next : Move) {one : Shown} → IsAtRest old.host → Kind kept old new next one → HasNoted old new
+  made_noted old new next rest (Kind.Stepped here event said to none is) = has_noted old new (grow_served kept old.host new.host old.noted new.noted here event None is.reply rest.begun is.serves) is.earlier
+  made_noted old new next rest (Kind.Returned here said to is) =
       noted_on old is.between new (noted_taken old is.between here (Some is.sent) is.taken)
       (has_noted is.between new (grow_served kept is.between.host new.host is.between.noted new.noted here _ (Some is.sent) is.comes.reply
       (λ p. subst (λ (r : Running S). HasJournal (realm r.host.stored.core p) (slice_get (bare r.host.books.journals) p)) (sym is.taken.rest) (rest.begun p)) is.comes.serves) is.comes.earlier)
-  made_noted old new next rest (Kind.Idle here is) = noted_taken old new here None is
-  made_noted old new next rest (Kind.Lost here party is) = noted_lost old new here party is
-  made_noted old new next rest (Kind.Restarted boxes again is) = noted_restarted old new boxes rest is
-  made_noted old new next rest (Kind.Renewed here boxes is) = has_noted old new (grow_renewal (bare old.host.books.journals) (bare new.host.books.journals) old.noted new.noted here _ _ is.renewed.begun is.noted) is.earlier
+  made_noted old new next rest (Kind.Idle here to is) = noted_taken old new here None is
+  made_noted old new next rest (Kind.Lost here party to is) = noted_lost old new here party is
+  made_noted old new next rest (Kind.Restarted boxes to again is) = noted_restarted old new boxes rest is
+  made_noted old new next rest (Kind.Renewed here boxes to is) = has_noted old new (grow_renewal (bare old.host.books.journals) (bare new.host.books.journals) old.noted new.noted here _ _ is.renewed.begun is.noted) is.earlier

@@ -25,6 +25,7 @@ use Rattle.tip_run.proofs.Growing.{Grow, GrowsAt, grow_event, grow_renewal}
 use Rattle.tip_run.proofs.Taking.{alone, none_left, others_none}
 use Rattle.tip_run.proofs.MoveKinds.{Kind}
 use Rattle.tip_run.specs.Moves.{Comes, ComesBack, HasTaken, IsLost, IsRenewed, Move}
+use Rattle.tip_run.specs.declared.shown.Shown.{Shown}
 use Rattle.tip_run.specs.Running.{HasJournal, IsAtRest, Running}
 use Rattle.tip_run.specs.declared.shown.Said.{Said}
 
@@ -160,10 +161,10 @@ module _ {S : Type 0} (kept : Keeping S) where
           | inr differ ↦ (state, is.others.realms other differ ∙ there)
         ]
 
-  pub made_rests : (old new : Running S) (next : Move) → IsAtRest old.host → Kind kept old new next → IsAtRest new.host
-  made_rests old new next rest (Kind.Stepped place event said is) = comes_rests old new place event said rest is
-  made_rests old new next rest (Kind.Returned place said is) = back_rests old new place said rest is
-  made_rests old new next rest (Kind.Idle place is) = taken_rests old new place rest is
-  made_rests old new next rest (Kind.Lost place party is) = lost_rests old new place party rest is
-  made_rests old new next rest (Kind.Restarted boxes again is) = opened_rests _ new.host is.is.begins.opened
-  made_rests old new next rest (Kind.Renewed place boxes is) = renewed_rests old new place boxes rest is
+  pub made_rests : (old new : Running S) (next : Move) {one : Shown} → IsAtRest old.host → Kind kept old new next one → IsAtRest new.host
+  made_rests old new next rest (Kind.Stepped place event said to none is) = comes_rests old new place event said rest is
+  made_rests old new next rest (Kind.Returned place said to is) = back_rests old new place said rest is
+  made_rests old new next rest (Kind.Idle place to is) = taken_rests old new place rest is
+  made_rests old new next rest (Kind.Lost place party to is) = lost_rests old new place party rest is
+  made_rests old new next rest (Kind.Restarted boxes to again is) = opened_rests _ new.host is.is.begins.opened
+  made_rests old new next rest (Kind.Renewed place boxes to is) = renewed_rests old new place boxes rest is

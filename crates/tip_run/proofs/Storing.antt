@@ -26,6 +26,7 @@ use Rattle.tip_stored.specs.Recovering.{recovered}
 use Rattle.tip_run.proofs.MoveKinds.{Kind}
 use Rattle.tip_run.proofs.Begun.{among, has_started}
 use Rattle.tip_run.specs.Moves.{AreRestarted, HasTaken, IsLost, IsRenewed, Move}
+use Rattle.tip_run.specs.declared.shown.Shown.{Shown}
 use Rattle.tip_run.specs.Running.{Running}
 use Rattle.tip_run.specs.Runs.{Stores}
 use Rattle.tip_run.specs.Starts.{StoresAt}
@@ -153,20 +154,20 @@ module _ {S : Type 0} (kept : Keeping S) where
 
   -- EACH MOVE
 
-  pub made_stores : (old new : Running S) (next : Move) → HaveNames old.host.stored.core → Kind kept old new next → kept.is_true new.host.stored.store → (place : ℕ) → Stores kept old place → Stores kept new place
-  made_stores old new next names (Kind.Stepped here event said is) truth place stores = stores_served old.host new.host old.noted new.noted here event None is.reply names is.serves place stores
-  made_stores old new next names (Kind.Returned here said is) truth place stores =
+  pub made_stores : (old new : Running S) (next : Move) {one : Shown} → HaveNames old.host.stored.core → Kind kept old new next one → kept.is_true new.host.stored.store → (place : ℕ) → Stores kept old place → Stores kept new place
+  made_stores old new next names (Kind.Stepped here event said to none is) truth place stores = stores_served old.host new.host old.noted new.noted here event None is.reply names is.serves place stores
+  made_stores old new next names (Kind.Returned here said to is) truth place stores =
       stores_served is.between.host new.host is.between.noted new.noted here _ (Some is.sent) is.comes.reply (subst (λ (r : Running S). HaveNames r.host.stored.core) (sym is.taken.rest) names) is.comes.serves place (stores_taken old is.between here (Some is.sent) is.taken place stores)
-  made_stores old new next names (Kind.Idle here is) truth place stores = stores_taken old new here None is place stores
-  made_stores old new next names (Kind.Lost here party is) truth place stores = stores_lost old new here party is place stores
-  made_stores old new next names (Kind.Restarted boxes again is) truth place stores = stores_restarted old new boxes is truth place stores
-  made_stores old new next names (Kind.Renewed here boxes is) truth place stores = stores_renewed old new here boxes names is place stores
+  made_stores old new next names (Kind.Idle here to is) truth place stores = stores_taken old new here None is place stores
+  made_stores old new next names (Kind.Lost here party to is) truth place stores = stores_lost old new here party is place stores
+  made_stores old new next names (Kind.Restarted boxes to again is) truth place stores = stores_restarted old new boxes is truth place stores
+  made_stores old new next names (Kind.Renewed here boxes to is) truth place stores = stores_renewed old new here boxes names is place stores
 
   -- a store that may be relied on now could be before
-  pub made_truth : (old new : Running S) (next : Move) → Kind kept old new next → kept.is_true new.host.stored.store → kept.is_true old.host.stored.store
-  made_truth old new next (Kind.Stepped here event said is) truth = truth_served old.host new.host old.noted new.noted here event None is.reply is.serves truth
-  made_truth old new next (Kind.Returned here said is) truth = subst kept.is_true (ap (λ (r : Running S). r.host.stored.store) is.taken.rest) (truth_served is.between.host new.host is.between.noted new.noted here _ (Some is.sent) is.comes.reply is.comes.serves truth)
-  made_truth old new next (Kind.Idle here is) truth = subst kept.is_true (ap (λ (r : Running S). r.host.stored.store) is.rest) truth
-  made_truth old new next (Kind.Lost here party is) truth = subst kept.is_true (ap (λ (r : Running S). r.host.stored.store) is.taken.rest) (subst kept.is_true (ap (λ (r : Running S). r.host.stored.store) is.rest) truth)
-  made_truth old new next (Kind.Restarted boxes again is) truth = is.is.begins.loads.ok.truth (subst kept.is_true is.is.begins.opened.store truth)
-  made_truth old new next (Kind.Renewed here boxes is) truth = is.reads.truth (is.rises.truth truth)
+  pub made_truth : (old new : Running S) (next : Move) {one : Shown} → Kind kept old new next one → kept.is_true new.host.stored.store → kept.is_true old.host.stored.store
+  made_truth old new next (Kind.Stepped here event said to none is) truth = truth_served old.host new.host old.noted new.noted here event None is.reply is.serves truth
+  made_truth old new next (Kind.Returned here said to is) truth = subst kept.is_true (ap (λ (r : Running S). r.host.stored.store) is.taken.rest) (truth_served is.between.host new.host is.between.noted new.noted here _ (Some is.sent) is.comes.reply is.comes.serves truth)
+  made_truth old new next (Kind.Idle here to is) truth = subst kept.is_true (ap (λ (r : Running S). r.host.stored.store) is.rest) truth
+  made_truth old new next (Kind.Lost here party to is) truth = subst kept.is_true (ap (λ (r : Running S). r.host.stored.store) is.taken.rest) (subst kept.is_true (ap (λ (r : Running S). r.host.stored.store) is.rest) truth)
+  made_truth old new next (Kind.Restarted boxes to again is) truth = is.is.begins.loads.ok.truth (subst kept.is_true is.is.begins.opened.store truth)
+  made_truth old new next (Kind.Renewed here boxes to is) truth = is.reads.truth (is.rises.truth truth)

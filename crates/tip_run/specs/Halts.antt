@@ -1,5 +1,5 @@
 -- WHY A RUN HALTS (ours): the first move that is not made has its reason. Memory may be wanting in any.
-use Rattle.std.specs.Prelude.{◌≡◌, ◌≢◌, ◌⊎◌, ℕ, Bool, true, false, List, length, map, take, Option, None, Some, Err, Ok, slice_get}
+use Rattle.std.specs.Prelude.{◌≡◌, ◌≢◌, ◌⊎◌, ℕ, Bool, true, false, List, length, map, take, None, Some, Err, Ok, slice_get}
 use Rattle.tip_branch.specs.declared.branch.Badge.{Badge}
 use Rattle.tip_core.specs.Hosted.{realm}
 use Rattle.tip_host.specs.Hosts.{Host}
@@ -34,14 +34,14 @@ IsWhyNotHappened other = ⊥
 
 -- these realms did not start: they were not loaded, for the reason that a load has, with the store that it hands back; or the boxes
 -- were not one for each branch of each row
-abbrev pub IsWhyNotBegun : {S : Type 0} → Keeping S → List RealmSpec → S → List (List (List Badge)) → Option S → RunFault → Type 0
-IsWhyNotBegun {S = S} kept specs store boxes left (fault.Load why) = (after : S) × (left ≡ Some after) × Loads kept specs store (Err (why, after))
-IsWhyNotBegun {S = S} kept specs store boxes left fault.Boxes = (loaded : Recovering S) × Loads kept specs store (Ok loaded) × (are_for_each boxes loaded.realms ≡ false)
+abbrev pub IsWhyNotBegun : {S : Type 0} → Keeping S → List RealmSpec → S → List (List (List Badge)) → S → RunFault → Type 0
+IsWhyNotBegun kept specs store boxes left (fault.Load why) = Loads kept specs store (Err (why, left))
+IsWhyNotBegun {S = S} kept specs store boxes left fault.Boxes = (loaded : Recovering S) × Loads kept specs store (Ok loaded) × (left ≡ loaded.store) × (are_for_each boxes loaded.realms ≡ false)
 IsWhyNotBegun kept specs store boxes left fault.Memory = Unit {0}
 IsWhyNotBegun kept specs store boxes left other = ⊥
 
 -- all realms of a host did not start again
-abbrev pub IsWhyNotRestarted : {S : Type 0} → Keeping S → Host S → List (List (List Badge)) → Option S → RunFault → Type 0
+abbrev pub IsWhyNotRestarted : {S : Type 0} → Keeping S → Host S → List (List (List Badge)) → S → RunFault → Type 0
 IsWhyNotRestarted kept old boxes left why = (why ≡ fault.Memory) ⊎ ((specs : List RealmSpec) × AreDeclared old specs × IsWhyNotBegun kept specs old.stored.store boxes left why)
 
 -- what is stored of a realm could not be read, or it could not be renewed by what was read, with these boxes
@@ -63,33 +63,22 @@ IsWhyNotRenewed kept old place boxes left fault.Memory = Unit {0}
 IsWhyNotRenewed kept old place boxes left other = ⊥
 
 -- WHY A MOVE WAS NOT MADE, by the store that is left
-abbrev pub IsWhyNotMade : {S : Type 0} → Keeping S → Running S → Move → Option S → RunFault → Type 0
+abbrev pub IsWhyNotMade : {S : Type 0} → Keeping S → Running S → Move → S → RunFault → Type 0
 IsWhyNotMade kept old (move.Restart boxes) left why = IsWhyNotRestarted kept old.host (map (λ lots. lots.items) boxes.items) left why
-IsWhyNotMade {S = S} kept old (move.Renew place boxes) left why = (why ≡ fault.Memory) ⊎ ((store : S) × (left ≡ Some store) × IsWhyNotRenewed kept old.host place boxes.items store why)
+IsWhyNotMade kept old (move.Renew place boxes) left why = (why ≡ fault.Memory) ⊎ IsWhyNotRenewed kept old.host place boxes.items left why
 IsWhyNotMade kept old other left why = IsWhyNotHappened why
 
 -- The store
-
--- who relies on the store that is left; of one that is not, every store of its kind is relied on
-abbrev pub IsReliable : {S : Type 0} → Keeping S → Option S → Type 0
-IsReliable kept None = (store : _) → kept.is_true store
-IsReliable kept (Some store) = kept.is_true store
 
 -- what is stored then: what was stored before, or, where the realms were to start again, something on the way there
 abbrev pub MayBeLeft : {S : Type 0} → Host S → Bool → Log → Log → Type 0
 MayBeLeft old true log now = (now ≡ log) ⊎ ((specs : List RealmSpec) × AreDeclared old specs × IsOnTheWay (names_of specs) log now)
 MayBeLeft old false log now = now ≡ log
 
--- it is gone only where the realms that were to start again had been read from it
-abbrev pub MayBeLost : {S : Type 0} → Keeping S → Host S → Bool → Type 0
-MayBeLost {S = S} kept old true = (specs : List RealmSpec) × AreDeclared old specs × (loaded : Recovering S) × Loads kept specs old.stored.store (Ok loaded)
-MayBeLost kept old false = ⊥
-
 -- THE STORE IS HANDED BACK: who relies on it may rely on what it was before the move
-pub record HandsBack {S : Type 0} (kept : Keeping S) (old : Host S) (restarts : Bool) (left : Option S) : Type 0 where
-  pub truth : IsReliable kept left → kept.is_true old.stored.store
-  pub rows : (store : S) → left ≡ Some store → (log : Log) → kept.stands old.stored.store log → (now : Log) × MayBeLeft old restarts log now × kept.stands store now
-  pub lost : left ≡ None → MayBeLost kept old restarts
+pub record HandsBack {S : Type 0} (kept : Keeping S) (old : Host S) (restarts : Bool) (left : S) : Type 0 where
+  pub truth : kept.is_true left → kept.is_true old.stored.store
+  pub rows : (log : Log) → kept.stands old.stored.store log → (now : Log) × MayBeLeft old restarts log now × kept.stands left now
 
 -- A RUN THAT HAS HALTED: all moves before were made, and the next one was not, for a reason; what the pass had noted is handed out,
 -- and the store

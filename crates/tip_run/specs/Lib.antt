@@ -4,4 +4,5 @@ pub mod Starts
 pub mod Moves
 pub mod Runs
 pub mod Halts
+pub mod Refined
 pub mod Refusals

@@ -7,10 +7,12 @@ use Rattle.tip_core.specs.Hosted.{realm}
 use Rattle.tip_honest.specs.Honesty.{AreHonest, Journal}
 use Rattle.tip_honest.specs.Hosts as Honest
 use Rattle.tip_host.specs.Entries.{Noted}
+use Rattle.tip_machine.specs.Moves as Machine
 use Rattle.tip_machine.specs.Starting.{IsStart}
 use Rattle.tip_machine.specs.States.{State}
 use Rattle.tip_rows.specs.Logs.{Keeping}
 use Rattle.tip_run.specs.Moves.{AreMade, Move}
+use Rattle.tip_run.specs.Refined.{AreTo}
 use Rattle.tip_run.specs.Running.{Running, journals_of, world_at}
 use Rattle.tip_run.specs.Starts.{StoresAt}
 use Rattle.tip_run.specs.declared.moves.Move.TheVariants as move
@@ -32,18 +34,18 @@ IsRelied kept old moves new place = list_any is_restart moves ≡ true → kept.
 
 -- Honest runs
 
--- THE HONEST RUN OF THE REALM AT A PLACE GOES ON to where the realm is now, and leaves all its journals
-pub record GoesOn {S : Type 0} (new : Running S) (place : ℕ) {world : _} {journals : List Journal} (before : AreHonest world journals) : Type 0 where
+-- THE HONEST RUN OF THE REALM AT A PLACE GOES ON, by moves of which this holds, to where the realm is now, and leaves all its journals
+pub record GoesOn {S : Type 0} (new : Running S) (place : ℕ) {world : _} {journals : List Journal} (before : AreHonest world journals) (by : List Machine.Move → Type 0) : Type 0 where
   pub state : State
   pub here : realm new.host.stored.core place ≡ Some state
   pub all : List Journal
   pub journals_are : journals_of new place ≡ Some all
-  pub goes : Honest.GoesOn before (world_at new place state) all
+  pub goes : Honest.GoesBy before (world_at new place state) all by
 
--- ISOLATION AND AGREEMENT: so it is with each realm, whatever moves of others are between its own
-abbrev pub AreHonestRuns : {S : Type 0} → Keeping S → Running S → List Move → Running S → Type 0
-AreHonestRuns kept old moves new =
-    (place : ℕ) (state : State) (journals : List Journal) → realm old.host.stored.core place ≡ Some state → journals_of old place ≡ Some journals → (before : AreHonest (world_at old place state) journals) → IsRelied kept old moves new place → GoesOn new place before
+-- ISOLATION AND AGREEMENT: so it is with each realm, by its own moves alone, whatever moves of others are between them
+abbrev pub AreHonestRuns : {S : Type 0} → Keeping S → Running S → List Move → List Shown → Running S → Type 0
+AreHonestRuns kept old moves shown new =
+    (place : ℕ) (state : State) (journals : List Journal) → realm old.host.stored.core place ≡ Some state → journals_of old place ≡ Some journals → (before : AreHonest (world_at old place state) journals) → IsRelied kept old moves new place → GoesOn new place before (AreTo place moves shown)
 
 -- OF AN IDENTIFIER ONE REALM ALONE TELLS its branches: two whose runs both do are one
 abbrev pub AreApart : {S : Type 0} → Running S → Type 0
@@ -71,7 +73,7 @@ pub record HasNoted {S : Type 0} (old new : Running S) : Type 0 where
 -- A RUN: its moves were made, in order, and of what has become of each realm this holds
 pub record HasRun {S : Type 0} (kept : Keeping S) (old : Running S) (moves : List Move) (shown : List Shown) (new : Running S) : Type 0 where
   pub made : AreMade kept old moves shown new
-  pub honest : AreHonestRuns kept old moves new
+  pub honest : AreHonestRuns kept old moves shown new
   pub noted : HasNoted old new
   pub stored : (place : ℕ) → kept.is_true new.host.stored.store → Stores kept old place → Stores kept new place
   pub apart : AreApart new

@@ -1,5 +1,5 @@
 //! Why a run halts.
-ghost use Rattle.std.specs.Prelude.{◌≡◌, Some};
+ghost use Rattle.std.specs.Prelude.{◌≡◌};
 ghost use Rattle.tip_branch.specs.Always.{Always};
 
 use crate::shown::Shown;
@@ -33,16 +33,15 @@ pub struct Halt<S> {
     pub fault: RunFault,
     /// The entries of the run.
     pub pass: Pass<Entry>,
-    /// The store, with what was stored before that move, or on the way of the epochs to a start. None where memory has ended in a
-    /// start, or the boxes did not fit: then it has gone with what was read of it.
-    pub store: Option<S>,
+    /// The store, with what was stored before that move, or on the way of the epochs to a start.
+    pub store: S,
 }
 
 /// Why a move was not made, and the store that is left.
 #[derive(Drop)]
 pub(crate) struct Stuck<S> {
     pub(crate) fault: RunFault,
-    pub(crate) store: Option<S>,
+    pub(crate) store: S,
 }
 
 impl<S: RowLog + Drop> Stuck<S> {
@@ -50,13 +49,10 @@ impl<S: RowLog + Drop> Stuck<S> {
     pub(crate) fn at(host: Host<S>, fault: RunFault) -> Stuck<S>
         requires { Always }
         ensures fault { result.fault ≡ fault }
-        ensures store { result.store ≡ Some host.stored.store }
+        ensures store { result.store ≡ host.stored.store }
     {
         let Ended { store, .. } = host.shut();
-        Stuck {
-            fault,
-            store: Some(store),
-        }
+        Stuck { fault, store }
     }
 }
 

@@ -1,12 +1,11 @@
 //! Realms of a host that is run, which start again.
-ghost use Rattle.std.specs.Prelude.{◌≡◌, ◌++◌, ◌∷◌, [], List, map, IfErr, IfOk, None, Ok, OnErr, OnOk, Some, true};
+ghost use Rattle.std.specs.Prelude.{◌≡◌, ◌++◌, ◌∷◌, [], List, map, IfErr, IfOk, OnErr, OnOk, true};
 ghost use Rattle.tip_branch.specs.Always.{Always};
 ghost use Rattle.tip_honest.specs.Honesty.{Journal};
 ghost use Rattle.tip_host.specs.Entries.{Noted};
 ghost use Rattle.tip_rows.specs.Logs.{Log};
-ghost use Rattle.tip_stored.specs.Loading.{IsOnTheWay, Loads, names_of};
-ghost use Rattle.tip_stored.specs.Recovering.{Recovering};
-ghost use Rattle.tip_run.specs.Halts.{HandsBack, IsReliable, IsWhyNotBegun, IsWhyNotRenewed, IsWhyNotRestarted};
+ghost use Rattle.tip_stored.specs.Loading.{IsOnTheWay, names_of};
+ghost use Rattle.tip_run.specs.Halts.{HandsBack, IsWhyNotBegun, IsWhyNotRenewed, IsWhyNotRestarted};
 ghost use Rattle.tip_run.specs.Moves.{IsRenewed, at_work};
 ghost use Rattle.tip_run.specs.Running.{IsAtRest};
 ghost use Rattle.tip_run.specs.Starts.{HasBoxes, IsBegun, IsRestarted};
@@ -66,33 +65,30 @@ fn begin<S: RowLog + Drop>(
     ensures why { IfErr result (λ stuck. IsWhyNotBegun S.keeping specs.items store
         (map (λ lots. lots.items) boxes.items) stuck.store stuck.fault) }
     ensures truth { IfErr result
-        (λ stuck. IsReliable S.keeping stuck.store → S.keeping.is_true store) }
-    ensures rows { (left : S) (log : Log) → S.keeping.stands store log → IfErr result
-        (λ stuck. stuck.store ≡ Some left → (now : Log)
-        × IsOnTheWay (names_of specs.items) log now × S.keeping.stands left now) }
-    ensures lost { IfErr result (λ stuck. stuck.store ≡ None → (loaded : Recovering S)
-        × Loads S.keeping specs.items store (Ok loaded)) }
+        (λ stuck. S.keeping.is_true stuck.store → S.keeping.is_true store) }
+    ensures rows { (log : Log) → S.keeping.stands store log → IfErr result (λ stuck. (now : Log)
+        × IsOnTheWay (names_of specs.items) log now × S.keeping.stands stuck.store now) }
 {
     let mut recovering = match StoredCore::load(alloc, store, Core::new(alloc), specs) {
         Ok(recovering) => recovering,
         Err((fault, store)) => {
             return Err(Stuck {
                 fault: RunFault::Load(fault),
-                store: Some(store),
+                store,
             });
         }
     };
     if !recovering.adopt_all(boxes) {
         return Err(Stuck {
             fault: RunFault::Boxes,
-            store: None,
+            store: recovering.into_store(),
         });
     }
     match Host::open(alloc, recovering) {
         Ok(host) => Ok(host),
-        Err((OpenFault::Memory, _)) => Err(Stuck {
+        Err((OpenFault::Memory, recovering)) => Err(Stuck {
             fault: RunFault::Memory,
-            store: None,
+            store: recovering.into_store(),
         }),
         Err((OpenFault::Unadopted, _)) => unreachable!(),
     }

@@ -112,6 +112,15 @@ impl<S: RowLog> Recovering<S> {
         boxes.len() == self.realms.len() && adopt_each(&mut self.realms, boxes)
     }
 
+    /// The store, where the realms are not to begin.
+    pub fn into_store(self) -> S
+        requires { Always }
+        ensures { result ≡ self.store }
+    {
+        let Recovering { store, .. } = self;
+        store
+    }
+
     /// The stored core begins: each realm is as recovery makes it of its rows and boxes. It takes no memory. Where a row still
     /// waits, all is handed back.
     pub fn begin(self) -> Result<StoredCore<S, Core>, (Unadopted, Recovering<S>)>

@@ -7,7 +7,7 @@ use Rattle.tip_run.proofs.Begun.{given_to_each, none_waits}
 use Rattle.tip_run.proofs.starting.begin.Goals as goal
 
 pub returns-then-not-adopt_all-clause-why : goal.returns-then-not-adopt_all-clause-why
-returns-then-not-adopt_all-clause-why g c = (c.in-Ok.recovering, c.in-Ok.ensures, search rules)
+returns-then-not-adopt_all-clause-why g c = (c.in-Ok.recovering, c.in-Ok.ensures, search rules, search rules)
 
 pub returns-in-Ok-open-clause-begun : goal.returns-in-Ok-open-clause-begun
 returns-in-Ok-open-clause-begun g c =

@@ -18,7 +18,7 @@ returns-then-is_err-clause-back g c =
     let kept = g.S.RowLog.keeping in
     let host = c.self.inside.host in
     subst (λ (self : Running g.row.S.Denot). HandsBack kept self.host (is_restart c.args.next) c.at.result.store) c.self.view_is
-    (ended_back kept host (is_restart c.args.next) host.stored.store c.at.result.store c.at.ensures.store (λ reliable. reliable) (λ log stood. stood))
+    (ended_back kept host (is_restart c.args.next) c.at.result.store (subst kept.is_true c.at.ensures.store) (λ log. subst (λ s. kept.stands s log) (sym c.at.ensures.store)))
 
 pub invariant_of-result : goal.invariant_of-result
 invariant_of-result g c =
