@@ -177,7 +177,7 @@ with_names realm labels declarations next are is = labelled_from labels (positio
 -- The start
 
 -- what can be declared can start where tipd alone wrote what is stored of it
-within : (epoch : ℕ) → nat_lt epoch last_epoch ≡ true → is_within 1 last_epoch (epoch + 1) ≡ true
+pub within : (epoch : ℕ) → nat_lt epoch last_epoch ≡ true → is_within 1 last_epoch (epoch + 1) ≡ true
 within epoch rises =
     let least : nat_le 1 (epoch + 1) ≡ true = grind (arith, nat_tests) in
     let most : nat_le (epoch + 1) last_epoch ≡ true = grind (arith, nat_tests, rises) in

@@ -7,3 +7,4 @@ pub mod Playing
 pub mod Apart
 pub mod Scripts
 pub mod Telling
+pub mod Following

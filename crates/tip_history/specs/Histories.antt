@@ -1,6 +1,6 @@
 -- WHAT A TRANSCRIPT TELLS of the realms (ours): each has made an honest run of its own machine, alone, from its start as it was
 -- declared and by what was stored of it; and in each run the four sentences of agreement hold of each identifier.
-use Rattle.std.specs.Prelude.{◌≡◌, ℕ, ◌+◌, true, false, List, [], ◌∷◌, map, nat_lt, Option, Some}
+use Rattle.std.specs.Prelude.{◌≡◌, ℕ, ◌+◌, true, false, List, [], ◌∷◌, map, nat_lt, Option, Some, slice_get}
 use Rattle.std.specs.List.{list_any}
 use Rattle.std.specs.Str.{bytes_eq}
 use Rattle.tip_machine.specs.Agreement.{IsAgreed}
@@ -11,7 +11,10 @@ use Rattle.tip_machine.specs.Invariants.Links.{are_distinct}
 use Rattle.tip_machine.specs.Moves.{Move, World}
 use Rattle.tip_machine.specs.Starting.{AreRowsBefore, IsStart}
 use Rattle.tip_rows.specs.Logs.{last_epoch}
-use Rattle.tip_scene.specs.Acts.{Basis, Before, Declaring, Stage, acting_of}
+use Rattle.tip_actor.specs.Acting.{Acting}
+use Rattle.tip_machine.specs.Heads.{starting}
+use Rattle.tip_scene.specs.Acts.{Basis, Before, Declaring, Stage, acting_of, start_of, world_of}
+use Rattle.tip_scene.specs.Scenes.{Scene}
 use Rattle.tip_scene.specs.declared.declared.Declaration.{Declaration}
 use Rattle.tip_play.specs.Transcripts.{act_of}
 use Rattle.tip_history.specs.Sayings.{Line, are_spelled, lines_text, shown_of}
@@ -27,6 +30,18 @@ pub record IsWritten (before : Before) (start : World) : Type 0 where
 
 abbrev pub AreWritten : Basis → Type 0
 AreWritten basis = (declaration : Declaration) → IsWritten (basis.before declaration.name) (acting_of basis declaration).world
+
+-- What a script leaves of a realm
+
+abbrev pub left_of : Acting → Before
+left_of acting = record { epoch = acting.world.state.head.epoch; rows = acting.world.rows }
+
+-- it is what tipd alone wrote, for a next script, where an epoch follows and however that declares the realm
+abbrev pub MayFollow : Acting → Type 0
+MayFollow acting = nat_lt acting.world.state.head.epoch last_epoch ≡ true → (declaration : Declaration) → IsWritten (left_of acting) (world_of (starting (start_of (left_of acting) declaration)) acting.world.rows)
+
+abbrev pub AllMayFollow : Scene → Type 0
+AllMayFollow scene = (place : ℕ) (acting : Acting) → slice_get scene place ≡ Some acting → MayFollow acting
 
 -- What a script declares: by its lines, until the first other one starts the realms
 

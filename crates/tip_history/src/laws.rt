@@ -1,13 +1,14 @@
 //! Laws of scripts, each carried by a function that does nothing.
 ghost use Rattle.std.specs.Prelude.{◌≡◌, ℕ, true, List, [], Some};
 ghost use Rattle.std.specs.List.{list_all};
-ghost use Rattle.tip_play.specs.Transcripts.{Reached, in_memory, lines_of, played, transcript};
-ghost use Rattle.tip_scene.specs.Acts.{Basis, Declaring, scene_of};
+ghost use Rattle.tip_play.specs.Transcripts.{Reached, all_played, in_memory, lines_of, played, transcript};
+ghost use Rattle.tip_scene.specs.Acts.{Basis, Declaring, Stage, scene_of};
+ghost use Rattle.tip_scene.specs.Blaming.{starting_from};
 ghost use Rattle.tip_scene.specs.Scenes.{Scene};
 ghost use Rattle.tip_scene.specs.declared.declared.Declaration.{Declaration};
 ghost use Rattle.tip_script.specs.Scripts.{Move};
 ghost use Rattle.tip_history.specs.Alone.{AreApart, IsAlone, all_moved, is_spelled, text_of};
-ghost use Rattle.tip_history.specs.Histories.{AreWritten, IsTold, declared_by};
+ghost use Rattle.tip_history.specs.Histories.{AllMayFollow, AreWritten, IsTold, declared_by};
 
 /// ISOLATION AND AGREEMENT: whatever a script says, its transcript says of each realm that it declares what the realm's own machine
 /// shows in an honest run of its own, from its start as it was declared and by what was stored of it, over restarts and renewals; and
@@ -40,4 +41,12 @@ pub fn each_realm_has_its_own_script()
 /// Rows in memory begin with none.
 pub fn nothing_was_stored_in_memory()
     ensures { AreWritten in_memory }
+{}
+
+/// ACROSS SCRIPTS: what a script leaves of each of its realms, where it ends well, is what tipd alone wrote, so a next script may be
+/// played on it, however that declares the realm, as long as an epoch follows. What it leaves in a file `play_on` says.
+pub fn what_a_script_leaves_may_be_played_on()
+    ensures { (basis : Basis) → AreWritten basis → (script : List ℕ) (stage : Stage) →
+        (all_played basis script).ending ≡ Reached stage →
+        AllMayFollow (starting_from basis stage) }
 {}
