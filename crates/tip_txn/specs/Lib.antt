@@ -1,4 +1,5 @@
 pub mod Decisions
 pub mod Parts
+pub mod Tallies
 pub mod Transactions
 pub mod Refusals

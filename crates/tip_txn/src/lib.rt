@@ -5,6 +5,7 @@ mod answer;
 pub mod laws;
 mod part;
 mod refusals;
+mod tally;
 mod txn;
 
 pub use answer::{Ballot, Decision, Phase};

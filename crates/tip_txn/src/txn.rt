@@ -3,13 +3,14 @@ ghost use Rattle.std.specs.Prelude.{◌≡◌, ◌≢◌, ◌+◌, ◌-◌, ◌<
 ghost use Rattle.std.specs.List.{list_all, list_any};
 ghost use Rattle.std.specs.Option.{option_copied};
 ghost use Rattle.tip_txn.specs.Parts.{answers_of, answer_at, is_due, is_pair, is_enlisted, is_settled, changed_at, named, answered, acknowledged, enlisted};
-ghost use Rattle.tip_txn.specs.Decisions.{Decides, Says};
-ghost use Rattle.tip_txn.specs.Transactions.{fresh, local_party, recovered, exists_in};
+ghost use Rattle.tip_txn.specs.Decisions.{Decides};
+ghost use Rattle.tip_txn.specs.Transactions.{fresh, recovered, exists_in};
 ghost use Rattle.tip_txn.specs.declared.answer.Phase.TheVariants.{Active, Asking};
 ghost use Rattle.tip_txn.specs.declared.txn.EnlistFault.TheVariants.{NotActive, Twice};
 
 use crate::answer::{Ballot, Decision, Phase};
 use crate::part::{Part, Participant};
+use crate::tally::Tally;
 use std::alloc::{AllocError, Allocator, Global};
 use std::marker::Model;
 use thiserror::Error;
@@ -30,10 +31,12 @@ pub struct Txn<A: Allocator = Global> {
     phase: Phase,
     local: Participant,
     others: Vec<Participant, A>,
+    tally: Tally,
 }
 
 impl<A: Allocator> Model for Txn<A> {
     ghost use Rattle.std.specs.Prelude.{◌∷◌, ◌-◌, vec_len, vec_capacity};
+    ghost use Rattle.tip_txn.specs.Tallies.{IsTally};
     ghost use Rattle.tip_txn.specs.Transactions.{Transaction};
 
     ghost Value = { Transaction };
@@ -44,6 +47,8 @@ impl<A: Allocator> Model for Txn<A> {
           ∷ t.others.items;
       spare = vec_capacity t.others - vec_len t.others;
     } };
+
+    ghost invariant = { λ t. IsTally t.tally (t.local ∷ t.others.items) };
 }
 
 impl<A: Allocator> Txn<A> {
@@ -55,6 +60,7 @@ impl<A: Allocator> Txn<A> {
             phase: Phase::Active,
             local: unanswered(None, None),
             others: Vec::new(alloc),
+            tally: Tally::new(),
         }
     }
 
@@ -70,6 +76,7 @@ impl<A: Allocator> Txn<A> {
             phase,
             local: willing(None, None),
             others,
+            tally: Tally::willing(subordinates.len() + 1),
         })
     }
 
@@ -109,6 +116,7 @@ impl<A: Allocator> Txn<A> {
             return Err(EnlistFault::Twice);
         }
         self.others.push_reserved(unanswered(Some(address), id));
+        self.tally = self.tally.with(None);
         Ok(Part::at(self.others.len()))
     }
 
@@ -136,6 +144,7 @@ impl<A: Allocator> Txn<A> {
         ensures { self.new
             ≡ record self.old { parts = changed_at part (answered answer) self.old.parts } }
     {
+        self.tally = self.tally.moved(self.answer_of(part), answer);
         match part.place() {
             0 => self.local.answer = Some(answer),
             place => self.others[place - 1].answer = Some(answer),
@@ -147,25 +156,21 @@ impl<A: Allocator> Txn<A> {
         requires { part < length self.now.parts }
         ensures { result ≡ is_some (answer_at self.now.parts part) }
     {
-        match part.place() {
-            0 => self.local.answer.is_some(),
-            place => self.others[place - 1].answer.is_some(),
-        }
+        self.answer_of(part).is_some()
     }
 
     /// What the answers so far decide.
     pub fn decide(&self) -> Decision
         ensures { Decides (answers_of self.now.parts) result }
     {
-        decision(&self.local, &self.others)
+        self.tally.decide()
     }
 
     /// What they decide once the local party has given this answer.
-    #[tactic(auto, using(crate::proofs::PartLemmas::decides_same))]
     pub fn decide_with(&self, local: Ballot) -> Decision
         ensures { Decides (answers_of (changed_at 0 (answered local) self.now.parts)) result }
     {
-        decision(&answering(local), &self.others)
+        self.tally.moved(self.local.answer, local).decide()
     }
 
     /// Enters the phase that an outcome leads to.
@@ -232,6 +237,17 @@ impl<A: Allocator> Txn<A> {
         have_due(&self.others, address, id)
     }
 
+    /// What a part has answered.
+    fn answer_of(&self, part: Part) -> Option<Ballot>
+        requires { part < length self.now.parts }
+        ensures { answers_of self.now.parts part result }
+    {
+        match part.place() {
+            0 => self.local.answer,
+            place => self.others[place - 1].answer,
+        }
+    }
+
     /// Whether a part has this address and identifier.
     fn is_enlisted(&self, address: &Address, id: &Id) -> bool
         ensures { result ≡ is_enlisted self.now.parts address.now (Some id.now) }
@@ -270,36 +286,6 @@ fn have_due(parts: &[Participant], address: &Address, id: &Id) -> bool
         .any(|part| is_pair(part, address, id) && !is_settled(part))
 }
 
-/// What the local party and the others decide.
-fn decision(local: &Participant, others: &[Participant]) -> Decision
-    ensures { Decides (answers_of (local.now ∷ others.now)) result }
-{
-    if says(local, others, Some(Ballot::No)) || says(local, others, Some(Ballot::Lost)) {
-        Decision::Abort
-    } else if says(local, others, None) {
-        Decision::Wait
-    } else if says(local, others, Some(Ballot::Yes)) {
-        Decision::Commit
-    } else {
-        Decision::ReadOnly
-    }
-}
-
-/// Whether the local party, or one of the others, has this answer, or none where it is None.
-#[tactic(auto, using(crate::proofs::PartLemmas::saying))]
-fn says(local: &Participant, others: &[Participant], answer: Option<Ballot>) -> bool
-    ensures { IsTrue result ↔ Says (answers_of (local.now ∷ others.now)) answer }
-{
-    local.answer == answer || have(others, answer)
-}
-
-/// Whether one of the parts has this answer, or none where it is None.
-fn have(parts: &[Participant], answer: Option<Ballot>) -> bool
-    ensures { IsTrue result ↔ Says (answers_of parts.now) answer }
-{
-    parts.iter().any(|part| part.answer == answer)
-}
-
 /// Whether one of the parts has this address and identifier.
 fn have_pair(parts: &[Participant], address: &Address, id: &Id) -> bool
     ensures { result ≡ list_any (is_pair address.now id.now) parts.now }
@@ -325,18 +311,6 @@ fn unanswered(address: Option<Address>, id: Option<Id>) -> Participant
         address,
         id,
         answer: None,
-        acknowledged: false,
-    }
-}
-
-/// A party of this answer.
-fn answering(answer: Ballot) -> Participant
-    ensures { result ≡ answered answer local_party }
-{
-    Participant {
-        address: None,
-        id: None,
-        answer: Some(answer),
         acknowledged: false,
     }
 }
