@@ -2,6 +2,7 @@ pub mod LabelLemmas
 pub mod PartLemmas
 pub mod MemoryLemmas
 pub mod OrderLemmas
+pub mod PlaceLemmas
 pub mod NameLemmas
 pub mod WrittenLemmas
 pub mod PartsLemmas

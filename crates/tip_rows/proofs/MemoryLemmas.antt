@@ -8,7 +8,7 @@ use Rattle.std.proofs.lemmas.Slice.Eq.{bytes_eq-Decides}
 use Rattle.std.specs.Ordering.{nat_cmp}
 use Rattle.std.specs.declared.cmp.Ordering.TheVariants.{Equal}
 use Rattle.tip_line.proofs.StopLemmas.{and_left, and_right}
-use Rattle.tip_rows.specs.Logs.{Log, row_at, is_rising, is_here, with_at, with_row, without_row, with_all_raised, with_raised, raised, raised_number, last_epoch, IsSpent, name_before, are_rising_names, with_known, with_epoch}
+use Rattle.tip_rows.specs.Logs.{Log, with_all_raised, with_raised, raised, last_epoch, IsSpent, name_before, are_rising_names, with_known, with_epoch}
 use Rattle.tip_rows.specs.Logs as logs
 use Rattle.tip_rows.specs.Memory.{Stored, is_named, epoch_in, due_in, log_in, IsKept, raised_known, raised_named, epoch_named, refusing_named, is_at_end}
 use Rattle.tip_rows.specs.declared.memory.Known.{Known}
@@ -51,7 +51,7 @@ names-map change keeps (k ∷ known) = ap (λ (n : List ℕ). n ∷ map (λ (k :
 
 -- known realms that keep their names are still kept
 kept-names : (known new : List Known) (rows : List Stored) → map (λ (k : Known). k.realm) new ≡ map (λ (k : Known). k.realm) known → IsKept known rows → IsKept new rows
-kept-names known new rows names kept = record { names = rw names kept.names; realms = rw names kept.realms; rising = kept.rising }
+kept-names known new rows names kept = record { names = rw names kept.names; realms = rw names kept.realms; placed = kept.placed }
 
 refusing-realm : (realm : List ℕ) (b : Bool) (k : Known) → (refusing_named realm b k).realm ≡ k.realm
 refusing-realm realm b k = elim (cases_Bool (bytes_eq k.realm realm)) [ inl own ↦ rw own refl | inr other ↦ rw other refl ]

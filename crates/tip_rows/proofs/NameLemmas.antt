@@ -10,7 +10,7 @@ use Rattle.std.specs.Cmp.Lexicographic.{slice_cmp, nat_list_cmp_total}
 use Rattle.std.proofs.lemmas.Map.Text.{is_eq-slice_cmp}
 use Rattle.tip_line.specs.Words.{is_realm}
 use Rattle.tip_line.proofs.StopLemmas.{and_left, and_right}
-use Rattle.tip_rows.specs.Logs.{Log, name_before, are_rising_names, AreNames, HasBadName, with_known}
+use Rattle.tip_rows.specs.Logs.{Log, name_before, are_rising_names, AreNames, with_known}
 use Rattle.tip_rows.specs.Logs as logs
 use Rattle.tip_rows.specs.Memory.{Stored, is_named, epoch_in, due_in, log_in, is_from, known_in}
 use Rattle.tip_rows.specs.declared.memory.Known.{Known}
@@ -64,7 +64,8 @@ less Less h = refl
 less Equal h = cc
 less Greater h = cc
 
-name-trans : (a b c : List ℕ) → name_before a b ≡ true → name_before b c ≡ true → name_before a c ≡ true
+-- a name that comes before one that comes before a third comes before that
+pub name-trans : (a b c : List ℕ) → name_before a b ≡ true → name_before b c ≡ true → name_before a c ≡ true
 name-trans a b c h k = rw (nat_list_cmp_total.trans a b c (less (slice_cmp nat_cmp a b) h) (less (slice_cmp nat_cmp b c) k)) refl
 
 turned : (o : Ordering) → not (is_lt o) ≡ true → is_eq o ≡ false → is_lt (ordering_reverse o) ≡ true
@@ -72,8 +73,16 @@ turned Less h k = cc
 turned Equal h k = cc
 turned Greater h k = refl
 
-name-other : (k x : Known) → is_from k.realm x ≡ true → bytes_eq x.realm k.realm ≡ false → name_before k.realm x.realm ≡ true
-name-other k x past apart = rw (nat_list_cmp_total.antisymm k.realm x.realm) (turned (slice_cmp nat_cmp x.realm k.realm) past (is_eq-slice_cmp x.realm k.realm ∙ apart))
+-- of two names that are not the same, where the one does not come before the other, the other comes before it
+pub name-other : (a b : List ℕ) → not (name_before a b) ≡ true → bytes_eq a b ≡ false → name_before b a ≡ true
+name-other a b past apart = rw (nat_list_cmp_total.antisymm b a) (turned (slice_cmp nat_cmp a b) past (is_eq-slice_cmp a b ∙ apart))
+
+-- a name that comes before another is not the same
+pub name-apart : (a b : List ℕ) → name_before a b ≡ true → bytes_eq a b ≡ false
+name-apart a b h = elim (cases_Bool (bytes_eq a b)) [
+  | inl same ↦ cc (ap (λ (n : List ℕ). name_before n b) (same_text a b same), name_before-self b, h)
+  | inr apart ↦ apart
+]
 
 not_true : (b : Bool) → not b ≡ false → b ≡ true
 not_true true h = refl
@@ -104,7 +113,7 @@ rising-known k (x ∷ known) rising =
     elim (cases_Bool (is_from k.realm x)) [
       | inl past ↦ elim (cases_Bool (bytes_eq x.realm k.realm)) [
         | inl same ↦ simp (past, same, first) rest
-        | inr apart ↦ let over = name-other k x past apart in simp (past, apart, over, leads-less k.realm x.realm (names known) over first, first) rest
+        | inr apart ↦ let over = name-other x.realm k.realm past apart in simp (past, apart, over, leads-less k.realm x.realm (names known) over first, first) rest
       ]
       | inr before ↦ simp (before, leads-known x.realm k known (not_true (name_before x.realm k.realm) before) first) (rising-known k known rest)
     ]
@@ -127,7 +136,7 @@ find-known_own k (x ∷ known) rising =
     elim (cases_Bool (is_from k.realm x)) [
       | inl past ↦ elim (cases_Bool (bytes_eq x.realm k.realm)) [
         | inl same ↦ simp (past, same)
-        | inr apart ↦ simp (past, apart, bytes_eq-self k.realm, unknown-behind k.realm known (leads-less k.realm x.realm (names known) (name-other k x past apart) first))
+        | inr apart ↦ simp (past, apart, bytes_eq-self k.realm, unknown-behind k.realm known (leads-less k.realm x.realm (names known) (name-other x.realm k.realm past apart) first))
       ]
       | inr before ↦ elim (cases_Bool (bytes_eq x.realm k.realm)) [
         | inl same ↦ cc (ap (λ (n : List ℕ). name_before n k.realm) (same_text x.realm k.realm same), not_true (name_before x.realm k.realm) before, name_before-self k.realm)
@@ -177,6 +186,6 @@ pub Shows-known : (realm : List ℕ) (known : List Known) (rows : List Stored) (
 Shows-known realm known rows log good shown =
     let same : log_in (known_in (newly realm) known) rows ≡ with_known realm (log_in known rows) = λ i. record (log_in known rows) { epochs = λ r. epoch-known realm known r shown.kept.names i } in
     record {
-      kept = record { names = rising-known (newly realm) known shown.kept.names; realms = realms-known (newly realm) known good shown.kept.realms; rising = shown.kept.rising };
+      kept = record { names = rising-known (newly realm) known shown.kept.names; realms = realms-known (newly realm) known good shown.kept.realms; placed = shown.kept.placed };
       same = same ∙ ap (with_known realm) shown.same;
     }

@@ -1,10 +1,11 @@
 -- Rows in memory, seen as a log.
-use Rattle.std.specs.Prelude.{◌≡◌, ℕ, ℤ, pos, List, [], ◌∷◌, map, Bool, true, false, ◌&&◌, ◌==◌, not, if◌then◌else◌, Option, option_map, unwrap_or, find, is_some}
+use Rattle.std.specs.Prelude.{◌≡◌, ℕ, ℤ, pos, List, [], ◌∷◌, map, Bool, true, false, ◌&&◌, ◌==◌, not, if◌then◌else◌, Option, option_map, unwrap_or, find, is_some, slice_get}
 use Rattle.std.specs.List.{list_all}
+use Rattle.std.specs.Option.{option_map_or}
 use Rattle.std.specs.Str.{bytes_eq}
 use Rattle.tip_line.specs.Words.{is_realm}
-use Rattle.tip_rows.specs.Keys.{Key, is_same, comes_before}
-use Rattle.tip_rows.specs.Logs.{Log, row_at, is_rising, name_before, are_rising_names, last_epoch, raised_number}
+use Rattle.tip_rows.specs.Keys.{Key, comes_before}
+use Rattle.tip_rows.specs.Logs.{Log, row_at, is_here, name_before, are_rising_names, last_epoch, raised_number}
 use Rattle.tip_rows.specs.declared.row.Row.{Row}
 use Rattle.tip_rows.specs.declared.memory.Known.{Known}
 
@@ -31,11 +32,20 @@ part realm (s ∷ rows) = if bytes_eq s.realm realm then (s.key, s.row) ∷ part
 abbrev pub log_in : List Known → List Stored → Log
 log_in known rows = record { epochs = epoch_in known; rows = λ realm key. row_at key (part realm rows); unreadable = λ realm key. false; strays = λ realm. false }
 
--- the realms are in the order of their names, and each realm's rows in that of their keys
+-- the place of a key of a realm is before that of another: by the names of the realms, and within one by key
+abbrev pub place_before : List ℕ → Key → List ℕ → Key → Bool
+place_before realm key r k = if bytes_eq realm r then comes_before key k else name_before realm r
+
+-- each row stands before those behind it
+abbrev pub are_placed : List Stored → Bool
+are_placed [] = true
+are_placed (s ∷ rows) = list_all (λ t. place_before s.realm s.key t.realm t.key) rows && are_placed rows
+
+-- the realms are in the order of their names, and the rows in that of their places
 pub record IsKept (known : List Known) (rows : List Stored) : Type 0 where
   pub names : are_rising_names (map (λ k. k.realm) known) ≡ true
   pub realms : list_all is_realm (map (λ k. k.realm) known) ≡ true
-  pub rising : (realm : List ℕ) → is_rising (part realm rows) ≡ true
+  pub placed : are_placed rows ≡ true
 
 -- what is seen of rows in memory: the known realms, the rows, and how many calls were refused
 pub record Memory : Type 0 where
@@ -66,17 +76,34 @@ refusing_named realm is_refusing k = if is_named realm k then record k { is_refu
 abbrev pub is_at_end : Known → Bool
 is_at_end k = k.epoch == last_epoch
 
--- a row of the same realm whose key is not before this one's
-abbrev pub is_past : Stored → Stored → Bool
-is_past s x = bytes_eq x.realm s.realm && not (comes_before x.key s.key)
+-- a row stands before the place of a key of a realm
+abbrev pub is_before : List ℕ → Key → Stored → Bool
+is_before realm key s = place_before s.realm s.key realm key
+
+-- a row stands at that place
+abbrev pub is_at : List ℕ → Key → Stored → Bool
+is_at realm key s = is_here s.realm s.key realm key
+
+-- the row at this index stands at that place
+abbrev pub stands_at : List ℕ → Key → List Stored → ℕ → Bool
+stands_at realm key rows index = option_map_or (is_at realm key) (slice_get rows index) false
 
 -- the rows with one added, or replaced, where it belongs
 abbrev pub put_in : Stored → List Stored → List Stored
 put_in s [] = s ∷ []
-put_in s (x ∷ rows) = if is_past s x then (if is_same x.key s.key then s ∷ rows else s ∷ x ∷ rows) else x ∷ put_in s rows
+put_in s (x ∷ rows) = if is_before s.realm s.key x then x ∷ put_in s rows else if is_at s.realm s.key x then s ∷ rows else s ∷ x ∷ rows
 
+-- a row stands at another place
 abbrev pub is_other : List ℕ → Key → Stored → Bool
-is_other realm key s = not (bytes_eq s.realm realm && is_same s.key key)
+is_other realm key s = not (is_at realm key s)
+
+-- a row is one of this realm
+abbrev pub is_of : List ℕ → Stored → Bool
+is_of realm s = bytes_eq s.realm realm
+
+-- the name of a row's realm comes before this one
+abbrev pub is_of_earlier : List ℕ → Stored → Bool
+is_of_earlier realm s = name_before s.realm realm
 
 -- a known realm whose name does not come before this one
 abbrev pub is_from : List ℕ → Known → Bool

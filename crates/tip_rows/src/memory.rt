@@ -1,13 +1,12 @@
 //! Rows in memory.
-ghost use Rattle.std.specs.Prelude.{refl, ◌≡◌, ◌+◌, ◌%◌, ◌^◌, ◌∷◌, [], ℕ, List, true, false, map, filter, take, drop, length, option_map, unwrap_or, pos, Some, ◌↔◌, IsTrue, IfOk, IfErr, OnOk, OnErr, MatchResult};
+ghost use Rattle.std.specs.Prelude.{refl, ◌≡◌, ◌≤◌, length, ◌+◌, ◌%◌, ◌^◌, ◌∷◌, [], ℕ, List, true, false, map, filter, take, drop, option_map, unwrap_or, pos, Some, ◌↔◌, IsTrue, IfOk, IfErr, OnOk, OnErr, MatchResult};
 ghost use Rattle.std.specs.Prelude.{find};
 ghost use Rattle.std.specs.Option.{option_copied};
 ghost use Rattle.std.specs.List.{list_any, position};
-ghost use Rattle.std.specs.Str.{bytes_eq};
+ghost use Rattle.std.specs.List.Sorted.{IsPartitionPoint};
 ghost use Rattle.tip_line.specs.Words.{is_realm};
-ghost use Rattle.tip_rows.specs.Keys.{is_same};
 ghost use Rattle.tip_rows.specs.Logs.{Log, empty_log, counted, last_epoch, with_row, without_row, with_all_raised, with_raised, with_epoch, IsSpent, IsPart, AreNames};
-ghost use Rattle.tip_rows.specs.Memory.{IsDemanded, log_of, is_due_in, epoch_in, is_named, due_in, part, raised_known, raised_named, epoch_named, refusing_named, is_at_end, is_past, put_in, is_other, is_from, known_in};
+ghost use Rattle.tip_rows.specs.Memory.{IsDemanded, log_of, is_due_in, epoch_in, is_named, due_in, part, raised_known, raised_named, epoch_named, refusing_named, is_at_end, are_placed, is_before, stands_at, put_in, is_other, is_of, is_of_earlier, is_from, known_in};
 
 use crate::heap_row::HeapRow;
 use crate::key::Key;
@@ -15,6 +14,7 @@ use crate::log::{LoadFault, Loaded, RaiseFault, Refused, RowLog};
 use crate::medium::OwnMemory;
 use crate::row::Row;
 use std::alloc::{AllocError, Allocator, Global};
+use std::cmp::Ordering;
 use std::marker::Model;
 use tip_line::Realm;
 
@@ -49,7 +49,7 @@ pub struct MemRows<A: Allocator = Global> {
     alloc: Global,
     /// By name.
     known: Vec<Known, A>,
-    /// Those of a realm by key.
+    /// By the name of the realm, and those of a realm by key.
     rows: Vec<Stored<A>, A>,
     faults: u64,
 }
@@ -115,6 +115,7 @@ impl<A: Allocator> MemRows<A> {
     }
 
     /// What is stored of a realm, in a list on this heap; the lists of its rows are on `Global`.
+    #[tactic(auto, using(crate::proofs::OrderLemmas::rising_part))]
     pub fn load_in<B: Allocator>(&self, heap: B, realm: &Realm) -> Result<Loaded<B>, LoadFault>
         ensures part { IfOk result
             (λ loaded. IsPart (log_of self.now) realm.now loaded.epoch loaded.rows.items) }
@@ -404,6 +405,7 @@ fn put_copy<A: Allocator + Copy>(
     key: Key,
     row: &Row,
 ) -> Result<(), AllocError>
+    requires { are_placed rows.old.items ≡ true }
     ensures ok { OnOk result (rows.new.items
         ≡ put_in (record { realm = realm.now; key = key; row = row.now }) rows.old.items) }
     ensures err { OnErr result (rows.new.items ≡ rows.old.items) }
@@ -424,52 +426,87 @@ fn one_is_at_end(known: &[Known]) -> bool
     known.iter().any(|k| k.epoch == u32::MAX)
 }
 
-/// The first row of the same realm whose key is not before this one's.
-fn first_past<A: Allocator>(rows: &[Stored<A>], stored: &Stored<A>) -> Option<usize>
-    ensures { result ≡ position (is_past stored.now) rows.now }
-{
-    rows.iter().position(|row| is_past(stored, row))
-}
-
-/// Whether a row is of the same realm, and its key is not before this one's.
-fn is_past<A: Allocator>(stored: &Stored<A>, row: &Stored<A>) -> bool
-    ensures { result ≡ is_past stored.now row.now }
-{
-    row.realm == stored.realm && !row.key.comes_before(stored.key)
-}
-
 /// Adds or replaces a row.
 fn put_in<A: Allocator>(rows: &mut Vec<Stored<A>, A>, stored: Stored<A>) -> Result<(), AllocError>
+    requires { are_placed rows.old.items ≡ true }
     ensures ok { OnOk result (rows.new.items ≡ put_in stored rows.old.items) }
     ensures err { OnErr result (rows.new.items ≡ rows.old.items) }
 {
-    match first_past(rows, &stored) {
-        Some(place) if stands_at(&rows[place], stored.key) => rows[place] = stored,
-        Some(place) => rows.insert(place, stored)?,
-        None => rows.push(stored)?,
+    let index = place_of(rows, &stored.realm, stored.key);
+    if stands_at(rows, index, &stored.realm, stored.key) {
+        rows[index] = stored;
+    } else {
+        rows.insert(index, stored)?;
     }
     Ok(())
 }
 
-/// Whether a row stands at a key of its realm.
-fn stands_at<A: Allocator>(row: &Stored<A>, key: Key) -> bool
-    ensures { result ≡ is_same row.now.key key }
-{
-    row.key == key
-}
-
 /// Removes a row.
 fn remove_from<A: Allocator>(rows: &mut Vec<Stored<A>, A>, realm: &Realm, key: Key)
+    requires { are_placed rows.old.items ≡ true }
     ensures { rows.new.items ≡ filter (is_other realm.now key) rows.old.items }
 {
-    rows.retain(|row| !(row.realm == *realm && row.key == key));
+    let index = place_of(rows, realm, key);
+    if stands_at(rows, index, realm, key) {
+        rows.remove(index);
+    }
+}
+
+/// Where a key of a realm has its place among rows, found by halves.
+fn place_of<A: Allocator>(rows: &[Stored<A>], realm: &Realm, key: Key) -> usize
+    requires { are_placed rows.now ≡ true }
+    ensures within { result ≤ length rows.now }
+    ensures between { IsPartitionPoint
+        (λ row. is_before realm.now key row ≡ true) (λ row. is_before realm.now key row ≡ false)
+        rows.now result }
+{
+    rows.partition_point(|row| is_before(row, realm, key))
+}
+
+/// Whether a row stands before the place of a key of a realm.
+fn is_before<A: Allocator>(stored: &Stored<A>, realm: &Realm, key: Key) -> bool
+    ensures { result ≡ is_before realm.now key stored.now }
+{
+    match stored.realm.as_str().cmp(realm.as_str()) {
+        Ordering::Less => true,
+        Ordering::Equal => stored.key.comes_before(key),
+        Ordering::Greater => false,
+    }
+}
+
+/// Whether the row at this index is that of a key of a realm.
+fn stands_at<A: Allocator>(rows: &[Stored<A>], index: usize, realm: &Realm, key: Key) -> bool
+    ensures { result ≡ stands_at realm.now key rows.now index }
+{
+    match rows.get(index) {
+        Some(row) => row.realm == *realm && row.key == key,
+        None => false,
+    }
+}
+
+/// The rows of a realm, whose first and last are found by halves.
+fn run_of<'a, A: Allocator>(rows: &'a [Stored<A>], realm: &Realm) -> &'a [Stored<A>]
+    requires { are_placed rows.now ≡ true }
+    ensures { result.now ≡ filter (is_of realm.now) rows.now }
+{
+    let start = rows.partition_point(|row| is_of_earlier(row, realm));
+    let rest = &rows[start..];
+    let len = rest.partition_point(|row| is_of(row, realm));
+    &rest[..len]
 }
 
 /// Whether a row is of this realm.
 fn is_of<A: Allocator>(stored: &Stored<A>, realm: &Realm) -> bool
-    ensures { result ≡ bytes_eq stored.now.realm realm.now }
+    ensures { result ≡ is_of realm.now stored.now }
 {
     stored.realm == *realm
+}
+
+/// Whether a row is of a realm whose name comes before this one.
+fn is_of_earlier<A: Allocator>(stored: &Stored<A>, realm: &Realm) -> bool
+    ensures { result ≡ is_of_earlier realm.now stored.now }
+{
+    stored.realm.as_str().cmp(realm.as_str()).is_lt()
 }
 
 /// The rows of a realm, in order.
@@ -479,13 +516,13 @@ fn part_of<A: Allocator, B: Allocator>(
     rows: &[Stored<A>],
     realm: &Realm,
 ) -> Result<Vec<(Key, Row), B>, AllocError>
+    requires { are_placed rows.now ≡ true }
     ensures { IfOk result (λ entries. entries.items ≡ part realm.now rows.now) }
 {
-    let mut entries = Vec::new(heap);
-    for stored in rows {
-        if is_of(stored, realm) {
-            entries.push(entry_of(alloc, stored)?)?;
-        }
+    let own = run_of(rows, realm);
+    let mut entries = Vec::with_capacity(heap, own.len())?;
+    for stored in own {
+        entries.push_reserved(entry_of(alloc, stored)?);
     }
     Ok(entries)
 }

@@ -1,14 +1,11 @@
-use Rattle.std.proofs.Common.{arith}
-use Rattle.tip_rows.proofs.PartLemmas.{part_own, part_other}
+use Rattle.std.proofs.Common.{◌∙◌, ap, arith, map}
+use Rattle.std.proofs.lemmas.List.{take_all}
+use Rattle.tip_rows.specs.Memory.{Stored}
+use Rattle.tip_rows.proofs.PartLemmas.{part-of}
 use Rattle.tip_rows.proofs.memory.part_of.Goals as goal
-use Rattle.tip_rows.proofs.memory.part_of.Goals.{then-is_of+in_ok-entry_of+in_ok-push, else-is_of}
 
-pub loop-stored-preserved : goal.loop-stored-preserved
-loop-stored-preserved g c =
-    let realm = c.args.realm.now in
-    let rows = c.args.rows.now in
-    let i = c.loop-stored.stored-index in
-    elim c.if-is_of.branch [
-      | then-is_of+in_ok-entry_of+in_ok-push w ↦ rw (w.entries-is, w.in_ok-push.ensures.items, w.in_ok-entry_of.ensures, part_own realm rows i c.stored-item.result (omega arith) c.stored-item.is w.if-is_of.ensures, c.loop-stored.invariant)
-      | else-is_of w ↦ rw (w.entries-is, part_other realm rows i c.stored-item.result (omega arith) c.stored-item.is w.if-is_of.ensures, c.loop-stored.invariant)
-    ]
+pub returns : goal.returns
+returns g c =
+    c.loop-stored.invariant.so_far
+    ∙ ap (map (λ (s : Stored). (s.key, s.row))) (take_all c.loop-stored.stored-index c.run_of-own.result.now (omega (arith, c.loop-stored-test.false)) ∙ c.run_of-own.ensures)
+    ∙ part-of c.args.realm.now c.args.rows.now

@@ -1,30 +1,20 @@
-use Rattle.std.proofs.Common.{◌≡◌, true, false, ◌∙◌, sym, get_or, Some, None, position}
-use Rattle.std.proofs.lemmas.List.Quantifiers.{position-Some}
-use Rattle.tip_rows.specs.Keys.{is_same}
-use Rattle.tip_rows.specs.Memory.{is_past}
-use Rattle.tip_rows.proofs.PartLemmas.{put_over, put_before, put_at_end, position-None}
+use Rattle.std.proofs.Common.{◌≡◌, ◌∙◌, true, false, sym}
+use Rattle.tip_rows.specs.Memory.{stands_at}
+use Rattle.tip_rows.proofs.PlaceLemmas.{put_new, put_over}
 use Rattle.tip_rows.proofs.memory.put_in.Goals as goal
 
-pub returns-in-Some-clause-ok : goal.returns-in-Some-clause-ok
-returns-in-Some-clause-ok g c =
+pub returns-then-stands_at-clause-ok : goal.returns-then-stands_at-clause-ok
+returns-then-stands_at-clause-ok g c =
+    let s = c.args.stored in
     let rows = c.args.rows.now.items in
-    let d = c.index.result.now in
-    let at : position (is_past c.args.stored) rows ≡ Some c.in-Some.place = rw (← c.deref.ensures.value) (sym c.in-Some.ensures) in
-    let found = position-Some (is_past c.args.stored) rows c.in-Some.place d at in
-    let same : is_same (get_or rows c.in-Some.place d).key c.args.stored.key ≡ true = rw (← c.index.ensures, ← c.stored.view_is) (sym c.stands_at.ensures ∙ c.if-stands_at.true) in
-    put_over c.args.stored d rows c.in-Some.place found.0 found.1 found.2 same
+    let index = c.place_of-index.result in
+    let at : stands_at s.realm s.key rows index ≡ true = rw (← c.deref-2.ensures.value, ← c.stored.view_is) (sym c.stands_at.ensures ∙ c.if-stands_at.true) in
+    put_over s rows index (rw (← c.deref.ensures.value, ← c.stored.view_is) c.place_of-index.ensures.between.0) at
 
-pub returns-in_ok-insert-in-Some-2-clause-ok : goal.returns-in_ok-insert-in-Some-2-clause-ok
-returns-in_ok-insert-in-Some-2-clause-ok g c =
+pub returns-in_ok-insert-clause-ok : goal.returns-in_ok-insert-clause-ok
+returns-in_ok-insert-clause-ok g c =
+    let s = c.args.stored in
     let rows = c.args.rows.now.items in
-    let d = c.index.result.now in
-    let at : position (is_past c.args.stored) rows ≡ Some c.in-Some.place = rw (← c.deref.ensures.value) (sym c.in-Some.ensures) in
-    let found = position-Some (is_past c.args.stored) rows c.in-Some.place d at in
-    let same : is_same (get_or rows c.in-Some.place d).key c.args.stored.key ≡ false = rw (← c.index.ensures, ← c.stored.view_is) (sym c.stands_at.ensures ∙ c.if-stands_at.false) in
-    rw c.in_ok-insert-in-Some-2.ensures.items (put_before c.args.stored d rows c.in-Some.place found.0 found.1 found.2 same)
-
-pub returns-in_ok-push-in-None-clause-ok : goal.returns-in_ok-push-in-None-clause-ok
-returns-in_ok-push-in-None-clause-ok g c =
-    let rows = c.args.rows.now.items in
-    let at : position (is_past c.args.stored) rows ≡ None = rw (← c.deref.ensures.value) (sym c.in-None.ensures) in
-    rw c.in_ok-push-in-None.ensures.items (put_at_end c.args.stored c.args.stored rows (position-None (is_past c.args.stored) rows c.args.stored at))
+    let index = c.place_of-index.result in
+    let at : stands_at s.realm s.key rows index ≡ false = rw (← c.deref-2.ensures.value, ← c.stored.view_is) (sym c.stands_at.ensures ∙ c.if-stands_at.false) in
+    c.in_ok-insert.ensures.items ∙ put_new s rows index (rw (← c.deref.ensures.value, ← c.stored.view_is) c.place_of-index.ensures.between) (rw (← c.deref.ensures.value) c.place_of-index.ensures.within) at
