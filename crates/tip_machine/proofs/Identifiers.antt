@@ -9,7 +9,7 @@ use Rattle.tip_branch.specs.declared.branch.Badge.{Badge}
 use Rattle.tip_line.specs.declared.refusal.Refusal.TheVariants.{Full}
 use Rattle.tip_rows.specs.Keys.{Key, is_same}
 use Rattle.tip_rows.proofs.OrderLemmas.{same_key}
-use Rattle.tip_table.specs.Lists.{changed, without}
+use Rattle.tip_table.specs.Lists.{are_rising, changed, without}
 use Rattle.tip_machine.specs.Types.{Connection, Event, PartyPlace, Transaction}
 use Rattle.tip_machine.specs.Connections.{accepted, dialled, has_number}
 use Rattle.tip_machine.specs.Transactions.{begun, has_key, next_key, standing_at}
@@ -19,7 +19,7 @@ use Rattle.tip_machine.specs.Commands.{make, making}
 use Rattle.tip_machine.specs.Order.{ordered}
 use Rattle.tip_machine.specs.Reactions.{Reaction, react, reacted}
 use Rattle.tip_machine.specs.Requests.{added, dial, hand_back, opened}
-use Rattle.tip_machine.specs.Given.{are_numbered, are_rising, is_to_make, numbers_of, was_given}
+use Rattle.tip_machine.specs.Given.{are_numbered, is_to_make, numbers_of, was_given}
 use Rattle.tip_machine.specs.Steps.{attempt, chosen, entered, frozen, is_open, step}
 use Rattle.tip_machine.specs.declared.connection.Purpose.{Purpose}
 use Rattle.tip_machine.specs.declared.event.Outcome.{Outcome}

@@ -1,15 +1,16 @@
 -- Numbers of connections that rise in the order made.
-use Rattle.std.proofs.Common.{◌≡◌, ◌<◌, Bool, true, false, ℕ, List, [], ◌∷◌, ◌++◌, Some, cond, refl, ap, arith, sym, subst, ◌∙◌}
+use Rattle.std.proofs.Common.{◌≡◌, ◌<◌, ◌+◌, Bool, true, false, ℕ, List, [], ◌∷◌, ◌++◌, Some, cond, refl, ap, arith, sym, subst, ◌∙◌}
 use Rattle.std.specs.Prelude.{◌==◌, nat_lt, find, map}
 use Rattle.std.specs.List.{list_all, list_any}
 use Rattle.std.proofs.lemmas.Bool.{and_from, and_left, and_parts, or_from}
 use Rattle.std.proofs.lemmas.Bool.Decides.{nat_tests}
 use Rattle.std.proofs.lemmas.Option.{same_Some, none-some}
 use Rattle.tip_rows.specs.Keys.{Key}
-use Rattle.tip_table.specs.Lists.{changed, without}
+use Rattle.tip_table.specs.Lists.{are_rising, changed, without}
 use Rattle.tip_machine.specs.Types.{Connection}
 use Rattle.tip_machine.specs.Connections.{has_number}
-use Rattle.tip_machine.specs.Given.{are_rising, is_to_make, numbers_of}
+use Rattle.tip_machine.specs.Given.{are_numbered, is_to_make, numbers_of}
+use Rattle.tip_machine.specs.States.{State}
 
 -- Numbers that stay
 
@@ -77,6 +78,19 @@ rising-more last next (n ∷ numbers) less rising = let parts = and_parts _ _ ri
 
 pub rising-added : (last next : ℕ) (cs : List Connection) (c : Connection) → c.number ≡ last → last < next → are_rising (numbers_of cs ++ last ∷ []) ≡ true → are_rising (numbers_of (cs ++ c ∷ []) ++ next ∷ []) ≡ true
 rising-added last next cs c same less rising = rw (numbers-added cs c, same) (rising-more last next (numbers_of cs) less rising)
+
+-- Those of the connections themselves
+
+all-front : (least : ℕ) (numbers more : List ℕ) → list_all (nat_lt least) (numbers ++ more) ≡ true → list_all (nat_lt least) numbers ≡ true
+all-front least [] more all = refl
+all-front least (n ∷ numbers) more all = let parts = and_parts _ _ all in and_from _ _ parts.0 (all-front least numbers more parts.1)
+
+rising-front : (numbers more : List ℕ) → are_rising (numbers ++ more) ≡ true → are_rising numbers ≡ true
+rising-front [] more rising = refl
+rising-front (n ∷ numbers) more rising = let parts = and_parts _ _ rising in and_from _ _ (all-front n numbers more parts.0) (rising-front numbers more parts.1)
+
+pub numbers_rise : (state : State) → are_numbered state ≡ true → are_rising (numbers_of state.connections) ≡ true
+numbers_rise state numbered = rising-front (numbers_of state.connections) ((state.head.given + 1) ∷ []) numbered
 
 -- One change after another
 

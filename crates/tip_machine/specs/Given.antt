@@ -1,14 +1,11 @@
 -- What a realm has given: numbers to connections, and keys to transactions (ours). It computes.
-use Rattle.std.specs.Prelude.{ℕ, ◌+◌, ◌==◌, ◌&&◌, ◌||◌, not, nat_le, nat_lt, Bool, true, List, [], ◌∷◌, ◌++◌, map}
-use Rattle.std.specs.List.{list_all, list_any}
+use Rattle.std.specs.Prelude.{ℕ, ◌+◌, ◌==◌, ◌&&◌, ◌||◌, not, nat_le, nat_lt, Bool, List, [], ◌∷◌, ◌++◌, map}
+use Rattle.std.specs.List.{list_any}
 use Rattle.tip_rows.specs.Keys.{Key}
+use Rattle.tip_table.specs.Lists.{are_rising}
 use Rattle.tip_machine.specs.Types.{Connection}
 use Rattle.tip_machine.specs.Connections.{has_number}
 use Rattle.tip_machine.specs.States.{State}
-
-abbrev pub are_rising : List ℕ → Bool
-are_rising [] = true
-are_rising (number ∷ numbers) = list_all (nat_lt number) numbers && are_rising numbers
 
 abbrev pub numbers_of : List Connection → List ℕ
 numbers_of connections = map (λ connection. connection.number) connections

@@ -12,5 +12,7 @@ mod turns;
 pub use noting::{Awaits, Note, ends, exists_of, pulled_of, version_of};
 pub use others::{Others, is_yes, refuses};
 pub use outlook::{Outlook, is_spent};
-pub use query::{Keyed, Known, Named, Numbered, OnKey, PartOf, SuperiorOf, asks_for, is_on};
+pub use query::{
+    ByNumber, Keyed, Known, Named, Numbered, OnKey, PartOf, SuperiorOf, asks_for, is_on,
+};
 pub use turns::Turns;

@@ -9,7 +9,7 @@ ghost use Rattle.tip_outlook.specs.Searches.{is_keyed, is_named, is_pushed};
 use tip_line::{Address, Id, IdParts, Realm};
 use tip_machine::{Connection, Origin, Role, Transaction};
 use tip_rows::Key;
-use tip_table::Test;
+use tip_table::{Rank, Test};
 use tip_txn::{Part, Phase};
 
 /// The connection of a number.
@@ -23,6 +23,18 @@ impl Test<Connection> for Numbered {
 
     fn passes(&self, connection: &Connection) -> bool {
         connection.number == self.number
+    }
+}
+
+/// Connections by their numbers, which rise.
+#[derive(Clone, Copy, Debug)]
+pub struct ByNumber;
+
+impl Rank<Connection> for ByNumber {
+    ghost rank = { λ _ connection. connection.number };
+
+    fn rank(&self, connection: &Connection) -> u64 {
+        connection.number as u64
     }
 }
 

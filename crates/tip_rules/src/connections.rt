@@ -1,15 +1,17 @@
 //! Connections of the realm at hand: how they are found, how they go on, and what their failure means.
-ghost use Rattle.std.specs.Prelude.{◌≡◌, ◌≤◌, ◌<◌, ◌+◌, Some, length, option_map};
-ghost use Rattle.std.specs.List.{filter};
-ghost use Rattle.tip_table.specs.Kept.{StandsAt};
+ghost use Rattle.std.specs.Prelude.{◌≡◌, ◌↔◌, ◌≤◌, ◌<◌, ◌+◌, true, None, Some, IfSome, length, option_map};
+ghost use Rattle.std.specs.List.{filter, find};
+ghost use Rattle.tip_table.specs.Kept.{StandsAt, of};
 ghost use Rattle.tip_machine.specs.Changes.{change, reply, send};
 ghost use Rattle.tip_machine.specs.Connections.{advanced, awaiting, has_number, identified, is_on, owing, taking};
 ghost use Rattle.tip_machine.specs.Failing.{closed, fail, gone, wrong};
+ghost use Rattle.tip_machine.specs.Given.{are_numbered};
 ghost use Rattle.tip_machine.specs.States.{connection_of};
 ghost use Rattle.tip_machine.specs.Types.{Connection as AConnection};
 ghost use Rattle.tip_rules.specs.Works.{Does, IsIdle, lines_for, work_of};
 
 use crate::making::Making;
+use crate::opening::place_of;
 use crate::work::Work;
 use tip_line::{Address, CommandName, ResponseName};
 use tip_machine::{Asked, Awaited, Connection, Item, Role, Said, Transaction};
@@ -22,6 +24,17 @@ impl Work<Connection, Transaction, Making> {
         ensures { connection_of number (work_of self.now).state ≡ Some result.now }
     {
         self.connections.item(place)
+    }
+
+    /// Where the connection of a number stands, if it is there.
+    pub(crate) fn connection_at(&self, number: u32) -> Option<usize>
+        requires { are_numbered (work_of self.now).state ≡ true }
+        ensures none { (result ≡ None) ↔
+            (find (has_number number) (of self.now.connections self.now.realm) ≡ None) }
+        ensures some { IfSome result
+            (λ place. StandsAt self.now.connections self.now.realm (has_number number) place) }
+    {
+        place_of(&self.connections, self.realm, number)
     }
 
     /// A connection goes on by the connection table, now that this command was answered so.

@@ -3,6 +3,7 @@ ghost use Rattle.std.specs.Prelude.{if◌then◌else◌, ◌≡◌, ◌+◌, ◌
 ghost use Rattle.std.specs.Option.{option_and_then, option_copied};
 ghost use Rattle.tip_table.specs.Kept.{of};
 ghost use Rattle.tip_machine.specs.Counts.{HasCounts};
+ghost use Rattle.tip_machine.specs.Given.{are_numbered};
 ghost use Rattle.tip_machine.specs.Steps.{is_open, wants};
 ghost use Rattle.tip_machine.specs.Requests.{owner};
 ghost use Rattle.tip_machine.specs.States.{connection_of, identified_by};
@@ -20,7 +21,7 @@ use std::alloc::{AllocError, Global};
 use tip_branch::HeldParty;
 use tip_line::{Address, Command, Id};
 use tip_machine::{Awaited, Change, Connection, Event, Heard, Origin, Purpose, Role, Transaction};
-use tip_outlook::{Numbered, OnKey};
+use tip_outlook::OnKey;
 use tip_rows::Key;
 
 impl Work<Connection, Transaction, Making> {
@@ -90,7 +91,8 @@ impl Work<Connection, Transaction, Making> {
     /// The change of its row that the event wants: none in a realm that takes no entry.
     #[tactic(auto, using(crate::proofs::Foreseeing::wanting))]
     fn wants(&self, alloc: Global, event: &Event) -> Result<Option<Change>, AllocError>
-        requires { self.now.realm < length self.now.heads.items }
+        requires here { self.now.realm < length self.now.heads.items }
+        requires numbered { are_numbered (work_of self.now).state ≡ true }
         ensures { IfOk result (λ change. change ≡ wants (work_of self.now).state event.now) }
     {
         if self.is_open() {
@@ -118,7 +120,7 @@ impl Work<Connection, Transaction, Making> {
         let Some(number) = begins_on(event) else {
             return Ok(None);
         };
-        let Some(place) = self.connections.find(self.realm, &Numbered { number }) else {
+        let Some(place) = self.connection_at(number) else {
             return Ok(None);
         };
         let connection = self.connection(number, place);
@@ -131,7 +133,8 @@ impl Work<Connection, Transaction, Making> {
 
     /// Copies of words, for what may be made of them.
     fn words_needed(&self, event: &Event) -> Result<Words, AllocError>
-        requires { self.now.realm < length self.now.heads.items }
+        requires here { self.now.realm < length self.now.heads.items }
+        requires numbered { are_numbered (work_of self.now).state ≡ true }
         ensures peer { IfOk result
             (λ words. words.peer ≡ peer_needed event.now (work_of self.now).state) }
         ensures ours { IfOk result
@@ -148,7 +151,8 @@ impl Work<Connection, Transaction, Making> {
 
     /// The identifier that goes into a question.
     fn word_needed(&self, event: &Event) -> Result<Option<Id>, AllocError>
-        requires { self.now.realm < length self.now.heads.items }
+        requires here { self.now.realm < length self.now.heads.items }
+        requires numbered { are_numbered (work_of self.now).state ≡ true }
         ensures { IfOk result (λ word. word ≡ word_needed event.now (work_of self.now).state) }
     {
         match event {
@@ -167,10 +171,11 @@ impl Work<Connection, Transaction, Making> {
     /// The identifier that is said once the connection of a number is identified, if it was opened to say one.
     #[tactic(auto, using(crate::proofs::Purposes::wording))]
     fn word_at(&self, number: u32) -> Result<Option<Id>, AllocError>
-        requires { self.now.realm < length self.now.heads.items }
+        requires here { self.now.realm < length self.now.heads.items }
+        requires numbered { are_numbered (work_of self.now).state ≡ true }
         ensures { IfOk result (λ word. word ≡ word_at number (work_of self.now).state) }
     {
-        match self.connections.find(self.realm, &Numbered { number }) {
+        match self.connection_at(number) {
             Some(place) => self.word_awaited(&self.connections.item(place).awaited),
             None => Ok(None),
         }
@@ -236,6 +241,7 @@ impl Work<Connection, Transaction, Making> {
 
     /// Where the other side of the event's connection is, for what may be made of it.
     fn peer_needed(&self, event: &Event) -> Result<Option<Address>, AllocError>
+        requires numbered { are_numbered (work_of self.now).state ≡ true }
         ensures { IfOk result (λ peer. peer ≡ peer_needed event.now (work_of self.now).state) }
     {
         match event {
@@ -258,9 +264,10 @@ impl Work<Connection, Transaction, Making> {
     /// Where the other side of the connection of a number is.
     #[tactic(auto, using(crate::proofs::Needing::peering))]
     fn peer_of(&self, number: u32) -> Result<Option<Address>, AllocError>
+        requires numbered { are_numbered (work_of self.now).state ≡ true }
         ensures { IfOk result (λ peer. peer ≡ peer_of number (work_of self.now).state) }
     {
-        match self.connections.find(self.realm, &Numbered { number }) {
+        match self.connection_at(number) {
             Some(place) => copy_of(&self.connections.item(place).peer),
             None => Ok(None),
         }
@@ -269,7 +276,8 @@ impl Work<Connection, Transaction, Making> {
     /// How many lines and closings the answer may need: one for each connection on the transaction, and two on the event's own.
     /// An error is that no memory has room for so many.
     fn lines_needed(&self, event: &Event) -> Result<usize, AllocError>
-        requires { self.now.realm < length self.now.heads.items }
+        requires here { self.now.realm < length self.now.heads.items }
+        requires numbered { are_numbered (work_of self.now).state ≡ true }
         ensures { IfOk result (λ lines. lines ≡ lines_needed event.now (work_of self.now).state) }
     {
         match event {
@@ -285,6 +293,7 @@ impl Work<Connection, Transaction, Making> {
     /// How many lines and closings the answer to a line on the connection of a number may need: the transaction that it asks for
     /// may be another than its own.
     fn lines_of_line(&self, number: u32) -> Result<usize, AllocError>
+        requires numbered { are_numbered (work_of self.now).state ≡ true }
         ensures { IfOk result (λ lines. lines ≡ lines_at number (work_of self.now).state
             + (lines_queried number (work_of self.now).state + 2)) }
     {
@@ -294,6 +303,7 @@ impl Work<Connection, Transaction, Making> {
 
     /// How many connections are on the transaction that the connection of a number asks for.
     fn lines_queried(&self, number: u32) -> usize
+        requires numbered { are_numbered (work_of self.now).state ≡ true }
         ensures { result ≡ lines_queried number (work_of self.now).state }
     {
         match self.queried(number) {
@@ -305,10 +315,11 @@ impl Work<Connection, Transaction, Making> {
     /// The transaction that the connection of a number asks for.
     #[tactic(auto, using(crate::proofs::Needing::asking))]
     fn queried(&self, number: u32) -> Option<Key>
+        requires numbered { are_numbered (work_of self.now).state ≡ true }
         ensures { result ≡ option_and_then (λ connection. key_queried connection.awaited)
             (connection_of number (work_of self.now).state) }
     {
-        let place = self.connections.find(self.realm, &Numbered { number })?;
+        let place = self.connection_at(number)?;
         key_queried(&self.connections.item(place).awaited)
     }
 
@@ -327,9 +338,10 @@ impl Work<Connection, Transaction, Making> {
 
     /// How many connections are on the transaction that the connection of a number is on.
     fn lines_at(&self, number: u32) -> usize
+        requires numbered { are_numbered (work_of self.now).state ≡ true }
         ensures { result ≡ lines_at number (work_of self.now).state }
     {
-        match self.connections.find(self.realm, &Numbered { number }) {
+        match self.connection_at(number) {
             Some(place) => self.lines_as(self.connections.item(place).role),
             None => 0,
         }

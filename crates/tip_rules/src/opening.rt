@@ -1,8 +1,11 @@
 //! Entries, seats and new connections of the realm at hand.
 ghost use Rattle.std.specs.Prelude.{◌≡◌, ◌↔◌, ◌+◌, ◌<◌, ◌≤◌, length, None, Some, IfSome, true};
-ghost use Rattle.tip_table.specs.Kept.{StandsAt};
+ghost use Rattle.std.specs.List.{find};
+ghost use Rattle.tip_table.specs.Kept.{StandsAt, of};
+ghost use Rattle.tip_table.specs.Lists.{are_rising};
 ghost use Rattle.tip_machine.specs.Answers.{silence};
 ghost use Rattle.tip_machine.specs.Connections.{has_number};
+ghost use Rattle.tip_machine.specs.Given.{are_numbered, numbers_of};
 ghost use Rattle.tip_line.specs.declared.refusal.Refusal.TheVariants.{Full};
 ghost use Rattle.tip_machine.specs.Changes.{refuse};
 ghost use Rattle.tip_machine.specs.Requests.{hand_back, lost, opened};
@@ -15,7 +18,7 @@ use crate::work::Work;
 use tip_branch::HeldFresh;
 use tip_line::Refusal;
 use tip_machine::{Connection, Head, Seat, Transaction};
-use tip_outlook::Numbered;
+use tip_outlook::ByNumber;
 use tip_table::Table;
 
 impl Work<Connection, Transaction, Making> {
@@ -47,7 +50,8 @@ impl Work<Connection, Transaction, Making> {
 
     /// Where the connection of a seat stands, if the realm has it.
     pub(crate) fn seated(&self, seat: Seat) -> Option<usize>
-        requires { self.now.realm < length self.now.heads.items }
+        requires here { self.now.realm < length self.now.heads.items }
+        requires numbered { are_numbered (work_of self.now).state ≡ true }
         ensures none { (result ≡ None) ↔ (seated seat (work_of self.now).state ≡ None) }
         ensures some { IfSome result
             (λ place. StandsAt self.now.connections self.now.realm (has_number seat.number) place) }
@@ -61,6 +65,7 @@ impl Work<Connection, Transaction, Making> {
     #[tactic(auto, using(crate::proofs::Openings::losing))]
     pub fn lost(&mut self, seat: Seat)
         requires here { self.old.realm < length self.old.heads.items }
+        requires numbered { are_numbered (work_of self.old).state ≡ true }
         requires lines { lines_at seat.number (work_of self.old).state ≤ self.old.making.free }
         requires none { IsIdle self.old.making.answer }
         ensures { Does self.old self.new
@@ -155,6 +160,7 @@ pub(crate) fn seat_place(
     realm: usize,
     seat: Seat,
 ) -> Option<usize>
+    requires { are_rising (numbers_of (of connections.now realm)) ≡ true }
     ensures none { (result ≡ None) ↔
         (seated seat (connected head.now connections.now realm) ≡ None) }
     ensures some { IfSome result
@@ -165,6 +171,16 @@ pub(crate) fn seat_place(
     if seat.epoch != head.epoch {
         return None;
     }
-    let number = seat.number;
-    connections.find(realm, &Numbered { number })
+    place_of(connections, realm, seat.number)
+}
+
+/// Where the connection of a number stands, if the realm has it.
+pub(crate) fn place_of(connections: &Table<Connection>, realm: usize, number: u32) -> Option<usize>
+    requires { are_rising (numbers_of (of connections.now realm)) ≡ true }
+    ensures none { (result ≡ None) ↔
+        (find (has_number number) (of connections.now realm) ≡ None) }
+    ensures some { IfSome result
+        (λ place. StandsAt connections.now realm (has_number number) place) }
+{
+    connections.find_ranked(realm, &ByNumber, number as u64)
 }

@@ -62,7 +62,8 @@ impl Realms<Connection, Transaction> {
     /// Whether a line of this seat may be taken.
     #[tactic(auto, using(crate::proofs::Lending::seating))]
     pub fn may_take(&self, realm: usize, seat: Seat) -> bool
-        requires { realm < length self.now.heads.items }
+        requires here { realm < length self.now.heads.items }
+        requires counts { HasCounts (state_in realm self.now) }
         ensures { result ≡ may_take_on (seated seat (state_in realm self.now)) }
     {
         match seat_place(&self.heads[realm], &self.connections, realm, seat) {
@@ -74,7 +75,8 @@ impl Realms<Connection, Transaction> {
     /// Whether a line of this seat must wait.
     #[tactic(auto, using(crate::proofs::Lending::waiting))]
     pub fn must_wait(&self, realm: usize, seat: Seat) -> bool
-        requires { realm < length self.now.heads.items }
+        requires here { realm < length self.now.heads.items }
+        requires counts { HasCounts (state_in realm self.now) }
         ensures { result ≡ must_wait_on (seated seat (state_in realm self.now)) }
     {
         match seat_place(&self.heads[realm], &self.connections, realm, seat) {
@@ -86,7 +88,8 @@ impl Realms<Connection, Transaction> {
     /// How the connection of a seat stands.
     #[tactic(auto, using(crate::proofs::Lending::standing))]
     pub fn standing(&self, realm: usize, seat: Seat) -> Standing
-        requires { realm < length self.now.heads.items }
+        requires here { realm < length self.now.heads.items }
+        requires counts { HasCounts (state_in realm self.now) }
         ensures { result ≡ standing_on (seated seat (state_in realm self.now)) }
     {
         match seat_place(&self.heads[realm], &self.connections, realm, seat) {

@@ -2,6 +2,7 @@
 ghost use Rattle.std.specs.Prelude.{◌≡◌, ◌<◌, find, length, Some, true};
 ghost use Rattle.tip_table.specs.Kept.{StandsAt, of};
 ghost use Rattle.tip_machine.specs.Connections.{has_number, is_free};
+ghost use Rattle.tip_machine.specs.Given.{are_numbered};
 ghost use Rattle.tip_machine.specs.Requests.{ask_pull, ask_push, pull_if, pull_new, push_part};
 ghost use Rattle.tip_machine.specs.States.{connection_of, identified_by, seated};
 ghost use Rattle.tip_machine.specs.Transactions.{is_known};
@@ -21,6 +22,7 @@ impl Work<Connection, Transaction, Making> {
     #[tactic(auto, using(crate::proofs::Requests::asking_push))]
     pub(crate) fn ask_push(&mut self, seat: Seat, id: &Id)
         requires here { self.old.realm < length self.old.heads.items }
+        requires numbered { are_numbered (work_of self.old).state ≡ true }
         requires peer { self.old.making.peer ≡ peer_of seat.number (work_of self.old).state }
         requires part { CanGrow (work_of self.old).state.head.name id.now
             (of self.old.transactions self.old.realm) }
@@ -62,6 +64,7 @@ impl Work<Connection, Transaction, Making> {
     #[tactic(auto, using(crate::proofs::Requests::asking_pull))]
     pub(crate) fn ask_pull(&mut self, seat: Seat, superior: Id)
         requires here { self.old.realm < length self.old.heads.items }
+        requires numbered { are_numbered (work_of self.old).state ≡ true }
         requires able { MayMake seat.number self.old }
         requires peer { self.old.making.peer ≡ peer_of seat.number (work_of self.old).state }
         requires word { self.old.making.word ≡ Some superior }

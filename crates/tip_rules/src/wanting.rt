@@ -1,5 +1,5 @@
 //! The change of its row that an event wants, by reading alone, so that its outcome can be had before the event happens.
-ghost use Rattle.std.specs.Prelude.{◌≡◌, ◌<◌, ◌&&◌, false, not, Some, length, IfOk};
+ghost use Rattle.std.specs.Prelude.{◌≡◌, ◌<◌, ◌&&◌, true, false, not, Some, length, IfOk};
 ghost use Rattle.std.specs.List.{list_any};
 ghost use Rattle.std.specs.Option.{option_and_then, option_map_or};
 ghost use Rattle.tip_branch.specs.Notes.{PartyNotes};
@@ -12,6 +12,7 @@ ghost use Rattle.tip_machine.specs.Connections.{advanced, is_idle, is_superior_o
 ghost use Rattle.tip_table.specs.Kept.{StandsAt};
 ghost use Rattle.tip_txn.specs.Parts.{answered};
 ghost use Rattle.tip_machine.specs.Proceeding.{owed_to_superior};
+ghost use Rattle.tip_machine.specs.Given.{are_numbered};
 ghost use Rattle.tip_machine.specs.States.{connection_of, seated, transaction_of};
 ghost use Rattle.tip_machine.specs.Transactions.{noting, standing_at};
 ghost use Rattle.tip_machine.specs.Types.{seen, Transaction as ATransaction};
@@ -39,7 +40,8 @@ use tip_txn::{Ballot, Part, Phase};
 impl Work<Connection, Transaction, Making> {
     /// What the event wants, once it has its entry.
     pub(crate) fn foresee(&self, alloc: Global, event: &Event) -> Result<Option<Change>, AllocError>
-        requires { self.now.realm < length self.now.heads.items }
+        requires here { self.now.realm < length self.now.heads.items }
+        requires numbered { are_numbered (work_of self.now).state ≡ true }
         ensures { IfOk result (λ change. change ≡ foreseen event.now (work_of self.now).state) }
     {
         match event {
@@ -62,7 +64,8 @@ impl Work<Connection, Transaction, Making> {
         seat: Seat,
         heard: &Heard,
     ) -> Result<Option<Change>, AllocError>
-        requires { self.now.realm < length self.now.heads.items }
+        requires here { self.now.realm < length self.now.heads.items }
+        requires numbered { are_numbered (work_of self.now).state ≡ true }
         ensures { IfOk result
             (λ change. change ≡ foreseen (Line seat heard.now) (work_of self.now).state) }
     {
@@ -80,7 +83,8 @@ impl Work<Connection, Transaction, Making> {
         seat: Seat,
         command: &Command,
     ) -> Result<Option<Change>, AllocError>
-        requires { self.now.realm < length self.now.heads.items }
+        requires here { self.now.realm < length self.now.heads.items }
+        requires numbered { are_numbered (work_of self.now).state ≡ true }
         ensures { IfOk result (λ change. change ≡ line_wanted (seated seat (work_of self.now).state)
             command.now (work_of self.now).state) }
     {
@@ -216,7 +220,8 @@ impl Work<Connection, Transaction, Making> {
         seat: Seat,
         response: &Response,
     ) -> Result<Option<Change>, AllocError>
-        requires { self.now.realm < length self.now.heads.items }
+        requires here { self.now.realm < length self.now.heads.items }
+        requires numbered { are_numbered (work_of self.now).state ≡ true }
         ensures { IfOk result (λ change. change ≡ response_wanted
             (seated seat (work_of self.now).state) response.now (work_of self.now).state) }
     {

@@ -104,6 +104,11 @@ abbrev pub passes_in : {T : Type 0} → (T → Bool) → Option (Entry T) → Bo
 passes_in test None = false
 passes_in test (Some entry) = test entry.item
 
+-- the rank of the item of a slot, where the slot has one
+abbrev pub rank_in : {T : Type 0} → (T → ℕ) → Option (Entry T) → ℕ
+rank_in rank None = 0
+rank_in rank (Some entry) = rank entry.item
+
 -- the slots with the item at a key changed
 abbrev pub changed_at : {T : Type 0} → (T → T) → Slab (Entry T) → ℕ → Option (Entry T) → Slab (Entry T)
 changed_at left slots key None = slots

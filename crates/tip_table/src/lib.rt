@@ -4,11 +4,13 @@
 mod items;
 pub mod laws;
 mod order;
+mod rank;
 mod table;
 mod test;
 mod visit;
 
 pub use items::Items;
+pub use rank::Rank;
 pub use table::Table;
 pub use test::Test;
 pub use visit::Visit;

@@ -1,9 +1,12 @@
 //! The keys of a table's slots, in order: by realm, and in a realm as made.
-ghost use Rattle.std.specs.Prelude.{◌≡◌, ◌==◌, ◌+◌, ◌<◌, ◌≤◌, true, count_by, length, position, slice_index_or};
+ghost use Rattle.std.specs.Prelude.{◌≡◌, ◌==◌, ◌+◌, ◌<◌, ◌≤◌, true, None, IfSome, count_by, length, map, position, slice_index_or};
+ghost use Rattle.std.specs.List.{find};
 ghost use Rattle.slab.specs.Slab.{get};
-ghost use Rattle.tip_table.specs.Entries.{AreApart, AreByRealm, AreThere, count_below, is_among, items_at, own_keys, passes_in, placed_at, realm_in, visited_at};
+ghost use Rattle.tip_table.specs.Entries.{AreApart, AreByRealm, AreThere, count_below, is_among, items_at, own_keys, passes_in, placed_at, rank_in, realm_in, visited_at};
+ghost use Rattle.tip_table.specs.Lists.{IsFirst, are_rising};
 ghost use Rattle.tip_table.specs.Visits.{MayVisit, notes_of};
 
+use crate::rank::Rank;
 use crate::table::Entry;
 use crate::test::Test;
 use crate::visit::Visit;
@@ -121,6 +124,38 @@ fn passes_at<T, A: Allocator, Q: Test<T>>(slots: &Slab<Entry<T>, A>, key: usize,
     match slots.get(key) {
         Some(entry) => query.passes(&entry.item),
         None => false,
+    }
+}
+
+/// Where the first of these keys stands whose item has this rank, by halves.
+pub(crate) fn first_ranked<T, A: Allocator, R: Rank<T>>(
+    slots: &Slab<Entry<T>, A>,
+    keys: &[usize],
+    ranks: &R,
+    rank: u64,
+) -> Option<usize>
+    requires there { AreThere slots.now keys.now }
+    requires rising { are_rising (map (R.rank ranks.now) (items_at slots.now keys.now)) ≡ true }
+    ensures some { IfSome result (λ at.
+        IsFirst (λ item. R.rank ranks.now item == rank) (items_at slots.now keys.now) at) }
+    ensures none { result ≡ None →
+        find (λ item. R.rank ranks.now item == rank) (items_at slots.now keys.now) ≡ None }
+    ensures within { IfSome result (λ at. at < length keys.now) }
+{
+    let at = keys.partition_point(|key| rank_at(slots, *key, ranks) < rank);
+    match keys.get(at) {
+        Some(key) if rank_at(slots, *key, ranks) == rank => Some(at),
+        _ => None,
+    }
+}
+
+/// The rank of the item under a key; 0 where there is none.
+fn rank_at<T, A: Allocator, R: Rank<T>>(slots: &Slab<Entry<T>, A>, key: usize, ranks: &R) -> u64
+    ensures { result ≡ rank_in (R.rank ranks.now) (get slots.now key) }
+{
+    match slots.get(key) {
+        Some(entry) => ranks.rank(&entry.item),
+        None => 0,
     }
 }
 

@@ -1,12 +1,14 @@
 //! One table for the items of many realms.
-ghost use Rattle.std.specs.Prelude.{◌≡◌, ◌≢◌, ◌↔◌, ℕ, ◌+◌, ◌-◌, ◌<◌, ◌≤◌, [], ◌∷◌, ◌++◌, Some, None, filter, length, map, vec_len, vec_capacity, IsSome, IsOk, IfOk, IfSome, OnOk};
+ghost use Rattle.std.specs.Prelude.{◌≡◌, ◌≢◌, ◌↔◌, ◌==◌, ℕ, ◌+◌, ◌-◌, ◌<◌, ◌≤◌, [], ◌∷◌, ◌++◌, Some, None, true, filter, length, map, vec_len, vec_capacity, IsSome, IsOk, IfOk, IfSome, OnOk};
 ghost use Rattle.std.specs.List.{find};
 ghost use Rattle.tip_table.specs.Entries.{AreApart, AreThere, Item, items_in, placed_at};
 ghost use Rattle.tip_table.specs.Kept.{StandsAt, capacity, of, places, item_at, taken_out};
+ghost use Rattle.tip_table.specs.Lists.{are_rising};
 ghost use Rattle.tip_table.specs.Visits.{MayVisit, notes_of};
 
 use crate::items::Items;
-use crate::order::{count_passing, first_passing, index_of, own, through, visit_at};
+use crate::order::{count_passing, first_passing, first_ranked, index_of, own, through, visit_at};
+use crate::rank::Rank;
 use crate::test::Test;
 use crate::visit::Visit;
 use slab::Slab;
@@ -128,6 +130,19 @@ impl<T: Drop, A: Allocator> Table<T, A> {
     {
         let own = own(&self.slots, &self.order, realm);
         let at = first_passing(&self.slots, own, query)?;
+        Some(own[at])
+    }
+
+    /// The place of a realm's item of this rank, by halves: the ranks of its items rise.
+    pub fn find_ranked<R: Rank<T>>(&self, realm: usize, ranks: &R, rank: u64) -> Option<usize>
+        requires { are_rising (map (R.rank ranks.now) (of self.now realm)) ≡ true }
+        ensures none { (result ≡ None) ↔
+            (find (λ item. R.rank ranks.now item == rank) (of self.now realm) ≡ None) }
+        ensures some { IfSome result
+            (λ place. StandsAt self.now realm (λ item. R.rank ranks.now item == rank) place) }
+    {
+        let own = own(&self.slots, &self.order, realm);
+        let at = first_ranked(&self.slots, own, ranks, rank)?;
         Some(own[at])
     }
 
