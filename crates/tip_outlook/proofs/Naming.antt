@@ -1,5 +1,5 @@
 -- The identifier of a transaction, taken apart.
-use Rattle.std.proofs.Common.{◌≡◌, ◌≢◌, ◌<◌, ◌^◌, Bool, true, false, ℕ, List, refl, ap, arith, sym, ◌∙◌}
+use Rattle.std.proofs.Common.{◌≡◌, ◌<◌, ◌^◌, Bool, true, false, ℕ, List, None, ap, arith, sym, ◌∙◌}
 use Rattle.std.specs.Prelude.{◌==◌, ◌&&◌}
 use Rattle.std.specs.Str.{bytes_eq}
 use Rattle.std.proofs.lemmas.Bool.{and_parts, false_from_ne_true}
@@ -10,6 +10,7 @@ use Rattle.tip_rows.specs.Keys.{Key}
 use Rattle.tip_rows.proofs.MemoryLemmas.{bytes_eq-self, same_text}
 use Rattle.tip_machine.proofs.Naming.{told_apart}
 use Rattle.tip_machine.specs.Answers.{identifier}
+use Rattle.tip_outlook.specs.Searches.{IsKeyOf}
 
 module _ (text realm : List ℕ) (key : Key) (name : is_realm realm ≡ true) (epoch : key.epoch < 2 ^ 32) (connection : key.connection < 2 ^ 32) (number : key.number < 2 ^ 32) where
   given_so : bytes_eq text (identifier realm key) ≡ true → IsGiven text realm key.epoch key.connection key.number
@@ -39,4 +40,8 @@ module _ (text realm : List ℕ) (key : Key) (name : is_realm realm ≡ true) (e
         differs : false ≡ true → ⊥
         differs same = absurd (cc)
 
-pub ruleset naming = (given_by_none, given_by_parts)
+-- the key of an identifier's parts is the one of which it was made, in the realm that gave it
+pub made_of_none : (text realm : List ℕ) → is_realm realm ≡ true → ((other : List ℕ) (e c n : ℕ) → IsGiven text other e c n → ⊥) → IsKeyOf realm text None
+made_of_none text realm name no_such key is epoch connection number = given_by_none text realm key name epoch connection number no_such
+
+pub ruleset naming = (given_by_none, given_by_parts, made_of_none)

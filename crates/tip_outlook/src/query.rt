@@ -1,12 +1,13 @@
 //! What is looked for in the tables.
-ghost use Rattle.std.specs.Prelude.{◌≡◌, ◌==◌, ◌&&◌, Some};
+ghost use Rattle.std.specs.Prelude.{◌≡◌, List, ℕ};
 ghost use Rattle.std.specs.Str.{bytes_eq};
 ghost use Rattle.tip_machine.specs.Answers.{identifier};
 ghost use Rattle.tip_machine.specs.Connections.{asks_for, has_number, is_on, is_part_of, is_superior_of, names, reaches};
 ghost use Rattle.tip_machine.specs.Transactions.{comes_from, is_undecided};
-ghost use Rattle.tip_outlook.specs.Searches.{is_keyed, is_named, is_pushed};
+ghost use Rattle.tip_outlook.specs.Searches.{IsKeyOf, is_keyed, is_named, is_pushed};
 
-use tip_line::{Address, Id, IdParts, Realm};
+use std::marker::Model;
+use tip_line::{Address, Id, Realm};
 use tip_machine::{Connection, Origin, Role, Transaction};
 use tip_rows::Key;
 use tip_table::{Rank, Test};
@@ -110,17 +111,42 @@ fn reaches(role: Option<Role>, key: Key, part: Part) -> bool
 }
 
 /// The transaction of an identifier, in a realm of this name.
-#[derive(Clone, Copy, Debug)]
+#[derive(Debug, Drop)]
 pub struct Named<'a> {
-    pub realm: &'a Realm,
-    pub id: &'a Id,
+    realm: &'a Realm,
+    id: &'a Id,
+    /// The key that the identifier was made of, if this realm may have given it: so it is taken apart once, and none is spelled.
+    key: Option<Key>,
+}
+
+impl<'a> Model for Named<'a> {
+    ghost use Rattle.tip_outlook.specs.Searches.{IsKeyOf, Naming};
+
+    ghost Value = { Naming };
+
+    ghost view = { λ n. record { realm = n.realm.now; id = n.id.now } };
+
+    ghost invariant = { λ n. IsKeyOf n.realm.now n.id.now n.key };
+}
+
+impl<'a> Named<'a> {
+    /// It is sought by what the realm and the identifier are.
+    pub fn of(realm: &'a Realm, id: &'a Id) -> Named<'a>
+        ensures { result ≡ record { realm = realm.now; id = id.now } }
+    {
+        Named {
+            realm,
+            id,
+            key: key_of(realm, id),
+        }
+    }
 }
 
 impl Test<Transaction> for Named<'_> {
-    ghost passes = { λ query transaction. is_named query.realm.now query.id.now transaction };
+    ghost passes = { λ query transaction. is_named query.realm query.id transaction };
 
     fn passes(&self, transaction: &Transaction) -> bool {
-        is_of(self.realm, self.id, transaction.key)
+        is_key(self.key, transaction.key)
     }
 }
 
@@ -163,28 +189,29 @@ fn comes_from(origin: &Origin, peer: &Option<Address>, superior: &Id) -> bool
     }
 }
 
-/// Whether an identifier is that of a realm's transaction. It is taken apart, so that none is spelled.
+/// The key of which an identifier was made, if a realm of this name may have given it.
 #[tactic(auto, using(crate::proofs::Naming::naming))]
-fn is_of(realm: &Realm, id: &Id, key: Key) -> bool
-    ensures { result ≡ bytes_eq id.now (identifier realm.now key) }
+fn key_of(realm: &Realm, id: &Id) -> Option<Key>
+    ensures { IsKeyOf realm.now id.now result }
 {
     let name = realm.as_str();
-    match id.parts() {
-        Some(parts) => is_made_of(parts, name, key),
-        None => false,
+    let parts = id.parts()?;
+    if parts.realm == name {
+        Key::of(parts)
+    } else {
+        None
     }
 }
 
-/// Whether an identifier was made of a realm's name and a key.
-fn is_made_of(parts: IdParts, realm: &str, key: Key) -> bool
-    ensures { result ≡ (bytes_eq parts.entry.realm.now realm.now
-        && (parts.entry.epoch == key.epoch && (parts.entry.connection == key.connection
-        && (parts.entry.number == key.number)))) }
+/// Whether a key is the one of which an identifier was made.
+fn is_key(made_of: Option<Key>, key: Key) -> bool
+    ensures { (realm id : List ℕ) → IsKeyOf realm id made_of →
+        result ≡ bytes_eq id (identifier realm key) }
 {
-    parts.realm == realm
-        && parts.epoch == key.epoch()
-        && parts.connection == key.connection()
-        && parts.number == key.number()
+    match made_of {
+        Some(other) => other == key,
+        None => false,
+    }
 }
 
 /// Whether a connection of this role is on the transaction of that key.

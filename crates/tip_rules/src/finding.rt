@@ -33,10 +33,7 @@ impl Work<Connection, Transaction, Making> {
             (is_named (work_of self.now).state.head.name id.now)
             (of self.now.transactions self.now.realm) ≡ None) }
     {
-        let query = Named {
-            realm: self.name(),
-            id,
-        };
+        let query = Named::of(self.name(), id);
         match self.transactions.find(self.realm, &query) {
             Some(place) => Some((self.transactions.item(place).key, place)),
             None => None,
