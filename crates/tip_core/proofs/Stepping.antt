@@ -9,15 +9,14 @@ use Rattle.tip_line.specs.declared.refusal.Refusal.TheVariants.{Frozen, NoRealm}
 use Rattle.std.proofs.lemmas.List.{length-map}
 use Rattle.std.proofs.lemmas.List.Elements.{All-head, All-nil, All-tail}
 use Rattle.tip_machine.specs.Counts.{HasCounts, IsBelow}
+use Rattle.tip_machine.specs.Given.{are_numbered}
 use Rattle.tip_machine.specs.Heads.{starting}
 use Rattle.tip_machine.specs.Order.{in_turn, ordered}
-use Rattle.tip_machine.specs.States.{Attempt, State, started}
-use Rattle.tip_machine.specs.Steps.{attempt, chosen, entered, fits, frozen, is_open, nowhere, returned, step}
+use Rattle.tip_machine.specs.States.{State, started}
+use Rattle.tip_machine.specs.Steps.{attempt, chosen, entered, frozen, is_open, nowhere, returned, step}
 use Rattle.tip_machine.specs.Types.{Answer, Connection, Event, seen}
-use Rattle.tip_machine.specs.declared.event.Change.{Change}
 use Rattle.tip_machine.specs.declared.event.Event.TheVariants.{AskPull, AskPush, Dial, Line, Lost, Open, Resume, Settled, Voted}
 use Rattle.tip_machine.specs.declared.event.Outcome.{Outcome}
-use Rattle.tip_machine.specs.declared.event.Outcome.TheVariants.{NoChange, Refused}
 use Rattle.tip_machine.specs.declared.head.Head.{Head}
 use Rattle.tip_machine.specs.declared.head.Start.{Start}
 use Rattle.tip_machine.proofs.Counting.{counts_stay}
@@ -27,7 +26,7 @@ use Rattle.tip_outlook.proofs.Turning.{in_turn_of_state}
 use Rattle.tip_core.specs.Hosted.{HasEpoch, Hosted, IsRoomFor, Steps, realm}
 use Rattle.tip_rules.specs.Makings.{Made}
 use Rattle.tip_rules.specs.Needs.{Granted, HasNeeds, Suits, happened}
-use Rattle.tip_outlook.specs.Turns.{noted, turn_in}
+use Rattle.tip_outlook.specs.Turns.{notes_of, turn_in}
 use Rattle.tip_outlook.specs.declared.turns.Turn.{Turn}
 use Rattle.tip_rules.specs.Works.{Does, HaveCounts, Realms, no_head, state_in, working}
 
@@ -58,7 +57,7 @@ inside realms turns place state is = elim (cases_lt place (length realms.heads.i
 
 -- an answer whose lines are put in order
 abbrev pub in_order : List Connection → Answer → Answer
-in_order connections answer = record answer { sent = in_turn (turn_in (map noted connections)) answer.sent }
+in_order connections answer = record answer { sent = in_turn (turn_in (notes_of connections)) answer.sent }
 
 -- what is turned down tells nobody
 returned_in_order : (turns : List Turn) (why : Refusal) (event : Event) → record (returned why event) { sent = in_turn (turn_in turns) (returned why event).sent } ≡ returned why event
@@ -73,12 +72,12 @@ returned_in_order turns why (AskPull seat superior) = refl
 returned_in_order turns why (Resume id) = refl
 
 module _ (state : State) (event : Event) (outcome : Outcome) where
-  pub answers_in_order : in_order state.connections (happened state event outcome).answer ≡ (step state event outcome).answer
+  pub answers_in_order : are_numbered state ≡ true → in_order state.connections (happened state event outcome).answer ≡ (step state event outcome).answer
   unfolding ordered
-  answers_in_order = by (is_open state) where
+  answers_in_order numbered = by (is_open state) where
     by : (b : Bool) → in_order state.connections (cond b (chosen (attempt event (entered state)) outcome) (frozen event state)).answer ≡ (cond b (ordered state (chosen (attempt event (entered state)) outcome)) (frozen event state)).answer
-    by true = ap (λ sent. record (chosen (attempt event (entered state)) outcome).answer { sent = sent }) (in_turn_of_state state (chosen (attempt event (entered state)) outcome).answer.sent)
-    by false = returned_in_order (map noted state.connections) Frozen event
+    by true = ap (λ sent. record (chosen (attempt event (entered state)) outcome).answer { sent = sent }) (in_turn_of_state state (chosen (attempt event (entered state)) outcome).answer.sent numbered)
+    by false = returned_in_order (notes_of state.connections) Frozen event
 
   pub state_stays : (happened state event outcome).state ≡ (step state event outcome).state
   unfolding ordered
@@ -93,11 +92,11 @@ module _ (old new : Realms) (place : ℕ) (event : Event) (outcome : Outcome) (m
   went : state_in place new ≡ (step (state_in place old) event outcome).state
   went = ap (λ w. w.state) does.own ∙ state_stays (state_in place old) event outcome
 
-  pub steps : (turns turns' : ℕ) (answer : Answer) → answer ≡ in_order (of old.connections place) after.answer → Steps (hosted old turns) (hosted new turns') place event outcome answer
-  steps turns turns' answer is = record {
+  pub steps : HaveCounts old → (turns turns' : ℕ) (answer : Answer) → answer ≡ in_order (of old.connections place) after.answer → Steps (hosted old turns) (hosted new turns') place event outcome answer
+  steps counts turns turns' answer is = record {
     own = λ state here.
         let same : state_in place old ≡ state = same_Some _ _ (sym (there old turns place lt) ∙ here) in (
-          is ∙ ap (λ w. in_order (of old.connections place) w.answer) does.own ∙ answers_in_order (state_in place old) event outcome ∙ ap (λ s. (step s event outcome).answer) same,
+          is ∙ ap (λ w. in_order (of old.connections place) w.answer) does.own ∙ answers_in_order (state_in place old) event outcome (counts place lt).numbered ∙ ap (λ s. (step s event outcome).answer) same,
           there new turns' place (omega (arith, does.count, lt)) ∙ ap Some (went ∙ ap (λ s. (step s event outcome).state) same),
         );
     others = λ other differ. elim (cases_lt other (length old.heads.items)) [

@@ -25,20 +25,20 @@ step-made-requires-clause-needs g c =
     needs c.self.inside.realms c.args.realm c.args.outcome c.into_parts-making.result.0 c.args.event c.args.room (room.suits (state_in c.args.realm c.self.inside.realms) (there c.self.inside.realms c.self.inside.turns.capacity c.args.realm (search rules))) c.into_parts-making.ensures.lines c.into_parts-making.ensures.transaction c.into_parts-making.ensures.peer c.into_parts-making.ensures.ours c.into_parts-making.ensures.word
 
 pub returns-clause-steps : goal.returns-clause-steps
-returns-clause-steps g c = rw (← c.self.view_is) (steps c.self.inside.realms c.step-made.new.self c.args.realm c.args.event c.args.outcome c.into_parts-making.result.0 c.step-made.result (search rules) c.step-made.ensures c.self.inside.turns.capacity c.note.new.self.capacity c.finish-answer-2.result
+returns-clause-steps g c = rw (← c.self.view_is) (steps c.self.inside.realms c.step-made.new.self c.args.realm c.args.event c.args.outcome c.into_parts-making.result.0 c.step-made.result (search rules) c.step-made.ensures c.self.invariant.0 c.self.inside.turns.capacity c.note.new.self.capacity c.finish-answer-2.result
     (c.finish-answer-2.ensures ∙ ap (λ (turns : List Turn). record c.step-made.result.answer { sent = in_turn (turn_in turns) c.step-made.result.answer.sent }) c.note.ensures.turns))
 
 pub invariant_of-self : goal.invariant_of-self
 invariant_of-self g c = (
   counted c.self.inside.realms c.step-made.new.self c.args.realm c.args.event c.args.outcome c.into_parts-making.result.0 c.step-made.result (search rules) c.step-made.ensures c.self.invariant.0,
   still_named (hosted c.self.inside.realms c.self.inside.turns.capacity) (hosted c.step-made.new.self c.note.new.self.capacity) c.args.realm c.args.event c.args.outcome c.finish-answer-2.result
-      (steps c.self.inside.realms c.step-made.new.self c.args.realm c.args.event c.args.outcome c.into_parts-making.result.0 c.step-made.result (search rules) c.step-made.ensures c.self.inside.turns.capacity c.note.new.self.capacity c.finish-answer-2.result
+      (steps c.self.inside.realms c.step-made.new.self c.args.realm c.args.event c.args.outcome c.into_parts-making.result.0 c.step-made.result (search rules) c.step-made.ensures c.self.invariant.0 c.self.inside.turns.capacity c.note.new.self.capacity c.finish-answer-2.result
       (c.finish-answer-2.ensures ∙ ap (λ (turns : List Turn). record c.step-made.result.answer { sent = in_turn (turn_in turns) c.step-made.result.answer.sent }) c.note.ensures.turns))
       c.self.invariant.1,
 )
 
 pub returns-clause-named : goal.returns-clause-named
 returns-clause-named g c = still_named (hosted c.self.inside.realms c.self.inside.turns.capacity) (hosted c.step-made.new.self c.note.new.self.capacity) c.args.realm c.args.event c.args.outcome c.finish-answer-2.result
-    (steps c.self.inside.realms c.step-made.new.self c.args.realm c.args.event c.args.outcome c.into_parts-making.result.0 c.step-made.result (search rules) c.step-made.ensures c.self.inside.turns.capacity c.note.new.self.capacity c.finish-answer-2.result
+    (steps c.self.inside.realms c.step-made.new.self c.args.realm c.args.event c.args.outcome c.into_parts-making.result.0 c.step-made.result (search rules) c.step-made.ensures c.self.invariant.0 c.self.inside.turns.capacity c.note.new.self.capacity c.finish-answer-2.result
     (c.finish-answer-2.ensures ∙ ap (λ (turns : List Turn). record c.step-made.result.answer { sent = in_turn (turn_in turns) c.step-made.result.answer.sent }) c.note.ensures.turns))
     c.self.invariant.1
