@@ -17,12 +17,12 @@ use Rattle.tip_machine.specs.Invariants.Links.{are_distinct}
 use Rattle.tip_machine.specs.declared.head.Limits.{Limits}
 use Rattle.tip_actor.specs.Acting.{Acting, opening_text}
 use Rattle.tip_scene.specs.Acts as Stages
-use Rattle.tip_scene.specs.Acts.{Acted, Basis, Stage, Declaring, Playing, acted, acted_by, acting_of, acts, acts_if, closing_of, declaration_of, declared, first_acts, is_count, is_declared, is_other, labelled, labelled_at, may_be_declared, may_be_labelled, may_say, scene_of, starts_text, with_labels}
+use Rattle.tip_scene.specs.Acts.{Acted, Basis, Stage, Declaring, Playing, acted, acted_by, acting_of, acts, acts_if, closing_of, declaration_of, first_acts, is_count, is_declared, is_other, labelled, labelled_at, may_be_declared, may_be_labelled, may_say, scene_of, starts_text, with_labels}
 use Rattle.tip_scene.specs.Scenes as scenes
-use Rattle.tip_scene.specs.Scenes.{Scene, elsewhere, moved, moved_at, moved_in, openings_text, place_of, with_done, with_text}
+use Rattle.tip_scene.specs.Scenes.{Scene, moved, moved_at, place_of}
 use Rattle.tip_scene.specs.declared.declared.Declaration.{Declaration}
 use Rattle.tip_script.specs.Scripts as Script
-use Rattle.tip_script.specs.Scripts.{Move, move_of, realm_of}
+use Rattle.tip_script.specs.Scripts.{Move, move_of}
 use Rattle.script_lines.specs.Lines.{longest_line}
 use Rattle.tip_play.specs.Transcripts.{Played, act_of, closing_text, played, played_on}
 use Rattle.tip_history.specs.Alone.{AreApart, concerns, heard, heard_on, is_own, is_spelled, own_script, text_of}

@@ -60,6 +60,6 @@ pub tells_if : (script rest old new : Option (List ℕ)) (result : Result (Unit 
 tells_if None rest old new result is = tt
 tells_if (Some script) rest old new result is = tells in_memory memory_is_written script rest old new result is
 
-pub tells_on : {S : Type 0} (kept : Keeping S) (basis : Basis) (written : AreWritten basis) (script : List ℕ) (rest old new : Option (List ℕ)) (result : Result S (PlayFault × Option S)) → TranscribesOn kept basis script rest old new result → TellsOn kept basis script rest old new result
+pub tells_on : {S : Type 0} (kept : Keeping S) (basis : Basis) (written : AreWritten basis) (script : List ℕ) (rest old new : Option (List ℕ)) (result : Result S (PlayFault × S)) → TranscribesOn kept basis script rest old new result → TellsOn kept basis script rest old new result
 tells_on kept basis written script rest old new (Ok store) is = λ reliable. tells basis written script rest old new (Ok tt) (is reliable)
 tells_on kept basis written script rest old new (Err why) is = λ reliable. tells basis written script rest old new (Err why.0) (is reliable)

@@ -3,7 +3,6 @@ use Rattle.std.specs.Prelude.{◌≡◌, ℕ, List, ◌++◌, ◌⊎◌, Option,
 use Rattle.std.specs.Io.KnownBytes.{Appends, Consumes}
 use Rattle.tip_rows.specs.Logs.{Keeping}
 use Rattle.tip_scene.specs.Acts.{Basis}
-use Rattle.tip_scene.specs.Stages.{IsReliable}
 use Rattle.tip_play.specs.Transcripts.{ended, lines_of}
 use Rattle.tip_play.specs.declared.fault.PlayFault.{PlayFault}
 use Rattle.tip_history.specs.Alone.{AreApart}
@@ -24,6 +23,6 @@ pub record Tells (basis : Basis) (script : List ℕ) (rest old new : Option (Lis
   pub apart : AreApart basis lines (front ++ later)
 
 -- the same over a store of any kind, as long as it may be relied on
-abbrev pub TellsOn : {S : Type 0} → Keeping S → Basis → List ℕ → Option (List ℕ) → Option (List ℕ) → Option (List ℕ) → Result S (PlayFault × Option S) → Type 0
+abbrev pub TellsOn : {S : Type 0} → Keeping S → Basis → List ℕ → Option (List ℕ) → Option (List ℕ) → Option (List ℕ) → Result S (PlayFault × S) → Type 0
 TellsOn kept basis script rest old new (Ok store) = kept.is_true store → Tells basis script rest old new
-TellsOn kept basis script rest old new (Err fault) = IsReliable kept fault.1 → Tells basis script rest old new
+TellsOn kept basis script rest old new (Err fault) = kept.is_true fault.1 → Tells basis script rest old new

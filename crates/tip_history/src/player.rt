@@ -29,16 +29,15 @@ pub fn play<R: BufRead, W: Write>(
     tip_play::play(alloc, input, output)
 }
 
-/// Plays the script that is read, over a store of any kind, which no line may ask to refuse. The store comes back, but where memory
-/// ends in a start. What was written stands, whatever the end is: where the store may be relied on, and tipd alone wrote what it had
-/// of the realms, a front of a text in which each realm has an honest history of its own from that, and no transaction is half
-/// committed.
+/// Plays the script that is read, over a store of any kind, which no line may ask to refuse. The store comes back, and what was
+/// written stands, whatever the end is: where the store may be relied on, and tipd alone wrote what it had of the realms, a front of
+/// a text in which each realm has an honest history of its own from that, and no transaction is half committed.
 pub fn play_on<S: RowLog + Drop, R: BufRead, W: Write>(
     alloc: Global,
     store: S,
     input: &mut R,
     output: &mut W,
-) -> Result<S, (PlayFault, Option<S>)>
+) -> Result<S, (PlayFault, S)>
     ensures truth { Trusts S.keeping store (λ left. left) result }
     ensures transcribes { (basis : Basis) → basis.may_refuse ≡ false →
         IsBasis S.keeping basis store →

@@ -5,7 +5,7 @@ use Rattle.tip_rows.specs.Logs.{Keeping, IsSpoiled, empty_log}
 use Rattle.tip_rows.specs.Memory.{Memory, is_due_in, log_of}
 use Rattle.tip_scene.specs.Acts.{Basis, is_covered}
 use Rattle.tip_script.specs.Scripts.{Move, Declare, Label, Open, Dial, Feed, Lose, Push, Pull, Go, Drop, Resume, Refuse, Renew, Restart, move_of}
-use Rattle.tip_scene.specs.Stages.{IsBasis, IsReliable, Trusts}
+use Rattle.tip_scene.specs.Stages.{IsBasis, Trusts}
 use Rattle.std.specs.Io.KnownBytes.{Appends, Keeps}
 use Rattle.std.specs.Prelude.{IfOk, IsErrOf, false, true}
 use Rattle.std.specs.List.{list_all}
@@ -22,7 +22,7 @@ appends_kept (Some x) (Some y) None bs written same = absurd same
 appends_kept (Some x) (Some y) (Some z) bs written same = same ∙ written
 
 module _ {S : Type 0} (kept : Keeping S) (basis : Basis) where
-  pub trusts_unflushed : (old : S) (result : Result S (PlayFault × Option S)) → Trusts kept old (λ store. store) result → Trusts kept old (λ store. store) (unflushed result)
+  pub trusts_unflushed : (old : S) (result : Result S (PlayFault × S)) → Trusts kept old (λ store. store) result → Trusts kept old (λ store. store) (unflushed result)
   trusts_unflushed old (Ok store) trusts = trusts
   trusts_unflushed old (Err (fault.Script line, store)) trusts = trusts
   trusts_unflushed old (Err (fault.Read, store)) trusts = trusts
@@ -42,15 +42,15 @@ module _ {S : Type 0} (kept : Keeping S) (basis : Basis) where
   kept_one script rest old mid new (Err fault.Memory) same is = kept_front script old mid new same is
   kept_one script rest old mid new (Err fault.Store) same is = kept_front script old mid new same is
 
-  kept_on : (script : List ℕ) (rest old mid new : Option (List ℕ)) (result : Result S (PlayFault × Option S)) → Keeps mid new → TranscribesOn kept basis script rest old mid result → TranscribesOn kept basis script rest old new result
+  kept_on : (script : List ℕ) (rest old mid new : Option (List ℕ)) (result : Result S (PlayFault × S)) → Keeps mid new → TranscribesOn kept basis script rest old mid result → TranscribesOn kept basis script rest old new result
   kept_on script rest old mid new (Ok store) same is = λ truth. kept_one script rest old mid new (Ok tt) same (is truth)
   kept_on script rest old mid new (Err fault) same is = λ truth. kept_one script rest old mid new (Err fault.0) same (is truth)
 
-  pub all_kept : (whole rest old mid new : Option (List ℕ)) (result : Result S (PlayFault × Option S)) → Keeps mid new → IfSome whole (λ script. covers_all basis script ≡ true → TranscribesOn kept basis script rest old mid result) → IfSome whole (λ script. covers_all basis script ≡ true → TranscribesOn kept basis script rest old new result)
+  pub all_kept : (whole rest old mid new : Option (List ℕ)) (result : Result S (PlayFault × S)) → Keeps mid new → IfSome whole (λ script. covers_all basis script ≡ true → TranscribesOn kept basis script rest old mid result) → IfSome whole (λ script. covers_all basis script ≡ true → TranscribesOn kept basis script rest old new result)
   all_kept None rest old mid new result same is = tt
   all_kept (Some script) rest old mid new result same is = λ covers. kept_on script rest old mid new result same (is covers)
 
-  one_unflushed : (script : List ℕ) (rest old new : Option (List ℕ)) (result : Result S (PlayFault × Option S)) → TranscribesOn kept basis script rest old new result → TranscribesOn kept basis script rest old new (unflushed result)
+  one_unflushed : (script : List ℕ) (rest old new : Option (List ℕ)) (result : Result S (PlayFault × S)) → TranscribesOn kept basis script rest old new result → TranscribesOn kept basis script rest old new (unflushed result)
   one_unflushed script rest old new (Ok store) is = λ truth. record { front = transcript basis script; later = []; whole = sym (append-nil (transcript basis script)); written = (is truth).1 }
   one_unflushed script rest old new (Err (fault.Script line, store)) is = λ truth. record { front = transcript basis script; later = []; whole = sym (append-nil (transcript basis script)); written = (is truth).1 }
   one_unflushed script rest old new (Err (fault.Read, store)) is = is
@@ -59,11 +59,11 @@ module _ {S : Type 0} (kept : Keeping S) (basis : Basis) where
   one_unflushed script rest old new (Err (fault.Store, store)) is = is
 
   -- what was written may not be there
-  pub all_unflushed : (whole rest old new : Option (List ℕ)) (result : Result S (PlayFault × Option S)) → IfSome whole (λ script. covers_all basis script ≡ true → TranscribesOn kept basis script rest old new result) → IfSome whole (λ script. covers_all basis script ≡ true → TranscribesOn kept basis script rest old new (unflushed result))
+  pub all_unflushed : (whole rest old new : Option (List ℕ)) (result : Result S (PlayFault × S)) → IfSome whole (λ script. covers_all basis script ≡ true → TranscribesOn kept basis script rest old new result) → IfSome whole (λ script. covers_all basis script ≡ true → TranscribesOn kept basis script rest old new (unflushed result))
   all_unflushed None rest old new result is = tt
   all_unflushed (Some script) rest old new result is = λ covers. one_unflushed script rest old new result (is covers)
 
-pub never_unflushed : {S : Type 0} (P : S → Type 0) (result : Result S (PlayFault × Option S)) → IfOk (unflushed result) P
+pub never_unflushed : {S : Type 0} (P : S → Type 0) (result : Result S (PlayFault × S)) → IfOk (unflushed result) P
 never_unflushed P (Ok store) = tt
 never_unflushed P (Err (fault.Script line, store)) = tt
 never_unflushed P (Err (fault.Read, store)) = tt
@@ -90,17 +90,13 @@ is_blank store empty none_due = record {
   none_due = λ name covers. none_due name;
 }
 
-reliable : (store : Option Memory) → IsReliable rows_kept store
-reliable None = λ store. tt
-reliable (Some store) = tt
-
-one_ended : (script : List ℕ) (rest old new : Option (List ℕ)) (result : Result Memory (PlayFault × Option Memory)) → TranscribesOn rows_kept in_memory script rest old new result → Transcribes in_memory script rest old new (ended result)
+one_ended : (script : List ℕ) (rest old new : Option (List ℕ)) (result : Result Memory (PlayFault × Memory)) → TranscribesOn rows_kept in_memory script rest old new result → Transcribes in_memory script rest old new (ended result)
 one_ended script rest old new (Ok store) is = is tt
-one_ended script rest old new (Err (fault.Script line, store)) is = is (reliable store)
-one_ended script rest old new (Err (fault.Read, store)) is = is (reliable store)
-one_ended script rest old new (Err (fault.Write, store)) is = is (reliable store)
-one_ended script rest old new (Err (fault.Memory, store)) is = is (reliable store)
-one_ended script rest old new (Err (fault.Store, store)) is = is (reliable store)
+one_ended script rest old new (Err (fault.Script line, store)) is = is tt
+one_ended script rest old new (Err (fault.Read, store)) is = is tt
+one_ended script rest old new (Err (fault.Write, store)) is = is tt
+one_ended script rest old new (Err (fault.Memory, store)) is = is tt
+one_ended script rest old new (Err (fault.Store, store)) is = is tt
 
 -- the basis of rows in memory covers each realm
 covered_line : (line : Option Move) → is_covered in_memory line ≡ true
@@ -124,7 +120,7 @@ covered_lines : (lines : List (List ℕ)) → list_all (λ line. is_covered in_m
 covered_lines [] = refl
 covered_lines (line ∷ lines) = and_from (is_covered in_memory (move_of line)) (list_all (λ l. is_covered in_memory (move_of l)) lines) (covered_line (move_of line)) (covered_lines lines)
 
-pub never_blamed : (result : Result Memory (PlayFault × Option Memory)) → IsErrOf (ended result) fault.Store → ⊥
+pub never_blamed : (result : Result Memory (PlayFault × Memory)) → IsErrOf (ended result) fault.Store → ⊥
 never_blamed (Ok store) is = absurd cc
 never_blamed (Err (fault.Script line, store)) is = absurd cc
 never_blamed (Err (fault.Read, store)) is = absurd cc
@@ -132,6 +128,6 @@ never_blamed (Err (fault.Write, store)) is = absurd cc
 never_blamed (Err (fault.Memory, store)) is = absurd cc
 never_blamed (Err (fault.Store, store)) is = absurd cc
 
-pub all_ended : (whole rest old new : Option (List ℕ)) (result : Result Memory (PlayFault × Option Memory)) → IfSome whole (λ script. covers_all in_memory script ≡ true → TranscribesOn rows_kept in_memory script rest old new result) → IfSome whole (λ script. Transcribes in_memory script rest old new (ended result))
+pub all_ended : (whole rest old new : Option (List ℕ)) (result : Result Memory (PlayFault × Memory)) → IfSome whole (λ script. covers_all in_memory script ≡ true → TranscribesOn rows_kept in_memory script rest old new result) → IfSome whole (λ script. Transcribes in_memory script rest old new (ended result))
 all_ended None rest old new result is = tt
 all_ended (Some script) rest old new result is = one_ended script rest old new result (is (covered_lines (lines_of script)))

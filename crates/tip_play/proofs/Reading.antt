@@ -14,7 +14,7 @@ use Rattle.script_lines.specs.declared.line.LineEnd.TheVariants.{LineFeed, EndOf
 use Rattle.script_lines.specs.declared.line.LineFault.{LineFault}
 use Rattle.script_lines.specs.declared.line.LineFault.TheVariants as line_fault
 use Rattle.tip_scene.specs.Acts.{Stage, Declaring, Playing, Basis, acted, closing_of, is_covered}
-use Rattle.tip_scene.specs.Stages.{AStage, IsReliable, IsStage, Trusts, store_of}
+use Rattle.tip_scene.specs.Stages.{AStage, IsStage, Trusts, store_of}
 use Rattle.tip_play.specs.Faults.{of_line}
 use Rattle.tip_play.specs.Transcripts.{IsFront, IsReadTo, Played, Reached, Transcribes, TranscribesOn, all_played, covers_all, ended, unended}
 use Rattle.tip_play.specs.Writing.{Acts, Closes, ClosesOn, HasCome}
@@ -191,7 +191,7 @@ module _ {S : Type 0} (kept : Keeping S) (basis : Basis) where
       subst (λ w. IfSome w P) is (Consumes-whole whole left so.read P so.consumed so.end (ap (λ (p : Played). p.ending) (played_last basis so.read) ∙ so.played.reached))
 
   -- and its realms are stored as they are there
-  pub leaves_end : {E : Type 0} (P : Stage → Type 0) (script : List ℕ) (names : List (List ℕ)) (first old mid : S) (result : Result S (E × Option S)) → old ≡ mid → Trusts kept mid (λ store. store) result → (kept.is_true mid → (now : Stage) × P now × ((all_played basis script).ending ≡ Reached now) × ((starts : ℕ) × OthersStay kept starts names first mid)) →
+  pub leaves_end : {E : Type 0} (P : Stage → Type 0) (script : List ℕ) (names : List (List ℕ)) (first old mid : S) (result : Result S (E × S)) → old ≡ mid → Trusts kept mid (λ store. store) result → (kept.is_true mid → (now : Stage) × P now × ((all_played basis script).ending ≡ Reached now) × ((starts : ℕ) × OthersStay kept starts names first mid)) →
       ((now : Stage) → P now → (name : List ℕ) → is_among (map (λ (a : Acting). a.name) (starting_from basis now)) name ≡ false → is_among names name ≡ false) →
       ((now : Stage) → P now → IfOk result (λ store. kept.is_true store → IsLeft kept (starting_from basis now) old store)) → IfOk result (λ left. kept.is_true left → Leaves kept basis script first left)
   leaves_end P script names first old mid (Ok left) same trusts so grows leaves = λ truth.
@@ -278,12 +278,12 @@ module _ {S : Type 0} (kept : Keeping S) (basis : Basis) where
   relying (Some script) P R all = λ covers. all (script, refl, covers)
 
   -- the realms have started, if they had not, and the store has come back
-  pub closes_on : (stage : AStage S) (whole left old mid new : Option (List ℕ)) (result : Result S (PlayFault × Option S)) → Trusts kept (store_of stage) (λ store. store) result → (IsCoveredBy basis whole → kept.is_true (store_of stage) → HasEnded stage whole left old mid) →
+  pub closes_on : (stage : AStage S) (whole left old mid new : Option (List ℕ)) (result : Result S (PlayFault × S)) → Trusts kept (store_of stage) (λ store. store) result → (IsCoveredBy basis whole → kept.is_true (store_of stage) → HasEnded stage whole left old mid) →
       ((now : Stage) → IsStage kept basis stage now → ClosesOn kept (closing_of basis now) mid new result) → IfSome whole (λ script. covers_all basis script ≡ true → TranscribesOn kept basis script left old new result)
   closes_on stage whole left old mid new (Ok store) trusts so closes = relying whole (λ script. Transcribes basis script left old new (Ok tt)) (kept.is_true store) (λ covers truth. script_closes stage whole left old mid new (Ok tt) (so covers (trusts truth)) (λ now is. closes now is truth))
-  closes_on stage whole left old mid new (Err fault) trusts so closes = relying whole (λ script. Transcribes basis script left old new (Err fault.0)) (IsReliable kept fault.1) (λ covers truth. script_closes stage whole left old mid new (Err fault.0) (so covers (trusts truth)) (λ now is. closes now is truth))
+  closes_on stage whole left old mid new (Err fault) trusts so closes = relying whole (λ script. Transcribes basis script left old new (Err fault.0)) (kept.is_true fault.1) (λ covers truth. script_closes stage whole left old mid new (Err fault.0) (so covers (trusts truth)) (λ now is. closes now is truth))
 
-  pub trusts_back : {T E : Type 0} (old mid : S) (store : T → S) (result : Result T (E × Option S)) → Trusts kept mid store result → (kept.is_true mid → kept.is_true old) → Trusts kept old store result
+  pub trusts_back : {T E : Type 0} (old mid : S) (store : T → S) (result : Result T (E × S)) → Trusts kept mid store result → (kept.is_true mid → kept.is_true old) → Trusts kept old store result
   trusts_back old mid store (Ok x) trusts back = λ is. back (trusts is)
   trusts_back old mid store (Err why) trusts back = λ is. back (trusts is)
 

@@ -6,7 +6,6 @@ use Rattle.std.specs.Io.KnownBytes.{Appends, Consumes}
 use Rattle.script_lines.specs.Lines.{is_line_feed, longest_line}
 use Rattle.tip_scene.specs.Acts.{Stage, Declaring, Acted, Basis, acted, closing_of, is_covered}
 use Rattle.tip_script.specs.Scripts.{move_of}
-use Rattle.tip_scene.specs.Stages.{IsReliable}
 use Rattle.tip_play.specs.declared.fault.PlayFault.{PlayFault}
 use Rattle.tip_play.specs.declared.fault.PlayFault.TheVariants as fault
 
@@ -87,9 +86,9 @@ Transcribes basis script rest old new (Err fault.Memory) = IsFront basis script 
 Transcribes basis script rest old new (Err fault.Store) = IsFront basis script old new
 
 -- the same over a store of any kind, as long as it may be relied on
-abbrev pub TranscribesOn : {S : Type 0} → Keeping S → Basis → List ℕ → Option (List ℕ) → Option (List ℕ) → Option (List ℕ) → Result S (PlayFault × Option S) → Type 0
+abbrev pub TranscribesOn : {S : Type 0} → Keeping S → Basis → List ℕ → Option (List ℕ) → Option (List ℕ) → Option (List ℕ) → Result S (PlayFault × S) → Type 0
 TranscribesOn kept basis script rest old new (Ok store) = kept.is_true store → Transcribes basis script rest old new (Ok tt)
-TranscribesOn kept basis script rest old new (Err fault) = IsReliable kept fault.1 → Transcribes basis script rest old new (Err fault.0)
+TranscribesOn kept basis script rest old new (Err fault) = kept.is_true fault.1 → Transcribes basis script rest old new (Err fault.0)
 
 -- the basis covers each realm that the script declares
 abbrev pub covers_all : Basis → List ℕ → Bool

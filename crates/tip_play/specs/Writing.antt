@@ -3,7 +3,7 @@ use Rattle.tip_rows.specs.Logs.{Keeping}
 use Rattle.std.specs.Prelude.{◌≡◌, ◌≢◌, ℕ, Bool, true, false, List, Option, None, Some, Result, Ok, Err}
 use Rattle.std.specs.Io.KnownBytes.{Appends}
 use Rattle.tip_scene.specs.Acts.{Acted, Basis, Stage}
-use Rattle.tip_scene.specs.Stages.{AStage, IsReliable, IsStage, store_of}
+use Rattle.tip_scene.specs.Stages.{AStage, IsStage, store_of}
 use Rattle.script_lines.specs.Lines.{Reads}
 use Rattle.script_lines.specs.declared.line.LineEnd.TheVariants.{TooLong}
 use Rattle.script_lines.specs.declared.line.LineFault.TheVariants as line_fault
@@ -24,9 +24,9 @@ Acts kept basis number acted old new (Err fault.Memory) = IsFrontOf acted.printe
 Acts kept basis number acted old new (Err fault.Store) = IsFrontOf acted.printed old new
 
 -- the same, as long as the store may be relied on
-abbrev pub ActsOn : {S : Type 0} → Keeping S → Basis → ℕ → Acted → Option (List ℕ) → Option (List ℕ) → Result (AStage S) (PlayFault × Option S) → Type 0
+abbrev pub ActsOn : {S : Type 0} → Keeping S → Basis → ℕ → Acted → Option (List ℕ) → Option (List ℕ) → Result (AStage S) (PlayFault × S) → Type 0
 ActsOn kept basis number acted old new (Ok code) = kept.is_true (store_of code) → Acts kept basis number acted old new (Ok code)
-ActsOn kept basis number acted old new (Err fault) = IsReliable kept fault.1 → Acts kept basis number acted old new (Err fault.0)
+ActsOn kept basis number acted old new (Err fault) = kept.is_true fault.1 → Acts kept basis number acted old new (Err fault.0)
 
 -- a text was written at the end, or a front of it
 abbrev pub Closes : List ℕ → Option (List ℕ) → Option (List ℕ) → Result (Unit {0}) PlayFault → Type 0
@@ -37,9 +37,9 @@ Closes text old new (Err fault.Write) = IsFrontOf text old new
 Closes text old new (Err fault.Memory) = IsFrontOf text old new
 Closes text old new (Err fault.Store) = IsFrontOf text old new
 
-abbrev pub ClosesOn : {S : Type 0} → Keeping S → List ℕ → Option (List ℕ) → Option (List ℕ) → Result S (PlayFault × Option S) → Type 0
+abbrev pub ClosesOn : {S : Type 0} → Keeping S → List ℕ → Option (List ℕ) → Option (List ℕ) → Result S (PlayFault × S) → Type 0
 ClosesOn kept text old new (Ok store) = kept.is_true store → Closes text old new (Ok tt)
-ClosesOn kept text old new (Err fault) = IsReliable kept fault.1 → Closes text old new (Err fault.0)
+ClosesOn kept text old new (Err fault) = kept.is_true fault.1 → Closes text old new (Err fault.0)
 
 -- what comes next: the end of a script that was read to its end, or a line with the boxes that it wants
 abbrev pub HasCome : Option (List ℕ) → Option (List ℕ) → ℕ → Bool → List ℕ → Result Coming PlayFault → Type 0

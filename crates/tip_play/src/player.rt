@@ -46,7 +46,7 @@ pub fn play<R: BufRead, W: Write>(
 }
 
 /// How a script over rows in memory has ended: where these refuse and were not asked to, memory has ended.
-fn ended(end: Result<MemRows, (PlayFault, Option<MemRows>)>) -> Result<(), PlayFault>
+fn ended(end: Result<MemRows, (PlayFault, MemRows)>) -> Result<(), PlayFault>
     ensures { result ≡ ended end }
 {
     match end {
@@ -57,13 +57,13 @@ fn ended(end: Result<MemRows, (PlayFault, Option<MemRows>)>) -> Result<(), PlayF
 }
 
 /// Plays the script that is read, over a store of any kind, which refuses of itself alone: no line may ask it to. The store comes
-/// back, but where memory ends in a start. What was written stands, whatever the end is.
+/// back, and what was written stands, whatever the end is.
 pub fn play_on<S: RowLog + Drop, R: BufRead, W: Write>(
     alloc: Global,
     store: S,
     input: &mut R,
     output: &mut W,
-) -> Result<S, (PlayFault, Option<S>)>
+) -> Result<S, (PlayFault, S)>
     ensures truth { Trusts S.keeping store (λ left. left) result }
     ensures transcribes { (basis : Basis) → basis.may_refuse ≡ false →
         IsBasis S.keeping basis store →
@@ -83,15 +83,15 @@ pub fn play_on<S: RowLog + Drop, R: BufRead, W: Write>(
     play_over(alloc, store, &ByItself, input, output)
 }
 
-/// Plays the script that is read, over a store that its lines may ask to refuse where the refuser can. The store comes back, but
-/// where memory ends in a start. What was written stands, whatever the end is.
+/// Plays the script that is read, over a store that its lines may ask to refuse where the refuser can. The store comes back, and
+/// what was written stands, whatever the end is.
 fn play_over<S: RowLog + Drop, F: Refuser<S>, R: BufRead, W: Write>(
     alloc: Global,
     store: S,
     refuser: &F,
     input: &mut R,
     output: &mut W,
-) -> Result<S, (PlayFault, Option<S>)>
+) -> Result<S, (PlayFault, S)>
     ensures truth { Trusts S.keeping store (λ left. left) result }
     ensures transcribes { (basis : Basis) → basis.may_refuse ≡ F.may →
         IsBasis S.keeping basis store →
@@ -116,13 +116,11 @@ fn play_over<S: RowLog + Drop, F: Refuser<S>, R: BufRead, W: Write>(
 }
 
 /// How a script has ended whose output was not flushed.
-fn unflushed<S: RowLog + Drop>(
-    end: Result<S, (PlayFault, Option<S>)>,
-) -> Result<S, (PlayFault, Option<S>)>
+fn unflushed<S: RowLog + Drop>(end: Result<S, (PlayFault, S)>) -> Result<S, (PlayFault, S)>
     ensures { result ≡ unflushed end }
 {
     match end {
-        Ok(store) => Err((PlayFault::Write, Some(store))),
+        Ok(store) => Err((PlayFault::Write, store)),
         Err((PlayFault::Script { .. }, store)) => Err((PlayFault::Write, store)),
         Err(fault) => Err(fault),
     }
@@ -135,7 +133,7 @@ fn play_lines<S: RowLog + Drop, F: Refuser<S>, R: BufRead, W: Write>(
     refuser: &F,
     input: &mut R,
     output: &mut W,
-) -> Result<S, (PlayFault, Option<S>)>
+) -> Result<S, (PlayFault, S)>
     ensures truth { Trusts S.keeping store (λ left. left) result }
     ensures transcribes { (basis : Basis) → basis.may_refuse ≡ F.may →
         IsBasis S.keeping basis store →
@@ -153,36 +151,36 @@ fn play_lines<S: RowLog + Drop, F: Refuser<S>, R: BufRead, W: Write>(
         (HadTooFew S.keeping basis) result }
 {
     let Ok(mut line) = ScriptLine::new(alloc) else {
-        return Err((PlayFault::Memory, Some(store)));
+        return Err((PlayFault::Memory, store));
     };
     let mut printed = String::new(alloc);
     let mut stage = Stage::new(alloc, Core::new(alloc), store);
     let mut is_over = false;
     for number in 1..u64::MAX {
         if is_beyond(number, is_over) {
-            return Err((PlayFault::Read, Some(stage.shut())));
+            return Err((PlayFault::Read, stage.shut()));
         }
         let coming = match next(&mut stage, alloc, number, is_over, &mut line, input) {
             Ok(coming) => coming,
-            Err(fault) => return Err((fault, Some(stage.shut()))),
+            Err(fault) => return Err((fault, stage.shut())),
         };
         let mut boxes: Vec<Box<dyn Branch + Send>> = Vec::new(alloc);
         for kind in &coming.wanted.kinds {
             let plan = plan_of(*kind);
             let Ok(branch) = Box::new(alloc, Scripted::new(plan, Phase::Active)) else {
-                return Err((PlayFault::Memory, Some(stage.shut())));
+                return Err((PlayFault::Memory, stage.shut()));
             };
             if add_box(&mut boxes, plan, Phase::Active, branch).is_err() {
-                return Err((PlayFault::Memory, Some(stage.shut())));
+                return Err((PlayFault::Memory, stage.shut()));
             }
         }
         let mut pool: Vec<Box<dyn Branch + Send>> = Vec::new(alloc);
         for _ in 0..coming.wanted.willing {
             let Ok(branch) = Box::new(alloc, Scripted::new(Plan::Yes, Phase::Ready)) else {
-                return Err((PlayFault::Memory, Some(stage.shut())));
+                return Err((PlayFault::Memory, stage.shut()));
             };
             if add_box(&mut pool, Plan::Yes, Phase::Ready, branch).is_err() {
-                return Err((PlayFault::Memory, Some(stage.shut())));
+                return Err((PlayFault::Memory, stage.shut()));
             }
         }
         if is_over {
@@ -295,7 +293,7 @@ fn act<S: RowLog + Drop, F: Refuser<S>, W: Write>(
     pool: &mut Vec<Box<dyn Branch + Send>>,
     printed: &mut String,
     output: &mut W,
-) -> Result<Stage<Declared<S>, Playing<StoredCore<S>>>, (PlayFault, Option<S>)>
+) -> Result<Stage<Declared<S>, Playing<StoredCore<S>>>, (PlayFault, S)>
     requires sound { IsSound stage }
     requires active { AreIn Active (map standing boxes.items) }
     requires willing { AreWilling (map standing pool.old.items) }
@@ -322,7 +320,7 @@ fn act<S: RowLog + Drop, F: Refuser<S>, W: Write>(
     match stage.act(alloc, refuser, line, boxes, pool, printed) {
         Ok(stage) => match write_front(output, printed.as_bytes()) {
             Ok(()) => Ok(stage),
-            Err(_) => Err((PlayFault::Write, Some(stage.shut()))),
+            Err(_) => Err((PlayFault::Write, stage.shut())),
         },
         Err((LineFault::NotUnderstood, store)) => match write_front(output, printed.as_bytes()) {
             Ok(()) => Err((PlayFault::Script { line: number }, store)),
@@ -340,7 +338,7 @@ fn finish<S: RowLog + Drop, W: Write>(
     pool: &mut Vec<Box<dyn Branch + Send>>,
     printed: &mut String,
     output: &mut W,
-) -> Result<S, (PlayFault, Option<S>)>
+) -> Result<S, (PlayFault, S)>
     requires sound { IsSound stage }
     requires willing { AreWilling (map standing pool.old.items) }
     ensures truth { Trusts S.keeping (store_of stage) (λ store. store)
@@ -362,7 +360,7 @@ fn finish<S: RowLog + Drop, W: Write>(
     match stage.finish(alloc, pool, printed) {
         Ok(store) => match write_front(output, printed.as_bytes()) {
             Ok(()) => Ok(store),
-            Err(_) => Err((PlayFault::Write, Some(store))),
+            Err(_) => Err((PlayFault::Write, store)),
         },
         Err((fault, store)) => Err((PlayFault::from(fault), store)),
     }

@@ -1,6 +1,6 @@
 -- Why the store is blamed where a script ends.
 use Rattle.std.proofs.Common.{◌≡◌, ◌≢◌, ◌+◌, ◌<◌, ◌⊎◌, ◌==◌, ◌∷◌, ℕ, zero, suc, Bool, true, false, List, [], length, map, option_map, Option, Some, None, arith, inl, inr, refl, sym, ap, ◌∙◌, subst}
-use Rattle.std.specs.Prelude.{◌%◌, ◌^◌, Err, IsErrOf, Ok, OnOk, Result, slice_get}
+use Rattle.std.specs.Prelude.{◌%◌, ◌^◌, Err, IfErr, IfOk, IsErrOf, Ok, OnOk, Result, slice_get}
 use Rattle.std.specs.Cmp.{unsigned_Decides}
 use Rattle.std.proofs.lemmas.Bool.{and_from, false≢true}
 use Rattle.std.proofs.lemmas.Option.{none-some, same_Some}
@@ -29,12 +29,12 @@ use Rattle.tip_core.specs.Hosted.{realm}
 use Rattle.tip_machine.specs.States.{State, started}
 use Rattle.tip_scene.proofs.Again.{after, boxes_of_recovery, boxes_of_rows, boxes_unadopted, mapped_at, same_lists, unmapped_at}
 use Rattle.tip_scene.specs.Acts.{Basis, Declaring, Playing, Stage, scene_of}
-use Rattle.tip_scene.specs.Blaming.{Accuses, AreUnread, CannotStart, HadTooFew, HasNoRenewal, HasRefused, IsAtFault, IsBlamed, IsNotRenewed, judged, specs_in, starting_from}
+use Rattle.tip_scene.specs.Blaming.{Accuses, AreUnread, Blames, CannotStart, HadTooFew, HasNoRenewal, HasRefused, IsAtFault, IsBlamed, IsNotRenewed, judged, specs_in, starting_from}
 use Rattle.tip_scene.specs.Boxes.{box_count, boxes_for, branch_count, row_count}
 use Rattle.tip_scene.specs.Faults.{of_act_fault}
 use Rattle.tip_scene.specs.Rising.{AreWaiting, IsWilling}
 use Rattle.tip_scene.specs.Scenes.{Moved, Scene}
-use Rattle.tip_scene.specs.Stages.{APlaying, AStage, Declared, Declares, IsDeclared, IsReliable, IsStage, Serves, store_of}
+use Rattle.tip_scene.specs.Stages.{APlaying, AStage, Declared, Declares, IsDeclared, IsStage, Serves, Trusts, store_of}
 use Rattle.tip_scene.specs.declared.declared.Declaration.{Declaration}
 use Rattle.tip_scene.specs.declared.stage.Stage.TheVariants as stage
 use Rattle.tip_scene.specs.Standing.{IsMoved, IsScene}
@@ -208,15 +208,31 @@ boxes_again (acting ∷ scene) = ap (λ n. boxes_for acting.world.rows + n) (box
 
 -- What a stage blames
 
+either : {A B C D : Type 0} → (A → C) → (B → D) → A ⊎ B → C ⊎ D
+either one other (inl a) = inl (one a)
+either one other (inr b) = inr (other b)
+
 module _ {S : Type 0} (kept : Keeping S) where
-  pub blames_on : {E : Type 0} (blame : E) (why because : S → Type 0) (lost gone : Type 0) (fault : E × Option S) → ((new : S) → why new → because new) → (lost → gone) → Accuses kept blame why lost fault → Accuses kept blame because gone fault
-  blames_on blame why because lost gone (fault, None) weaker losing is = λ same truth. losing (is same truth)
-  blames_on blame why because lost gone (fault, Some new) weaker losing is = λ same truth. weaker new (is same truth)
+  pub blames_on : {E : Type 0} (blame : E) (why because : S → Type 0) (few fewer : Type 0) (fault : E × S) → ((new : S) → why new → because new) → (few → fewer) → Accuses kept blame why few fault → Accuses kept blame because fewer fault
+  blames_on blame why because few fewer fault weaker lacking is = λ same truth. either (weaker fault.1) lacking (is same truth)
 
   -- as it is told of a line
-  pub told_on : (why because : S → Type 0) (lost gone : Type 0) (fault : ActFault) (store : Option S) (told : LineFault) → told ≡ of_act_fault fault → ((new : S) → why new → because new) → (lost → gone) → Accuses kept act.Store why lost (fault, store) → Accuses kept line.Store because gone (told, store)
-  told_on why because lost gone fault None told is weaker losing accuses = λ bad sure. losing (accuses (act_store fault (sym is ∙ bad)) sure)
-  told_on why because lost gone fault (Some new) told is weaker losing accuses = λ bad truth. weaker new (accuses (act_store fault (sym is ∙ bad)) truth)
+  pub told_on : (why because : S → Type 0) (few fewer : Type 0) (fault : ActFault) (store : S) (told : LineFault) → told ≡ of_act_fault fault → ((new : S) → why new → because new) → (few → fewer) → Accuses kept act.Store why few (fault, store) → Accuses kept line.Store because fewer (told, store)
+  told_on why because few fewer fault store told is weaker lacking accuses = λ bad truth. either (weaker store) lacking (accuses (act_store fault (sym is ∙ bad)) truth)
+
+  -- REALMS THAT RISE, whose store is the one from which they were read
+  module _ {T : Type 0} (store : T → S) (mid : S) where
+    pub risen_trusts : (old : S) (result : Result T (ActFault × S)) → IfOk result (λ x. store x ≡ mid) → IfErr result (λ fault. fault.1 ≡ mid) → (kept.is_true mid → kept.is_true old) → Trusts kept old store result
+    risen_trusts old (Ok x) same back trusts = λ truth. trusts (subst kept.is_true same truth)
+    risen_trusts old (Err fault) same back trusts = λ truth. trusts (subst kept.is_true back truth)
+
+    pub risen_so : (P : T → Type 0) (result : Result T (ActFault × S)) → IfOk result (λ x. store x ≡ mid) → (kept.is_true mid → IfOk result P) → IfOk result (λ x. kept.is_true (store x) → P x)
+    risen_so P (Ok x) same all = λ truth. all (subst kept.is_true same truth)
+    risen_so P (Err fault) same all = tt
+
+    pub risen_blamed : (why : S → Type 0) (few : Type 0) (result : Result T (ActFault × S)) → IfErr result (λ fault. fault.1 ≡ mid) → (kept.is_true mid → IfErr result (λ fault. fault.0 ≡ act.Store → few)) → Blames kept act.Store why few result
+    risen_blamed why few (Ok x) back lacks = tt
+    risen_blamed why few (Err fault) back lacks = λ bad truth. inr (lacks (subst kept.is_true back truth) bad)
 
   pub at_fault : (basis : Basis) (stage : AStage S) (now : Stage) (boxes : ℕ) (old new : S) → IsStage kept basis stage now → kept.faults (store_of stage) ≡ kept.faults old → IsAtFault kept boxes (store_of stage) now new → IsBlamed kept basis old new
   at_fault basis stage now boxes old new is same (inl since) = inl (refused_since kept old (store_of stage) new same since)
@@ -225,17 +241,16 @@ module _ {S : Type 0} (kept : Keeping S) where
   pub too_few : (basis : Basis) (stage : AStage S) (now : Stage) (boxes : ℕ) → IsStage kept basis stage now → boxes < box_count (starting_from basis now) → HadTooFew kept basis
   too_few basis stage now boxes is few = record { stage = stage; now = now; stands = is; boxes = boxes; few = few }
 
-  pub play_accused_at : {E : Type 0} (blame : E) (basis : Basis) (playing : APlaying S) (scene : Scene) (old : S) (boxes : ℕ) (fault : E × Option S) → (IsReliable kept fault.1 → kept.is_true playing.stored_core.store) → kept.faults playing.stored_core.store ≡ kept.faults old → (kept.is_true playing.stored_core.store → IsScene kept playing.stored_core playing.actors.items scene) →
+  pub play_accused_at : {E : Type 0} (blame : E) (basis : Basis) (playing : APlaying S) (scene : Scene) (old : S) (boxes : ℕ) (fault : E × S) → (kept.is_true fault.1 → kept.is_true playing.stored_core.store) → kept.faults playing.stored_core.store ≡ kept.faults old → (kept.is_true playing.stored_core.store → IsScene kept playing.stored_core playing.actors.items scene) →
       (IsScene kept playing.stored_core playing.actors.items scene → Accuses kept blame (IsAtFault kept boxes playing.stored_core.store (Playing scene)) (boxes < box_count scene) fault) → Accuses kept blame (IsBlamed kept basis old) (HadTooFew kept basis) fault
-  play_accused_at blame basis playing scene old boxes (fault, None) trusts same is accuses = λ bad sure. (let stands = is (trusts sure) in too_few basis (stage.Playing playing) (Playing scene) boxes stands (accuses stands bad sure))
-  play_accused_at blame basis playing scene old boxes (fault, Some new) trusts same is accuses = λ bad truth. (let stands = is (trusts truth) in at_fault basis (stage.Playing playing) (Playing scene) boxes old new stands same (accuses stands bad truth))
+  play_accused_at blame basis playing scene old boxes fault trusts same is accuses = λ bad truth. (let stands = is (trusts truth) in either (at_fault basis (stage.Playing playing) (Playing scene) boxes old fault.1 stands same) (too_few basis (stage.Playing playing) (Playing scene) boxes stands) (accuses stands bad truth))
 
-  pub play_accused : {E : Type 0} (blame : E) (basis : Basis) (playing : APlaying S) (now : Stage) (boxes : ℕ) (fault : E × Option S) → IsStage kept basis (stage.Playing playing) now →
+  pub play_accused : {E : Type 0} (blame : E) (basis : Basis) (playing : APlaying S) (now : Stage) (boxes : ℕ) (fault : E × S) → IsStage kept basis (stage.Playing playing) now →
       ((scene : Scene) → IsScene kept playing.stored_core playing.actors.items scene → Accuses kept blame (IsAtFault kept boxes playing.stored_core.store (Playing scene)) (boxes < box_count scene) fault) → Accuses kept blame (IsBlamed kept basis playing.stored_core.store) (HadTooFew kept basis) fault
   play_accused blame basis playing (Declaring declarations) boxes fault is accuses = absurd is
   play_accused blame basis playing (Playing scene) boxes fault is accuses = blames_on blame (IsAtFault kept boxes playing.stored_core.store (Playing scene)) (IsBlamed kept basis playing.stored_core.store) (boxes < box_count scene) (HadTooFew kept basis) fault (λ new. at_fault basis (stage.Playing playing) (Playing scene) boxes playing.stored_core.store new is refl) (too_few basis (stage.Playing playing) (Playing scene) boxes is) (accuses scene is)
 
-  pub start_accused : {E : Type 0} (blame : E) (basis : Basis) (realms : Declared S) (now : Stage) (boxes : ℕ) (fault : E × Option S) → IsStage kept basis (stage.Declaring realms) now →
+  pub start_accused : {E : Type 0} (blame : E) (basis : Basis) (realms : Declared S) (now : Stage) (boxes : ℕ) (fault : E × S) → IsStage kept basis (stage.Declaring realms) now →
       ((declarations : List Declaration) → IsDeclared kept basis realms declarations → Accuses kept blame (IsAtFault kept boxes realms.store (Declaring declarations)) (boxes < box_count (scene_of basis declarations)) fault) → Accuses kept blame (IsBlamed kept basis realms.store) (HadTooFew kept basis) fault
   start_accused blame basis realms (Declaring declarations) boxes fault is accuses = blames_on blame (IsAtFault kept boxes realms.store (Declaring declarations)) (IsBlamed kept basis realms.store) (boxes < box_count (scene_of basis declarations)) (HadTooFew kept basis) fault (λ new. at_fault basis (stage.Declaring realms) (Declaring declarations) boxes realms.store new is refl) (too_few basis (stage.Declaring realms) (Declaring declarations) boxes is) (accuses declarations is)
   start_accused blame basis realms (Playing scene) boxes fault is accuses = absurd is

@@ -1,12 +1,11 @@
 -- What is stored of realms that do nothing.
-use Rattle.std.proofs.Common.{◌≡◌, ◌≢◌, ◌+◌, ◌<◌, ◌≤◌, ℕ, zero, suc, Bool, true, false, cond, List, [], ◌∷◌, length, map, Option, Some, None, arith, inl, inr, refl, sym, ap, ◌∙◌, subst}
+use Rattle.std.proofs.Common.{◌≡◌, ◌+◌, ◌≤◌, ℕ, zero, suc, Bool, true, false, cond, List, [], ◌∷◌, length, map, Option, Some, None, arith, inl, inr, refl, sym, ap, ◌∙◌, subst}
 use Rattle.std.specs.Prelude.{◌||◌, ℤ, pos, is_some, nat_lt, option_map, slice_get, slice_set, unwrap_or}
-use Rattle.std.specs.List.{list_any}
 use Rattle.std.specs.Str.{bytes_eq}
 use Rattle.std.proofs.lemmas.Bool.Decides.{nat_tests}
 use Rattle.std.proofs.lemmas.Option.{none-some, same_Some}
 use Rattle.tip_rows.specs.Keys.{Key}
-use Rattle.tip_rows.specs.Logs.{IsAtEnd, IsPart, IsSpoiled, Keeping, Log, known, last_epoch, raised, raised_number, with_all_raised, with_known}
+use Rattle.tip_rows.specs.Logs.{IsAtEnd, IsPart, IsSpoiled, Keeping, Log, known, last_epoch, raised, with_known}
 use Rattle.tip_rows.specs.declared.row.Row.{Row}
 use Rattle.tip_stored.specs.Loading.{Loads, known_all, names_of, opened}
 use Rattle.tip_stored.proofs.Parts.{number_of}

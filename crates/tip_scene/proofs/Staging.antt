@@ -18,7 +18,7 @@ use Rattle.tip_script.specs.declared.instruction.Instruction.{Instruction}
 use Rattle.tip_script.specs.declared.instruction.Instruction.TheVariants as instruction
 use Rattle.tip_scene.specs.Acts.{Stage, Declaring, Playing, Acted, Basis, acted, acted_by, acts, acts_if, are_covered, declaration_of, declared, is_declared, labelled, labelled_at, may_be_declared, may_be_labelled, numbered, is_count, is_other, may_say, not_understood, scene_of, starts_text}
 use Rattle.tip_scene.specs.Scenes.{Scene, moved}
-use Rattle.tip_scene.specs.Stages.{APlaying, AStage, ActsSo, Declared, Declares, IsDeclared, IsBasis, IsReliable, IsStage, Moves}
+use Rattle.tip_scene.specs.Stages.{APlaying, AStage, ActsSo, Declared, Declares, IsDeclared, IsBasis, IsStage, Moves}
 use Rattle.tip_scene.specs.Standing.{IsScene, IsMoved}
 use Rattle.tip_scene.specs.declared.declared.Declaration.{Declaration}
 use Rattle.tip_scene.specs.declared.fault.LineFault.{LineFault}
@@ -77,7 +77,7 @@ module _ (basis : Basis) where
 
 module _ {S : Type 0} (kept : Keeping S) (basis : Basis) where
   -- before the realms have started
-  pub obeys_first : (realms : Declared S) (printed printed' : List ℕ) (move : Move) (result : Result (AStage S) (LineFault × Option S)) (now : Stage) → IsStage kept basis (stage.Declaring realms) now → ((declarations : List Declaration) → IsDeclared kept basis realms declarations → ActsSo kept basis printed printed' (acts basis (Declaring declarations) move) result) → ActsSo kept basis printed printed' (acts basis now move) result
+  pub obeys_first : (realms : Declared S) (printed printed' : List ℕ) (move : Move) (result : Result (AStage S) (LineFault × S)) (now : Stage) → IsStage kept basis (stage.Declaring realms) now → ((declarations : List Declaration) → IsDeclared kept basis realms declarations → ActsSo kept basis printed printed' (acts basis (Declaring declarations) move) result) → ActsSo kept basis printed printed' (acts basis now move) result
   obeys_first realms printed printed' move result (Declaring declarations) is obeys = obeys declarations is
   obeys_first realms printed printed' move result (Playing scene) is obeys = absurd is
 
@@ -94,7 +94,7 @@ module _ {S : Type 0} (kept : Keeping S) (basis : Basis) where
       )
 
   -- or may not be
-  pub declares_not : (realms realms' : Declared S) (declarations : List Declaration) (printed : List ℕ) (more : List Declaration → Option (List Declaration)) (result : Result (Unit {0}) LineFault) (why : LineFault) (store : Option S) → IsDeclared kept basis realms declarations → Declares (more realms.declarations.items) realms'.declarations.items result → result ≡ Err why →
+  pub declares_not : (realms realms' : Declared S) (declarations : List Declaration) (printed : List ℕ) (more : List Declaration → Option (List Declaration)) (result : Result (Unit {0}) LineFault) (why : LineFault) (store : S) → IsDeclared kept basis realms declarations → Declares (more realms.declarations.items) realms'.declarations.items result → result ≡ Err why →
       ActsSo kept basis printed printed (record { printed = []; stage = option_map Declaring (more declarations) }) (Err (why, store))
   declares_not realms realms' declarations printed more result fault.NotUnderstood store is said err = λ truth. (ap (option_map Declaring) (ap more (sym is.declared) ∙ subst (Declares (more realms.declarations.items) realms'.declarations.items) err said), sym (append-nil printed))
   declares_not realms realms' declarations printed more result fault.Memory store is said err = tt
@@ -108,7 +108,7 @@ module _ {S : Type 0} (kept : Keeping S) (basis : Basis) where
       let m = moves scene is truth in
       (Playing m.scene, ap (option_map Playing) m.is, m.stands, m.text)
 
-  pub plays_not : (playing : APlaying S) (printed printed' : List ℕ) (move : Move) (why : LineFault × Option S) (now : Stage) → IsStage kept basis (stage.Playing playing) now → ((scene : Scene) → IsScene kept playing.stored_core playing.actors.items scene → Moves kept printed printed' (moved move scene) (Err why)) →
+  pub plays_not : (playing : APlaying S) (printed printed' : List ℕ) (move : Move) (why : LineFault × S) (now : Stage) → IsStage kept basis (stage.Playing playing) now → ((scene : Scene) → IsScene kept playing.stored_core playing.actors.items scene → Moves kept printed printed' (moved move scene) (Err why)) →
       ActsSo kept basis printed printed' (acts basis now move) (Err why)
   plays_not playing printed printed' move why (Declaring declarations) is moves = absurd is
   plays_not playing printed printed' move (fault.NotUnderstood, store) (Playing scene) is moves = λ truth.
@@ -163,7 +163,7 @@ module _ {S : Type 0} (kept : Keeping S) (basis : Basis) (declarations : List De
       let m = (all truth).1 in
       (Playing m.scene, ap (λ (a : Acted). a.stage) (starts_first basis declarations i other unlabelled) ∙ ap (option_map Playing) m.is, m.stands, joined (all truth).0 m.text)
 
-  pub fails_first : (why : LineFault × Option S) → (IsReliable kept why.1 → between ≡ printed ++ starts_text basis declarations) → (IsReliable kept why.1 → Moves kept between printed' (moved (move_by i) (scene_of basis declarations)) (Err why)) → ActsSo kept basis printed printed' (acts basis (Declaring declarations) (move_by i)) (Err why)
+  pub fails_first : (why : LineFault × S) → (kept.is_true why.1 → between ≡ printed ++ starts_text basis declarations) → (kept.is_true why.1 → Moves kept between printed' (moved (move_by i) (scene_of basis declarations)) (Err why)) → ActsSo kept basis printed printed' (acts basis (Declaring declarations) (move_by i)) (Err why)
   fails_first (fault.NotUnderstood, store) text moves = λ truth.
       let m = moves truth truth in
       (ap (λ (a : Acted). a.stage) (starts_first basis declarations i other unlabelled) ∙ ap (option_map Playing) m.0, joined (text truth) m.1)

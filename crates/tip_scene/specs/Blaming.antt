@@ -1,5 +1,5 @@
 -- Why a script ends by its store.
-use Rattle.std.specs.Prelude.{◌≡◌, ◌≢◌, ◌⊎◌, ◌<◌, ℕ, Bool, true, false, List, [], map, Option, Some, None, Result, Ok, Err, slice_get}
+use Rattle.std.specs.Prelude.{◌≡◌, ◌≢◌, ◌⊎◌, ◌<◌, ℕ, Bool, true, false, List, [], map, Some, Result, Ok, Err, slice_get}
 use Rattle.tip_rows.specs.Logs.{Keeping, Log, IsSpoiled}
 use Rattle.tip_recovery.specs.Adopting.{Recovery}
 use Rattle.tip_stored.specs.Loading as Loading
@@ -17,7 +17,7 @@ use Rattle.tip_scene.specs.Rising.{IsWilling}
 use Rattle.tip_scene.specs.Scenes.{Scene}
 use Rattle.tip_scene.specs.declared.fault.LineFault.{LineFault}
 use Rattle.tip_scene.specs.declared.fault.LineFault.TheVariants as line
-use Rattle.tip_scene.specs.Stages.{AStage, IsReliable, IsStage, spec_of, store_of}
+use Rattle.tip_scene.specs.Stages.{AStage, IsStage, spec_of, store_of}
 
 -- the store has refused a call since: it counts them
 abbrev pub HasRefused : {S : Type 0} → Keeping S → S → S → Type 0
@@ -111,11 +111,10 @@ pub record HadTooFew {S : Type 0} (kept : Keeping S) (basis : Basis) : Type 0 wh
 abbrev pub IsBlamed : {S : Type 0} → Keeping S → Basis → S → S → Type 0
 IsBlamed kept basis old new = HasRefused kept old new ⊎ WasUnfit kept basis new
 
--- it is so where a fault blames it; one that is lost has another reason
-abbrev pub Accuses : {S E : Type 0} → Keeping S → E → (S → Type 0) → Type 0 → E × Option S → Type 0
-Accuses kept blame why lost (fault, None) = fault ≡ blame → IsReliable kept None → lost
-Accuses kept blame why lost (fault, Some new) = fault ≡ blame → kept.is_true new → why new
+-- it is so where a fault blames it, or there were too few boxes
+abbrev pub Accuses : {S E : Type 0} → Keeping S → E → (S → Type 0) → Type 0 → E × S → Type 0
+Accuses kept blame why few fault = fault.0 ≡ blame → kept.is_true fault.1 → why fault.1 ⊎ few
 
-abbrev pub Blames : {S T E : Type 0} → Keeping S → E → (S → Type 0) → Type 0 → Result T (E × Option S) → Type 0
-Blames kept blame why lost (Ok x) = Unit {0}
-Blames kept blame why lost (Err fault) = Accuses kept blame why lost fault
+abbrev pub Blames : {S T E : Type 0} → Keeping S → E → (S → Type 0) → Type 0 → Result T (E × S) → Type 0
+Blames kept blame why few (Ok x) = Unit {0}
+Blames kept blame why few (Err fault) = Accuses kept blame why few fault

@@ -60,15 +60,10 @@ pub record IsBasis {S : Type 0} (kept : Keeping S) (basis : Basis) (store : S) :
   pub before : (name : List ℕ) → basis.covers name ≡ true → IsPart log name (basis.before name).epoch (basis.before name).rows
   pub none_due : (name : List ℕ) → basis.covers name ≡ true → kept.is_due store name ≡ false
 
--- a store that comes back may be relied on; of one that does not, where memory ended in a start, nothing is known
-abbrev pub IsReliable : {S : Type 0} → Keeping S → Option S → Type 0
-IsReliable kept None = (store : _) → kept.is_true store
-IsReliable kept (Some store) = kept.is_true store
-
 -- who relies on the store afterwards may rely on it before
-abbrev pub Trusts : {S T E : Type 0} → Keeping S → S → (T → S) → Result T (E × Option S) → Type 0
+abbrev pub Trusts : {S T E : Type 0} → Keeping S → S → (T → S) → Result T (E × S) → Type 0
 Trusts kept old store (Ok x) = kept.is_true (store x) → kept.is_true old
-Trusts kept old store (Err fault) = IsReliable kept fault.1 → kept.is_true old
+Trusts kept old store (Err fault) = kept.is_true fault.1 → kept.is_true old
 
 -- The stage
 
@@ -98,9 +93,9 @@ Serves kept printed printed' moved playing (Err Memory) = Unit {0}
 Serves kept printed printed' moved playing (Err Store) = Unit {0}
 
 -- the same, as long as the store may be relied on
-abbrev pub Moves : {S : Type 0} → Keeping S → List ℕ → List ℕ → Moved → Result (APlaying S) (LineFault × Option S) → Type 0
+abbrev pub Moves : {S : Type 0} → Keeping S → List ℕ → List ℕ → Moved → Result (APlaying S) (LineFault × S) → Type 0
 Moves kept printed printed' moved (Ok playing) = kept.is_true playing.stored_core.store → IsMoved kept playing.stored_core playing.actors.items printed printed' moved
-Moves kept printed printed' moved (Err (NotUnderstood, store)) = IsReliable kept store → (moved.scene ≡ None) × (printed' ≡ printed ++ moved.printed)
+Moves kept printed printed' moved (Err (NotUnderstood, store)) = kept.is_true store → (moved.scene ≡ None) × (printed' ≡ printed ++ moved.printed)
 Moves kept printed printed' moved (Err (Memory, store)) = Unit {0}
 Moves kept printed printed' moved (Err (Store, store)) = Unit {0}
 
@@ -112,9 +107,9 @@ ComeWith line boxes = (move : Move) → line ≡ Some move → badges_of boxes �
 abbrev pub AreWanted : Option Move → Wanted → Type 0
 AreWanted line wanted = (move : Move) → line ≡ Some move → plans_of wanted.kinds.items ≡ plans_with move
 
-abbrev pub ActsSo : {S : Type 0} → Keeping S → Basis → List ℕ → List ℕ → Acted → Result (AStage S) (LineFault × Option S) → Type 0
+abbrev pub ActsSo : {S : Type 0} → Keeping S → Basis → List ℕ → List ℕ → Acted → Result (AStage S) (LineFault × S) → Type 0
 ActsSo kept basis printed printed' acted (Ok code) = kept.is_true (store_of code) → (now : Stage) × (acted.stage ≡ Some now) × IsStage kept basis code now × (printed' ≡ printed ++ acted.printed)
-ActsSo kept basis printed printed' acted (Err (NotUnderstood, store)) = IsReliable kept store → (acted.stage ≡ None) × (printed' ≡ printed ++ acted.printed)
+ActsSo kept basis printed printed' acted (Err (NotUnderstood, store)) = kept.is_true store → (acted.stage ≡ None) × (printed' ≡ printed ++ acted.printed)
 ActsSo kept basis printed printed' acted (Err (Memory, store)) = Unit {0}
 ActsSo kept basis printed printed' acted (Err (Store, store)) = Unit {0}
 

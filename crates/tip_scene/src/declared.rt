@@ -114,14 +114,14 @@ impl<S: RowLog + Drop> Declared<S, Core> {
         declaration.label(alloc, labels)
     }
 
-    /// The realms start, and say in which epoch; each branch of a stored row has a box out of this pool. At a fault the store comes
-    /// back, but where memory ends in the start.
+    /// The realms start, and say in which epoch; each branch of a stored row has a box out of this pool. The store comes back at a
+    /// fault, too.
     pub fn start(
         self,
         alloc: Global,
         pool: &mut Vec<Box<dyn Branch + Send>>,
         printed: &mut String,
-    ) -> Result<Playing<StoredCore<S>>, (ActFault, Option<S>)>
+    ) -> Result<Playing<StoredCore<S>>, (ActFault, S)>
         requires hostable { list_all may_be_hosted self.declarations.items ≡ true }
         requires willing { AreWilling (map standing pool.old.items) }
         ensures willing { OnOk result (AreWilling (map standing pool.new.items)) }
@@ -154,14 +154,11 @@ impl<S: RowLog + Drop> Declared<S, Core> {
             declarations,
         } = self;
         let Ok((actors, specs)) = parts_of(alloc, declarations) else {
-            return Err((ActFault::Memory, Some(store)));
+            return Err((ActFault::Memory, store));
         };
         match StoredCore::load(alloc, store, core, specs) {
-            Ok(recovering) => match rise(alloc, recovering, actors, pool, printed) {
-                Ok(playing) => Ok(playing),
-                Err(fault) => Err((fault, None)),
-            },
-            Err((fault, store)) => Err((ActFault::from(fault), Some(store))),
+            Ok(recovering) => rise(alloc, recovering, actors, pool, printed),
+            Err((fault, store)) => Err((ActFault::from(fault), store)),
         }
     }
 

@@ -41,8 +41,7 @@ pub struct Playing<H, A = Actor> {
 
 impl<S: RowLog + Drop> Playing<StoredCore<S>, Actor> {
     /// Does what a line says, with the boxes that come with it, and willing ones for rows out of a pool; then all lines of its
-    /// realm that may be taken are taken. `NotUnderstood` where the line may not stand here. At a fault the store comes back, but
-    /// where memory ends in a start.
+    /// realm that may be taken are taken. `NotUnderstood` where the line may not stand here. The store comes back at a fault, too.
     pub fn act<R: Refuser<S>>(
         mut self,
         alloc: Global,
@@ -51,7 +50,7 @@ impl<S: RowLog + Drop> Playing<StoredCore<S>, Actor> {
         boxes: Vec<Box<dyn Branch + Send>>,
         pool: &mut Vec<Box<dyn Branch + Send>>,
         printed: &mut String,
-    ) -> Result<Playing<StoredCore<S>>, (LineFault, Option<S>)>
+    ) -> Result<Playing<StoredCore<S>>, (LineFault, S)>
         requires running { self.stored_core.is_stopped ≡ false }
         requires active { AreIn Active (map standing boxes.items) }
         requires willing { AreWilling (map standing pool.old.items) }
@@ -84,7 +83,7 @@ impl<S: RowLog + Drop> Playing<StoredCore<S>, Actor> {
         };
         match self.serve(alloc, refuser, realm, instruction, boxes, pool, printed) {
             Ok(()) => Ok(self),
-            Err(fault) => Err((fault, Some(self.stored_core.shut()))),
+            Err(fault) => Err((fault, self.stored_core.shut())),
         }
     }
 

@@ -1,5 +1,5 @@
 //! The process of a script starts again.
-ghost use Rattle.std.specs.Prelude.{◌≡◌, ◌<◌, ◌++◌, ◌==◌, ℕ, false, length, map, IsErrOf, IfOk, OnOk, option_map, slice_get, string_bytes};
+ghost use Rattle.std.specs.Prelude.{◌≡◌, ◌<◌, ◌++◌, ◌==◌, ℕ, false, length, map, IfErr, IfOk, OnOk, option_map, slice_get, string_bytes};
 ghost use Rattle.std.specs.List.{flat_map, list_any};
 ghost use Rattle.tip_actor.specs.Acting.{is_at_end, restarts};
 ghost use Rattle.tip_core.specs.Hosted.{realm as realm_at};
@@ -26,13 +26,13 @@ use tip_rows::RowLog;
 use tip_stored::{RealmSpec, Recovering, StoredCore};
 
 /// The process starts again: of what the realms were only their rows stay, and each branch of a row has a box out of this pool.
-/// `NotUnderstood` where a realm is in its last epoch. At a fault the store comes back, but where memory ends in the start.
+/// `NotUnderstood` where a realm is in its last epoch. The store comes back at a fault, too.
 pub(crate) fn restart<S: RowLog + Drop>(
     playing: Playing<StoredCore<S>>,
     alloc: Global,
     pool: &mut Vec<Box<dyn Branch + Send>>,
     printed: &mut String,
-) -> Result<Playing<StoredCore<S>>, (LineFault, Option<S>)>
+) -> Result<Playing<StoredCore<S>>, (LineFault, S)>
     requires { AreWilling (map standing pool.old.items) }
     ensures running { IfOk result (λ again. again.stored_core.is_stopped ≡ false) }
     ensures truth { Trusts S.keeping playing.stored_core.store
@@ -58,18 +58,18 @@ pub(crate) fn restart<S: RowLog + Drop>(
         actors,
     } = playing;
     if is_any_at_end(stored_core.core.heads()) {
-        return Err((LineFault::NotUnderstood, Some(stored_core.shut())));
+        return Err((LineFault::NotUnderstood, stored_core.shut()));
     }
     let specs = match leave(alloc, &stored_core, &actors, printed) {
         Ok(specs) => specs,
-        Err(AllocError) => return Err((LineFault::Memory, Some(stored_core.shut()))),
+        Err(AllocError) => return Err((LineFault::Memory, stored_core.shut())),
     };
     match stored_core.restart(alloc, specs) {
         Ok(recovering) => match rise_again(alloc, recovering, actors, pool, printed) {
             Ok(playing) => Ok(playing),
-            Err(fault) => Err((LineFault::from(fault), None)),
+            Err((fault, store)) => Err((LineFault::from(fault), store)),
         },
-        Err((fault, store)) => Err((LineFault::from(ActFault::from(fault)), Some(store))),
+        Err((fault, store)) => Err((LineFault::from(ActFault::from(fault)), store)),
     }
 }
 
@@ -98,12 +98,13 @@ fn rise_again<S: RowLog + Drop>(
     actors: Vec<Actor>,
     pool: &mut Vec<Box<dyn Branch + Send>>,
     printed: &mut String,
-) -> Result<Playing<StoredCore<S>>, ActFault>
+) -> Result<Playing<StoredCore<S>>, (ActFault, S)>
     requires { AreWilling (map standing pool.old.items) }
     ensures running { IfOk result (λ playing. playing.stored_core.is_stopped ≡ false) }
     ensures few { (scene : Scene) → AreWaiting S.keeping recovering scene →
-        IsErrOf result ActFault.Store → length pool.old.items < box_count scene }
+        IfErr result (λ fault. fault.0 ≡ ActFault.Store → length pool.old.items < box_count scene) }
     ensures store { IfOk result (λ playing. playing.stored_core.store ≡ recovering.store) }
+    ensures back { IfErr result (λ fault. fault.1 ≡ recovering.store) }
     ensures text { (scene : Scene) → AreAgain actors.items scene →
         AreWaiting S.keeping recovering scene →
         IfOk result (λ playing. string_bytes printed.new
@@ -113,7 +114,10 @@ fn rise_again<S: RowLog + Drop>(
         IfOk result (λ playing. IsScene S.keeping playing.stored_core
         playing.actors.items scene) }
 {
-    rise(alloc, recovering, anew(alloc, actors)?, pool, printed)
+    match anew(alloc, actors) {
+        Ok(actors) => rise(alloc, recovering, actors, pool, printed),
+        Err(AllocError) => Err((ActFault::Memory, recovering.into_store())),
+    }
 }
 
 /// Whether a realm is in its last epoch.

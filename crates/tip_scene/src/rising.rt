@@ -1,5 +1,5 @@
 //! Realms that have started, and are put to work.
-ghost use Rattle.std.specs.Prelude.{◌≡◌, ◌<◌, ◌++◌, ℕ, [], false, true, length, map, IfOk, IsErrOf, OnOk, string_bytes};
+ghost use Rattle.std.specs.Prelude.{◌≡◌, ◌<◌, ◌++◌, ℕ, [], false, true, length, map, IfErr, IfOk, OnOk, string_bytes};
 ghost use Rattle.std.specs.List.{flat_map};
 ghost use Rattle.tip_machine.specs.Answers.{identifier};
 ghost use Rattle.tip_rows.specs.Rows.{branches_of};
@@ -29,13 +29,14 @@ pub(crate) fn rise<S: RowLog + Drop>(
     actors: Vec<Actor>,
     pool: &mut Vec<Box<dyn Branch + Send>>,
     printed: &mut String,
-) -> Result<Playing<StoredCore<S>>, ActFault>
+) -> Result<Playing<StoredCore<S>>, (ActFault, S)>
     requires { AreWilling (map standing pool.old.items) }
     ensures willing { OnOk result (AreWilling (map standing pool.new.items)) }
     ensures running { IfOk result (λ playing. playing.stored_core.is_stopped ≡ false) }
-    ensures few { (scene : Scene) → AreWaiting S.keeping recovering scene → IsErrOf result Store →
-        length pool.old.items < box_count scene }
+    ensures few { (scene : Scene) → AreWaiting S.keeping recovering scene →
+        IfErr result (λ fault. fault.0 ≡ Store → length pool.old.items < box_count scene) }
     ensures store { IfOk result (λ playing. playing.stored_core.store ≡ recovering.store) }
+    ensures back { IfErr result (λ fault. fault.1 ≡ recovering.store) }
     ensures text { (scene : Scene) → AreNew actors.items scene →
         AreWaiting S.keeping recovering scene →
         IfOk result (λ playing. string_bytes printed.new
@@ -45,23 +46,30 @@ pub(crate) fn rise<S: RowLog + Drop>(
         IfOk result (λ playing. IsScene S.keeping playing.stored_core
         playing.actors.items scene) }
 {
-    let lots = dealt_to_all(alloc, pool, recovering.realms())?;
+    let lots = match dealt_to_all(alloc, pool, recovering.realms()) {
+        Ok(lots) => lots,
+        Err(fault) => return Err((fault, recovering.into_store())),
+    };
     // only of a store that can be relied on does a load say that nothing was adopted for its rows
     if !recovering.adopt_all(lots) {
-        return Err(ActFault::Store);
+        return Err((ActFault::Store, recovering.into_store()));
     }
-    Ok(begin(recovering, actors, printed)?)
+    match begin(recovering, actors, printed) {
+        Ok(playing) => Ok(playing),
+        Err(store) => Err((ActFault::Memory, store)),
+    }
 }
 
-/// Realms that have started say so, and are at work.
+/// Realms that have started say so, and are at work. The store comes back where memory ends.
 fn begin<S: RowLog + Drop>(
     recovering: Recovering<S>,
     actors: Vec<Actor>,
     printed: &mut String,
-) -> Result<Playing<StoredCore<S>>, AllocError>
+) -> Result<Playing<StoredCore<S>>, S>
     requires { all_adopted recovering.realms ≡ true }
     ensures running { IfOk result (λ playing. playing.stored_core.is_stopped ≡ false) }
     ensures store { IfOk result (λ playing. playing.stored_core.store ≡ recovering.store) }
+    ensures back { IfErr result (λ store. store ≡ recovering.store) }
     ensures text { (scene : Scene) → AreNew actors.items scene →
         AreRising S.keeping recovering scene →
         IfOk result (λ playing. string_bytes printed.new
@@ -71,7 +79,9 @@ fn begin<S: RowLog + Drop>(
         IfOk result (λ playing. IsScene S.keeping playing.stored_core
         playing.actors.items scene) }
 {
-    print_openings(printed, &recovering, &actors)?;
+    if print_openings(printed, &recovering, &actors).is_err() {
+        return Err(recovering.into_store());
+    }
     match recovering.begin() {
         Ok(stored_core) => Ok(Playing {
             stored_core,

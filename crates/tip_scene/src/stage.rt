@@ -46,8 +46,8 @@ impl<S: RowLog + Drop> Stage<Declared<S>, Playing<StoredCore<S>>> {
         Stage::Declaring(Declared::new(alloc, core, store))
     }
 
-    /// Does what a line says, with the boxes that come with it, and willing ones for rows out of a pool. At a fault the store comes
-    /// back, but where memory ends in a start.
+    /// Does what a line says, with the boxes that come with it, and willing ones for rows out of a pool. The store comes back at a
+    /// fault, too.
     pub fn act<R: Refuser<S>>(
         self,
         alloc: Global,
@@ -56,7 +56,7 @@ impl<S: RowLog + Drop> Stage<Declared<S>, Playing<StoredCore<S>>> {
         boxes: Vec<Box<dyn Branch + Send>>,
         pool: &mut Vec<Box<dyn Branch + Send>>,
         printed: &mut String,
-    ) -> Result<Stage<Declared<S>, Playing<StoredCore<S>>>, (LineFault, Option<S>)>
+    ) -> Result<Stage<Declared<S>, Playing<StoredCore<S>>>, (LineFault, S)>
         requires sound { IsSound self }
         requires active { AreIn Active (map standing boxes.items) }
         requires willing { AreWilling (map standing pool.old.items) }
@@ -87,18 +87,18 @@ impl<S: RowLog + Drop> Stage<Declared<S>, Playing<StoredCore<S>>> {
             Some(instruction) if may_say(refuser.may_refuse(), instruction) => {
                 self.obey(alloc, refuser, instruction, boxes, pool, printed)
             }
-            _ => Err((LineFault::NotUnderstood, Some(self.shut()))),
+            _ => Err((LineFault::NotUnderstood, self.shut())),
         }
     }
 
-    /// The script has ended: the realms start, if they have not, and the store comes back. At a fault it does, too, but where
-    /// memory ends in the start. Once they have started nothing grows here, and there is no fault.
+    /// The script has ended: the realms start, if they have not, and the store comes back, at a fault, too. Once they have started
+    /// nothing grows here, and there is no fault.
     pub fn finish(
         self,
         alloc: Global,
         pool: &mut Vec<Box<dyn Branch + Send>>,
         printed: &mut String,
-    ) -> Result<S, (ActFault, Option<S>)>
+    ) -> Result<S, (ActFault, S)>
         requires sound { IsSound self }
         requires willing { AreWilling (map standing pool.old.items) }
         ensures truth { Trusts S.keeping (store_of self)
@@ -250,7 +250,7 @@ impl<S: RowLog + Drop> Stage<Declared<S>, Playing<StoredCore<S>>> {
         boxes: Vec<Box<dyn Branch + Send>>,
         pool: &mut Vec<Box<dyn Branch + Send>>,
         printed: &mut String,
-    ) -> Result<Stage<Declared<S>, Playing<StoredCore<S>>>, (LineFault, Option<S>)>
+    ) -> Result<Stage<Declared<S>, Playing<StoredCore<S>>>, (LineFault, S)>
         requires sound { IsSound self }
         requires active { AreIn Active (map standing boxes.items) }
         requires willing { AreWilling (map standing pool.old.items) }
@@ -296,7 +296,7 @@ fn declare<S: RowLog + Drop, R: Refuser<S>>(
     boxes: Vec<Box<dyn Branch + Send>>,
     pool: &mut Vec<Box<dyn Branch + Send>>,
     printed: &mut String,
-) -> Result<Stage<Declared<S>, Playing<StoredCore<S>>>, (LineFault, Option<S>)>
+) -> Result<Stage<Declared<S>, Playing<StoredCore<S>>>, (LineFault, S)>
     requires hostable { list_all may_be_hosted declared.declarations.items ≡ true }
     requires active { AreIn Active (map standing boxes.items) }
     requires willing { AreWilling (map standing pool.old.items) }
@@ -341,7 +341,7 @@ fn declare<S: RowLog + Drop, R: Refuser<S>>(
     };
     match noted {
         Ok(()) => Ok(Stage::Declaring(declared)),
-        Err(fault) => Err((fault, Some(declared.store))),
+        Err(fault) => Err((fault, declared.store)),
     }
 }
 

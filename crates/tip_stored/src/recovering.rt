@@ -53,7 +53,8 @@ impl<S: RowLog> Recovering<S> {
     /// All realms, in the order of declaration.
     pub fn realms(&self) -> &[Recovery]
         requires { Always }
-        ensures { result.now ≡ self.now.realms }
+        ensures same { result.now ≡ self.now.realms }
+        ensures begun { HaveBegun self.now.core self.now.realms }
     {
         &self.realms
     }

@@ -1,7 +1,7 @@
 -- Lines that are read and played, one after another.
 use Rattle.std.proofs.Common.{◌∙◌, ◌++◌, ◌∷◌, [], ap, arith, inl, map, refl, subst, sym, Err, Ok}
 use Rattle.std.proofs.lemmas.Result.{err_from_is_err_and}
-use Rattle.tip_scene.specs.Stages.{IsReliable, IsStage, store_of}
+use Rattle.tip_scene.specs.Stages.{IsStage, store_of}
 use Rattle.script_lines.specs.Lines.{Reads}
 use Rattle.tip_actor.specs.Acting.{boxes_of}
 use Rattle.tip_branch.specs.Lots.{AreIn, badges_of}
@@ -162,7 +162,7 @@ returns-in_err-stage-clause-transcribes g c = λ basis may on.
     let letters = c.deref-kind-items.result.now in
     let come = a_line g.S.RowLog.keeping basis c.loop-number.is_over left left' c.loop-number.number c.next.new.line.octets.items c.in-Ok-next.coming c.if-is_over.false c.in-Ok-next.ensures.coming in
     let reads : Reads left left' text (Ok c.in-Ok-next.coming.end) = subst (λ l. Reads left left' l (Ok c.in-Ok-next.coming.end)) (sym c.as_slice-text.ensures) come.0 in
-    rw (e.1, e.2) (relying g.S.RowLog.keeping basis whole (λ script. Transcribes basis script left' old new (Err why.0)) (IsReliable g.S.RowLog.keeping why.1)
+    rw (e.1, e.2) (relying g.S.RowLog.keeping basis whole (λ script. Transcribes basis script left' old new (Err why.0)) (g.S.RowLog.keeping.is_true why.1)
     (λ covers is.
     let going = still_going g.S.RowLog.keeping basis c.loop-number.is_over stage c.loop-number.number whole left old mid c.if-is_over.false (c.loop-number.invariant.goes basis may on covers (c.next.ensures.truth (subst (λ s. g.S.RowLog.keeping.is_true (store_of s)) (c.loop.invariant.same ∙ c.loop-kind.invariant.same) (c.in_err-stage.ensures.truth is)))) in
     line_fails g.S.RowLog.keeping basis stage c.loop-number.number whole left left' old mid new text c.in-Ok-next.coming.end why.0
@@ -219,7 +219,7 @@ returns-in-Err-clause-blames g c = λ asks basis may on script whole covers is t
     let kept = g.S.RowLog.keeping in
     let left = subst kept.is_true c.shut-in-Err.ensures truth in
     let now = stands_so kept basis c.loop-number.is_over c.loop-number.stage c.loop-number.number (g.R.Read.remaining c.args.input.now) (g.R.Read.remaining c.loop-number.input) (g.W.Write.contents c.args.output.now) (g.W.Write.contents c.loop-number.output) (c.loop-number.invariant.goes basis may on (script, whole, covers) (c.next.ensures.truth left)) in
-    inl (refused_here kept c.args.store (store_of c.loop-number.stage) (store_of c.next.new.stage) _ (c.loop-number.invariant.counts asks) c.shut-in-Err.ensures (c.next.ensures.blames basis now.0 now.1 (is_err_of c.next.result c.in-Err.fault _ c.in-Err.is is) left))
+    inl (inl (refused_here kept c.args.store (store_of c.loop-number.stage) (store_of c.next.new.stage) _ (c.loop-number.invariant.counts asks) c.shut-in-Err.ensures (c.next.ensures.blames basis now.0 now.1 (is_err_of c.next.result c.in-Err.fault _ c.in-Err.is is) left)))
 
 pub returns-then-is_over-clause-blames : goal.returns-then-is_over-clause-blames
 returns-then-is_over-clause-blames g c = λ asks basis may on script whole covers.

@@ -57,10 +57,10 @@ pub returns-in-Err-noted-clause-acts : goal.returns-in-Err-noted-clause-acts
 returns-in-Err-noted-clause-acts g c = λ basis declarations is may boxes covers.
     let printed = string_bytes c.args.printed.now in
     elim c.match-instruction.branch [
-      | in-Realm w ↦ subst (λ i. ActsSo g.S.RowLog.keeping basis printed printed (acts basis (Declaring declarations) (move_by i)) (Err (c.in-Err-noted.fault, Some c.match-instruction.declared.store))) (sym w.in-Realm.is)
-          (declares_not g.S.RowLog.keeping basis c.args.declared w.add-noted.new.self declarations printed (declared w.in-Realm.name.now w.in-Realm.address.now w.in-Realm.branches w.in-Realm.limits) w.add-noted.result c.in-Err-noted.fault (Some c.match-instruction.declared.store) is w.add-noted.ensures.declares (sym w.noted-is ∙ c.in-Err-noted.is))
-      | in-Labels w ↦ subst (λ i. ActsSo g.S.RowLog.keeping basis printed printed (acts basis (Declaring declarations) (move_by i)) (Err (c.in-Err-noted.fault, Some c.match-instruction.declared.store))) (sym w.in-Labels.is)
-          (declares_not g.S.RowLog.keeping basis c.args.declared w.label-noted.new.self declarations printed (labelled w.in-Labels.realm.now (fields_of 32 w.in-Labels.labels.now)) w.label-noted.result c.in-Err-noted.fault (Some c.match-instruction.declared.store) is w.label-noted.ensures.declares (sym w.noted-is ∙ c.in-Err-noted.is))
+      | in-Realm w ↦ subst (λ i. ActsSo g.S.RowLog.keeping basis printed printed (acts basis (Declaring declarations) (move_by i)) (Err (c.in-Err-noted.fault, c.match-instruction.declared.store))) (sym w.in-Realm.is)
+          (declares_not g.S.RowLog.keeping basis c.args.declared w.add-noted.new.self declarations printed (declared w.in-Realm.name.now w.in-Realm.address.now w.in-Realm.branches w.in-Realm.limits) w.add-noted.result c.in-Err-noted.fault c.match-instruction.declared.store is w.add-noted.ensures.declares (sym w.noted-is ∙ c.in-Err-noted.is))
+      | in-Labels w ↦ subst (λ i. ActsSo g.S.RowLog.keeping basis printed printed (acts basis (Declaring declarations) (move_by i)) (Err (c.in-Err-noted.fault, c.match-instruction.declared.store))) (sym w.in-Labels.is)
+          (declares_not g.S.RowLog.keeping basis c.args.declared w.label-noted.new.self declarations printed (labelled w.in-Labels.realm.now (fields_of 32 w.in-Labels.labels.now)) w.label-noted.result c.in-Err-noted.fault c.match-instruction.declared.store is w.label-noted.ensures.declares (sym w.noted-is ∙ c.in-Err-noted.is))
     ]
 
 pub returns-in-Err-clause-blames : goal.returns-in-Err-clause-blames

@@ -7,14 +7,14 @@ use Rattle.tip_host.proofs.host.Host.open.Goals as goal
 
 pub invariant_of-result : goal.invariant_of-result
 invariant_of-result g c =
-    let same = c.realms.ensures in
+    let same = c.realms.ensures.same in
     opens_honest c.args.recovering.core c.in-Ok-begin.stored.core c.args.recovering.realms _
     (c.in-Ok.ensures.journals ∙ ap (map opened) same) (c.in-Ok.ensures.retired ∙ ap (map (λ recovery. none_retired)) same) (subst (λ rs. AreTaken (length rs) c.in-Ok.rows rs) same c.in-Ok.ensures.rows) (c.in-Ok.ensures.count ∙ ap length same)
     (λ place. (λ i. c.new-3.ensures place i ++ c.new-2.ensures place i)) c.in-Ok-begin.ensures.realms c.in-Ok-begin.ensures.anew c.in-Ok-begin.ensures.adopted
 
 pub returns-in-Ok-begin-clause-opened : goal.returns-in-Ok-begin-clause-opened
 returns-in-Ok-begin-clause-opened g c =
-    let same = c.realms.ensures in
+    let same = c.realms.ensures.same in
     let taken = subst (λ rs. AreTaken (length rs) c.in-Ok.rows rs) same c.in-Ok.ensures.rows in
     let count = c.in-Ok.ensures.count ∙ ap length same in
     let none = c.in-Ok.ensures.retired ∙ ap (map (λ recovery. none_retired)) same in
