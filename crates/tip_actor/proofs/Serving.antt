@@ -16,7 +16,7 @@ use Rattle.tip_machine.specs.declared.event.Change.{Change}
 use Rattle.tip_machine.specs.declared.event.Outcome.{Outcome}
 use Rattle.tip_machine.specs.declared.event.Outcome.TheVariants.{NoChange, Stored, Refused}
 use Rattle.tip_rows.specs.Keys.{Key}
-use Rattle.tip_rows.specs.Logs.{Keeping, Log}
+use Rattle.tip_rows.specs.Logs.{Keeping}
 use Rattle.tip_rows.specs.declared.row.Row.{Row}
 use Rattle.tip_actor.specs.Acting.{outcome_of, still_due}
 use Rattle.tip_actor.specs.Standing.{Happened, StoredCore, IsServed, IsStored, Serves}

@@ -1,5 +1,5 @@
 -- What is wrong in a store (ours): what keeps it from starting, is never looked at, or lets an identifier be given twice.
-use Rattle.std.specs.Prelude.{◌≡◌, ℕ, ℤ, ◌<◌, ◌==◌, ◌&&◌, Bool, true, false, not, List, [], Option, Some, None, find, is_none, is_some, nat_lt, option_map, string_bytes, if◌then◌else◌}
+use Rattle.std.specs.Prelude.{ℕ, ℤ, ◌==◌, ◌&&◌, Bool, false, List, Option, Some, None, find, is_none, is_some, nat_lt, option_map, string_bytes, if◌then◌else◌}
 use Rattle.std.specs.List.{list_all}
 use Rattle.std.specs.Str.{bytes_eq}
 use Rattle.sqlite.specs.declared.types.Value.TheVariants.{Int}

@@ -1,13 +1,11 @@
 -- An honest run that goes on, at a realm whose journals of earlier processes stand in front.
 use Rattle.std.proofs.Common.{◌≡◌, ◌<◌, ◌++◌, ◌∷◌, ℕ, Bool, true, false, cond, List, [], Some, length, append-nil, append_assoc, arith, refl, ap, sym, subst, ◌∙◌}
 use Rattle.std.specs.Option.{option_to_list}
-use Rattle.std.proofs.lemmas.Bool.{and_from}
 use Rattle.tip_agreement.proofs.Runs.{led_on, run_on, run_one}
 use Rattle.tip_branch.specs.Notes.{PartyNotes}
 use Rattle.tip_branch.specs.declared.branch.Badge.{Badge}
-use Rattle.tip_journal.specs.Journal.{begun}
 use Rattle.tip_machine.specs.Honest.{can_start, is_honest}
-use Rattle.tip_machine.specs.Moves.{Move, World, loaded, lost_from, moved, picked, restarted_from, rows_after}
+use Rattle.tip_machine.specs.Moves.{Move, World, lost_from, moved, picked, restarted_from, rows_after}
 use Rattle.tip_machine.specs.States.{State}
 use Rattle.tip_machine.specs.Steps.{fits, is_open, step, wants}
 use Rattle.tip_machine.specs.Types.{Event}

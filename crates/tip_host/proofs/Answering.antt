@@ -1,8 +1,7 @@
 -- What the caller of an event knows of it who does not know the host.
-use Rattle.std.proofs.Common.{◌≡◌, ◌⊎◌, ◌+◌, ◌∙◌, ◌++◌, ◌∷◌, [], ℕ, Bool, true, false, List, Option, Some, None, length, ap, inl, inr, refl, subst, sym}
+use Rattle.std.proofs.Common.{◌≡◌, ◌+◌, ◌∙◌, ◌++◌, ◌∷◌, [], ℕ, Bool, true, false, List, Option, Some, None, length, ap, inl, inr, refl, subst, sym}
 use Rattle.std.specs.Prelude.{IfSome, IsSomeAnd, if◌then◌else◌}
 use Rattle.std.specs.Option.{option_map}
-use Rattle.std.proofs.lemmas.Option.{none-some, same_Some}
 use Rattle.tip_core.specs.Hosted.{realm}
 use Rattle.tip_honest.specs.Honesty.{Journal, StandsFor}
 use Rattle.tip_journal.specs.Fits.{Fits}
@@ -10,7 +9,7 @@ use Rattle.tip_journal.specs.Journal.{at_number, with_room}
 use Rattle.tip_journal.specs.Journals.{current, entries_of, epoch_at, epoch_of, last_number}
 use Rattle.tip_journal.specs.Pass.{last_own}
 use Rattle.tip_machine.specs.States.{State}
-use Rattle.tip_machine.specs.Steps.{is_open, step}
+use Rattle.tip_machine.specs.Steps.{is_open}
 use Rattle.tip_machine.specs.Types.{Event}
 use Rattle.tip_machine.specs.declared.event.Outcome.{Outcome}
 use Rattle.tip_rows.specs.Logs.{Keeping}

@@ -15,9 +15,8 @@ use Rattle.tip_machine.specs.Steps.{fits, wants}
 use Rattle.tip_machine.specs.Types.{Event}
 use Rattle.tip_machine.specs.declared.event.Change.{Change}
 use Rattle.tip_machine.specs.declared.event.Outcome.{Outcome}
-use Rattle.tip_rows.specs.Logs.{Keeping, Log}
+use Rattle.tip_rows.specs.Logs.{Keeping}
 use Rattle.tip_outbox.specs.Waiting.{sent_to}
-use Rattle.tip_table.specs.Kept.{of}
 use Rattle.tip_kept.specs.Keeping.{room_at}
 use Rattle.tip_host.proofs.Honestly.{comes_so, is_within, left_standing, left_there, others_kept, then_honest}
 use Rattle.tip_host.specs.Books.{Books, IsHonest, IsSeen, Writes, left_in}

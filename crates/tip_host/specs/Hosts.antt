@@ -1,5 +1,5 @@
 -- A host as contracts see it, and what its calls do.
-use Rattle.std.specs.Prelude.{◌≡◌, ◌≢◌, ◌==◌, ℕ, Bool, true, false, not, List, [], ◌++◌, Option, Some, None, find, option_map, if◌then◌else◌}
+use Rattle.std.specs.Prelude.{◌≡◌, ◌≢◌, ℕ, Bool, false, not, List, [], ◌++◌, Option, Some, None, find, option_map, if◌then◌else◌}
 use Rattle.std.specs.Option.{option_to_list}
 use Rattle.tip_branch.specs.Notes.{PartyNotes}
 use Rattle.tip_branch.specs.declared.branch.Badge.{Badge}

@@ -1,5 +1,5 @@
 -- PARTIES THAT ARE OUT of a host (ours): how they were sent, and how they come back.
-use Rattle.std.specs.Prelude.{◌≡◌, ◌==◌, ◌&&◌, ◌++◌, ◌≢◌, ℕ, Bool, true, List, [], ◌∷◌, Option, Some, None, slice_get}
+use Rattle.std.specs.Prelude.{◌≡◌, ◌==◌, ◌&&◌, ◌++◌, ◌≢◌, ℕ, Bool, true, List, [], Option, Some, None, slice_get}
 use Rattle.std.specs.Option.{option_and_then, option_to_list}
 use Rattle.std.specs.Str.{bytes_eq}
 use Rattle.tip_branch.specs.Notes.{PartyNotes}

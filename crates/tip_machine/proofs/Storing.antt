@@ -1,6 +1,6 @@
 -- A row is put among the rows of a realm, or taken out: what stands at each key then, and that the keys rise still.
 use Rattle.std.proofs.Common.{◌≡◌, Bool, true, false, List, [], ◌∷◌, Option, Some, None, cond, refl, ap, subst, sym, arith, ◌∙◌}
-use Rattle.std.specs.Prelude.{◌&&◌, find, map, option_map}
+use Rattle.std.specs.Prelude.{find, map, option_map}
 use Rattle.std.specs.List.{list_all}
 use Rattle.std.proofs.lemmas.Bool.{and_from, and_parts, both_ways}
 use Rattle.std.proofs.lemmas.Bool.Decides.{nat_tests}

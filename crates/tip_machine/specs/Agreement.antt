@@ -21,7 +21,7 @@ use Rattle.tip_txn.specs.Parts.{is_pair}
 use Rattle.tip_txn.specs.declared.answer.Ballot.{Ballot}
 use Rattle.tip_txn.specs.declared.answer.Ballot.TheVariants as answer
 use Rattle.tip_txn.specs.declared.part.Participant.{Participant}
-use Rattle.tip_machine.specs.Types.{Connection, Transaction}
+use Rattle.tip_machine.specs.Types.{Connection}
 use Rattle.tip_machine.specs.Answers.{identifier}
 use Rattle.tip_machine.specs.Moves.{Move, World}
 use Rattle.tip_machine.specs.Outputs.{Output}
@@ -36,7 +36,7 @@ use Rattle.tip_machine.specs.declared.answer.Said.TheVariants as said
 use Rattle.tip_machine.specs.declared.connection.Awaited.{Awaited}
 use Rattle.tip_machine.specs.declared.connection.Awaited.TheVariants as awaited
 use Rattle.tip_machine.specs.declared.connection.Role.{Role}
-use Rattle.tip_machine.specs.declared.connection.Role.TheVariants.{Superior, Subordinate}
+use Rattle.tip_machine.specs.declared.connection.Role.TheVariants.{Subordinate}
 use Rattle.tip_machine.specs.declared.event.Change.TheVariants.{Put, Remove}
 use Rattle.tip_machine.specs.declared.event.Event.TheVariants.{Line}
 use Rattle.tip_machine.specs.declared.event.Heard.TheVariants as heard

@@ -1,5 +1,5 @@
 -- What a realm says.
-use Rattle.std.specs.Prelude.{ℕ, Bool, true, false, List, [], Option, Some, None}
+use Rattle.std.specs.Prelude.{ℕ, List, [], Option, Some, None}
 use Rattle.tip_line.specs.Ids.{id_of}
 use Rattle.tip_line.specs.Response.{name_of}
 use Rattle.tip_line.specs.declared.command.Command.{Command}
@@ -15,7 +15,6 @@ use Rattle.tip_machine.specs.declared.answer.Asked.{Asked}
 use Rattle.tip_machine.specs.declared.answer.Asked.TheVariants as asked
 use Rattle.tip_machine.specs.declared.answer.Item.{Item}
 use Rattle.tip_machine.specs.declared.answer.Item.TheVariants.{Say, Ask, Close}
-use Rattle.tip_machine.specs.declared.answer.Sent.{Sent}
 
 -- the identifier of a realm's transaction (section 5; the form is ours)
 abbrev pub identifier : List ℕ → Key → List ℕ

@@ -1,36 +1,22 @@
 -- What outlooks come to, and the rows that are made of them.
 use Rattle.std.proofs.Common.{◌≡◌, ◌≢◌, ◌<◌, ◌++◌, suc, take, length, get_or, append_assoc, Bool, true, false, cond, ℕ, List, [], ◌∷◌, Option, Some, None, map, refl, ap, sym, ◌∙◌, arith}
-use Rattle.std.specs.Prelude.{drop, filter, find, if◌then◌else◌}
+use Rattle.std.specs.Prelude.{drop, filter}
 use Rattle.std.specs.List.{flat_map, list_all}
-use Rattle.std.specs.Option.{option_and_then}
 use Rattle.std.proofs.Math.Seq.{take-suc}
-use Rattle.std.proofs.lemmas.Bool.Decides.{nat_tests}
-use Rattle.tip_branch.specs.Notes.{PartyNotes}
-use Rattle.tip_branch.specs.declared.member.Errand.TheVariants as errand
 use Rattle.tip_line.specs.declared.command.CommandName.{CommandName}
 use Rattle.tip_line.specs.declared.command.CommandName.TheVariants as command
 use Rattle.tip_rows.specs.Branches.{are_branches, is_behind}
-use Rattle.tip_rows.specs.Keys.{Key}
 use Rattle.tip_txn.specs.Decisions.{Decides}
-use Rattle.tip_txn.specs.Parts.{answered, answers_of, changed_at, is_yes}
-use Rattle.tip_txn.specs.declared.answer.Ballot.{Ballot}
+use Rattle.tip_txn.specs.Parts.{answers_of, changed_at, is_yes}
 use Rattle.tip_txn.specs.declared.answer.Decision.{Decision}
 use Rattle.tip_txn.specs.declared.part.Participant.{Participant}
 use Rattle.tip_txn.proofs.DecisionLemmas.{decides_one}
 use Rattle.tip_machine.proofs.Deciding.{decides}
-use Rattle.tip_machine.specs.Connections.{has_number, is_superior_of}
-use Rattle.tip_machine.proofs.Walks.{on_found}
-use Rattle.tip_machine.specs.Proceeding.{owed_to_superior}
-use Rattle.tip_machine.specs.Requests.{owner}
-use Rattle.tip_machine.specs.States.{State, transaction_of}
-use Rattle.tip_machine.specs.Transactions.{decision, has_ready, is_spent, members_at, noting, party_answer, standing_at}
-use Rattle.tip_machine.specs.Types.{Connection, PartyPlace, Transaction}
-use Rattle.tip_machine.specs.declared.event.Change.{Change}
-use Rattle.tip_machine.specs.declared.event.Event.TheVariants.{Settled, Voted}
+use Rattle.tip_machine.specs.Transactions.{decision, is_spent, members_at}
+use Rattle.tip_machine.specs.Types.{PartyPlace}
 use Rattle.tip_machine.specs.declared.transaction.Origin.{Origin}
 use Rattle.tip_machine.specs.declared.transaction.PartyPlace.TheVariants.{Here, Out, Spent}
-use Rattle.tip_table.proofs.Standing.{found as found_first}
-use Rattle.tip_outlook.specs.Wanting.{Outlook, agreed_change, away, back_at, foreseen, outlook, owed_then, pair_at, pairs_of, settled_wanted, vote_wanted, wished}
+use Rattle.tip_outlook.specs.Wanting.{Outlook, agreed_change, away, pair_at, pairs_of}
 
 -- Outlooks
 

@@ -12,7 +12,7 @@ use Rattle.tip_rows.specs.Keys.{Key}
 use Rattle.tip_table.specs.Kept.{StandsAt, item_at, of, with_item_at}
 use Rattle.tip_table.proofs.Standing.{stands_written}
 use Rattle.tip_table.proofs.Standing.{found as found_first}
-use Rattle.tip_machine.proofs.Walks.{found-number, found_passes}
+use Rattle.tip_machine.proofs.Walks.{found-number}
 use Rattle.tip_machine.specs.Changes.{change, reply}
 use Rattle.tip_machine.specs.Commands.{begin, make, making, push, push_new}
 use Rattle.tip_machine.specs.Connections.{has_number}

@@ -1,9 +1,9 @@
 -- How the transaction of an identifier is found.
-use Rattle.std.proofs.Common.{◌≡◌, ◌≢◌, ◌<◌, ◌^◌, length, get_or, Bool, true, false, cond, ℕ, zero, suc, List, [], ◌∷◌, Option, Some, None, refl, ap, arith, sym, subst, ◌∙◌, ◌↔◌}
-use Rattle.std.specs.Prelude.{◌==◌, ◌&&◌, find, option_map}
+use Rattle.std.proofs.Common.{◌≡◌, ◌≢◌, ◌<◌, length, get_or, Bool, true, false, cond, ℕ, zero, suc, List, [], ◌∷◌, Option, Some, None, refl, ap, arith, sym, subst, ◌∙◌, ◌↔◌}
+use Rattle.std.specs.Prelude.{◌==◌, find, option_map}
 use Rattle.std.specs.Option.{option_map_or}
 use Rattle.std.specs.Str.{bytes_eq}
-use Rattle.std.proofs.lemmas.Bool.{and_parts, false_from_ne_true}
+use Rattle.std.proofs.lemmas.Bool.{false_from_ne_true}
 use Rattle.std.proofs.lemmas.Bool.Decides.{nat_tests}
 use Rattle.std.proofs.lemmas.Option.{same_Some}
 use Rattle.tip_branch.specs.Notes.{PartyNotes}

@@ -1,6 +1,6 @@
 -- What the operations on the tables come to in the realm at hand.
-use Rattle.std.proofs.Common.{◌≡◌, ◌≢◌, ◌≤◌, ◌<◌, ◌+◌, ◌-◌, Bool, true, false, cond, ℕ, zero, suc, List, [], ◌∷◌, ◌++◌, Option, Some, None, length, map, refl, ap, sym, subst, ◌∙◌, arith, Bor, append-nil, append_assoc}
-use Rattle.std.specs.Prelude.{◌==◌, filter, find, is_some, option_map, slice_get}
+use Rattle.std.proofs.Common.{◌≡◌, ◌≢◌, ◌≤◌, ◌<◌, ◌+◌, ◌-◌, Bool, true, false, cond, ℕ, List, [], ◌∷◌, ◌++◌, Option, Some, None, length, map, refl, ap, sym, subst, ◌∙◌, arith, Bor, append-nil, append_assoc}
+use Rattle.std.specs.Prelude.{◌==◌, filter, find, is_some, option_map}
 use Rattle.std.specs.List.{flat_map, list_any}
 use Rattle.std.specs.Option.{option_copied, option_map_or}
 use Rattle.std.proofs.lemmas.Option.{none-some, same_Some}
@@ -13,8 +13,6 @@ use Rattle.tip_table.specs.Lists.{changed, without}
 use Rattle.tip_table.proofs.Standing.{capacity-written, change_none, take_out, write, write_others}
 use Rattle.tip_table.proofs.Standing.{found as found_first}
 use Rattle.tip_table.specs.Visits.{MayVisit, notes_of}
-use Rattle.tip_txn.specs.Parts.{changed_at as changed_at_part}
-use Rattle.tip_txn.specs.declared.part.Participant.{Participant}
 use Rattle.tip_machine.specs.Changes.{alter, change, end, reply, tell}
 use Rattle.tip_machine.proofs.Rising.{changed_twice}
 use Rattle.tip_machine.proofs.RuleWalks.{advanced-number}

@@ -1,5 +1,5 @@
 -- What a writer over a host that is shared has written.
-use Rattle.std.proofs.Common.{◌≡◌, ◌++◌, ◌∷◌, [], ℕ, List, Option}
+use Rattle.std.proofs.Common.{◌++◌, ◌∷◌, [], ℕ, List, Option}
 use Rattle.tip_session.specs.Desks.{Seen}
 use Rattle.tip_session.specs.Written.{WritesOut}
 use Rattle.tip_session.specs.declared.desk.Outgoing.{Outgoing}

@@ -1,5 +1,5 @@
 -- What a host leaves that was shared (ours), and what it lets go before.
-use Rattle.std.specs.Prelude.{◌≡◌, ℕ, List, map, Option, Some, slice_get}
+use Rattle.std.specs.Prelude.{◌≡◌, ℕ, List, map, Some, slice_get}
 use Rattle.tip_core.specs.Hosted.{realm}
 use Rattle.tip_honest.specs.Honesty.{Journal}
 use Rattle.tip_honest.specs.declared.entry.Entry.{Entry}

@@ -16,7 +16,7 @@ use Rattle.tip_rows.specs.Logs.{last_epoch, row_at}
 use Rattle.tip_rows.specs.declared.row.Row.{Row}
 use Rattle.tip_rows.proofs.MemoryLemmas.{same_text, bytes_eq-self}
 use Rattle.tip_rows.proofs.OrderLemmas.{same_key}
-use Rattle.tip_sql.specs.Places.{Place, place_in, is_named, is_last, all_rows, is_at, same_place, text_at, text_in, epoch_at, has_key, is_key_number, is_stray, IsRealmRow, IsTxnRow, AreRealms, AreRows, epoch_shown, name_shown, row_shown}
+use Rattle.tip_sql.specs.Places.{Place, place_in, is_named, is_at, same_place, text_at, text_in, epoch_at, has_key, is_key_number, is_stray, IsRealmRow, IsTxnRow, AreRealms, AreRows, epoch_shown, row_shown}
 use Rattle.tip_sql.specs.Places as places
 use Rattle.tip_sql.specs.Reading.{number_in, key_of, entry_of, entry_in, epoch_in}
 use Rattle.tip_sql.specs.Standing.{place_of, row_of, is_no_row}

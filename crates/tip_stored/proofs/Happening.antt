@@ -1,5 +1,5 @@
 -- An event that happens in the room that was made for it.
-use Rattle.std.proofs.Common.{◌≡◌, ◌∙◌, ℕ, Bool, true, List, Option, Some, None, ap, refl, subst}
+use Rattle.std.proofs.Common.{◌≡◌, ◌∙◌, ℕ, true, Option, Some, None, ap, refl, subst}
 use Rattle.tip_agreement.proofs.Uncalled.{step_uncalled}
 use Rattle.tip_core.specs.Hosted.{Hosted, Steps, realm}
 use Rattle.tip_line.specs.declared.refusal.Refusal.TheVariants.{NoRealm}
@@ -7,7 +7,7 @@ use Rattle.tip_machine.proofs.Stepping.{returned-silent}
 use Rattle.tip_machine.specs.States.{State}
 use Rattle.tip_machine.specs.Types.{Answer, Event}
 use Rattle.tip_machine.specs.declared.event.Outcome.{Outcome}
-use Rattle.tip_rows.specs.Logs.{Keeping, Log}
+use Rattle.tip_rows.specs.Logs.{Keeping}
 use Rattle.tip_stored.specs.Errands.{goes_uncalled}
 use Rattle.tip_stored.specs.Keeping.{Happened, Happens, StoredCore, Keeps}
 

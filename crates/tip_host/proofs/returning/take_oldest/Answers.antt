@@ -1,4 +1,4 @@
-use Rattle.std.proofs.Common.{◌≡◌, ◌∙◌, ◌++◌, ◌∷◌, [], None, Some, ap, append-nil, refl, sym}
+use Rattle.std.proofs.Common.{◌∙◌, ◌++◌, ◌∷◌, [], Some, ap, append-nil, refl, sym}
 use Rattle.std.proofs.lemmas.Option.{none-some}
 use Rattle.tip_table.specs.Kept.{of}
 use Rattle.tip_host.proofs.Taking.{nobody, taken_first, taken_others, taken_over}
