@@ -1,5 +1,5 @@
 -- Each realm of a script is alone.
-use Rattle.std.proofs.Common.{◌≡◌, arith, ◌++◌, ◌∷◌, ◌+◌, ℕ, zero, suc, Bool, true, false, cond, List, [], Option, Some, None, map, append-nil, append_assoc, refl, ap, sym, subst, ◌∙◌, ◌⊎◌, inl, inr}
+use Rattle.std.proofs.Common.{◌≡◌, ◌++◌, ◌∷◌, ◌+◌, ℕ, zero, suc, Bool, true, false, cond, List, [], Option, Some, None, map, append-nil, append_assoc, refl, ap, sym, subst, ◌∙◌, ◌⊎◌, inl, inr}
 use Rattle.std.specs.Prelude.{◌&&◌, ◌||◌, not, slice_get, slice_set}
 use Rattle.std.specs.List.{flat_map, list_all, list_any}
 use Rattle.std.specs.Option.{option_map_or}
@@ -20,15 +20,13 @@ use Rattle.tip_scene.specs.Acts.{Basis, Stage, Declaring, scene_of, starts_text}
 use Rattle.tip_scene.specs.declared.declared.Declaration.{Declaration}
 use Rattle.tip_script.specs.Scripts.{Move, realm_of}
 use Rattle.tip_play.specs.Transcripts.{Ending, Fault, Reached, act_of, played, played_on}
-use Rattle.tip_history.specs.Alone.{IsAlone, all_moved, and_then, concerns, is_spelled, own}
-use Rattle.tip_history.specs.Histories.{AreWritten, History, name_of}
+use Rattle.tip_history.specs.Alone.{IsAlone, all_moved, and_then, is_spelled}
+use Rattle.tip_history.specs.Histories.{AreWritten, asked_in}
 use Rattle.tip_history.specs.Sayings.{Line, Saying, Shows, are_spelled, line_text, lines_on, lines_text, saying_text, shown_of, shown_on}
 use Rattle.tip_history.proofs.Doing.{Did, did, did_settle, opening_is, opening_said, outputs_of, shown_said}
-use Rattle.tip_history.proofs.Mixing.{AreOf, Mixed, differs, names_of, quiet_by, said_by, shown_said_by, sound_at, spelled_at, spelled_by, spelled_names, spelled_on, text_said}
-use Rattle.tip_history.proofs.Playing.{IsElsewhere, Stands, at_stage, declared_at, declared_in_end, declared_then, elsewhere_said, goes as goes_to, line_so, nothing_yet, spelled_there, started, stays}
-
-abbrev pub names : Scene → List (List ℕ)
-names scene = map (λ (acting : Acting). acting.name) scene
+use Rattle.tip_history.specs.Making.{IsMade, concerns, own}
+use Rattle.tip_history.proofs.Mixing.{Mixed, differs, of_all, numbered_at, quiet_by, said_by, shown_said_by, sound_at, spelled_at, spelled_by, spelled_names, spelled_on, text_said}
+use Rattle.tip_history.proofs.Playing.{IsElsewhere, Stands, at_stage, declared_at, declared_in_end, declared_then, elsewhere_said, found_named, goes as goes_to, line_so, names_in as names, not_named, nothing_yet, same_names, spelled_there, started, stays, then_said}
 
 -- Places
 
@@ -69,24 +67,6 @@ two_places (a ∷ scene) (suc place) (suc other) here there new distinct is is_t
 
 -- The realm that a line names
 
-behind : (n : ℕ) → suc n ≡ 1 + n
-behind n = omega (arith)
-
-found_named : (realm : List ℕ) (scene : Scene) (acting : Acting) → slice_get scene (place_of realm scene) ≡ Some acting → bytes_eq acting.name realm ≡ true
-found_named realm [] acting here = absurd (none-some acting here)
-found_named realm (a ∷ scene) acting here = at (bytes_eq a.name realm) refl here (found_named realm scene acting) where
-  at : (named : Bool) → bytes_eq a.name realm ≡ named → slice_get (a ∷ scene) (cond (not named) (1 + place_of realm scene) 0) ≡ Some acting → (slice_get scene (place_of realm scene) ≡ Some acting → bytes_eq acting.name realm ≡ true) → bytes_eq acting.name realm ≡ true
-  at true is here later = ap (λ (x : Acting). bytes_eq x.name realm) (sym (same_Some a acting here)) ∙ is
-  at false is here later = later (ap (slice_get (a ∷ scene)) (behind (place_of realm scene)) ∙ here)
-
-not_named : (realm : List ℕ) (scene : Scene) (place : ℕ) (acting : Acting) → slice_get scene (place_of realm scene) ≡ None → slice_get scene place ≡ Some acting → bytes_eq acting.name realm ≡ false
-not_named realm [] place acting none here = absurd (none-some acting here)
-not_named realm (a ∷ scene) place acting none here = at (bytes_eq a.name realm) refl none place here (λ p. not_named realm scene p acting) where
-  at : (named : Bool) → bytes_eq a.name realm ≡ named → slice_get (a ∷ scene) (cond (not named) (1 + place_of realm scene) 0) ≡ None → (place : ℕ) → slice_get (a ∷ scene) place ≡ Some acting → ((p : ℕ) → slice_get scene (place_of realm scene) ≡ None → slice_get scene p ≡ Some acting → bytes_eq acting.name realm ≡ false) → bytes_eq acting.name realm ≡ false
-  at true is none place here later = absurd (none-some a (sym none))
-  at false is none zero here later = ap (λ (x : Acting). bytes_eq x.name realm) (sym (same_Some a acting here)) ∙ is
-  at false is none (suc place) here later = later place (ap (slice_get (a ∷ scene)) (behind (place_of realm scene)) ∙ none) here
-
 -- alone, it is the first
 alone_there : (move : Move) (realm : List ℕ) (acting : Acting) → bytes_eq acting.name realm ≡ true → moved_in move (Some realm) (acting ∷ []) ≡ moved_at move 0 (Some acting) (acting ∷ [])
 alone_there move realm acting named = ap (λ (b : Bool). moved_at move (cond (not b) 1 0) (slice_get (acting ∷ []) (cond (not b) 1 0)) (acting ∷ [])) named
@@ -126,7 +106,7 @@ pub record Steps (move : Move) (scene next : Scene) (printed : List ℕ) : Type 
   pub silent : IsSilent lines scene
 
 -- a realm that the line names
-named_one : (move : Move) (realm : List ℕ) (scene next : Scene) (acting : Acting) (done : Option Done) → are_distinct bytes_eq (names scene) ≡ true → is_realm acting.name ≡ true → realm_of move ≡ Some realm → slice_get scene (place_of realm scene) ≡ Some acting → does move acting ≡ done → ((d : Done) → done ≡ Some d → Did acting (settles d)) → (with_done (place_of realm scene) done scene).scene ≡ Some next → Steps move scene next (with_done (place_of realm scene) done scene).printed
+named_one : (move : Move) (realm : List ℕ) (scene next : Scene) (acting : Acting) (done : Option Done) → are_distinct bytes_eq (names scene) ≡ true → is_realm acting.name ≡ true → realm_of move ≡ Some realm → slice_get scene (place_of realm scene) ≡ Some acting → does move acting ≡ done → ((d : Done) → done ≡ Some d → Did (IsMade acting.world move) acting (settles d)) → (with_done (place_of realm scene) done scene).scene ≡ Some next → Steps move scene next (with_done (place_of realm scene) done scene).printed
 named_one move realm scene next acting None distinct spelled names_it here is did goes = absurd (none-some next goes)
 named_one move realm scene next acting (Some done) distinct spelled names_it here is did goes = subst (λ (s : Scene). Steps move scene s (settles done).printed) (same_Some (slice_set scene place then_) next goes) (record {
   lines = lines;
@@ -337,21 +317,15 @@ all_again move scene next distinct spelled names_none goes = at (list_any is_at_
     silent = λ name none. filter_map-append (shown_on name) first second ∙ ap (λ l. l ++ shown_of name second) (each_silent drops_said scene name none) ∙ each_silent opening_said (map again scene) name (named_again name scene ∙ none);
   })
 
-steps_at : (move : Move) (realm : List ℕ) (scene next : Scene) (found : Option Acting) → is_spelled move ≡ true → are_distinct bytes_eq (names scene) ≡ true → list_all (λ (a : Acting). is_realm a.name) scene ≡ true → realm_of move ≡ Some realm → slice_get scene (place_of realm scene) ≡ found → ((acting : Acting) (d : Done) → slice_get scene (place_of realm scene) ≡ Some acting → does move acting ≡ Some d → Did acting (settles d)) → (moved_at move (place_of realm scene) found scene).scene ≡ Some next → Steps move scene next (moved_at move (place_of realm scene) found scene).printed
+steps_at : (move : Move) (realm : List ℕ) (scene next : Scene) (found : Option Acting) → is_spelled move ≡ true → are_distinct bytes_eq (names scene) ≡ true → list_all (λ (a : Acting). is_realm a.name) scene ≡ true → realm_of move ≡ Some realm → slice_get scene (place_of realm scene) ≡ found → ((acting : Acting) (d : Done) → slice_get scene (place_of realm scene) ≡ Some acting → does move acting ≡ Some d → Did (IsMade acting.world move) acting (settles d)) → (moved_at move (place_of realm scene) found scene).scene ≡ Some next → Steps move scene next (moved_at move (place_of realm scene) found scene).printed
 steps_at move realm scene next None spelled distinct all names_it here did goes = nowhere move realm scene next (elsewhere move) spelled refl names_it here goes
 steps_at move realm scene next (Some acting) spelled distinct all names_it here did goes = named_one move realm scene next acting (does move acting) distinct (spelled_at scene (place_of realm scene) acting all here) names_it here refl (λ d is. did acting d here is) goes
 
-steps_in : (move : Move) (realm : Option (List ℕ)) (scene next : Scene) → is_spelled move ≡ true → are_distinct bytes_eq (names scene) ≡ true → list_all (λ (a : Acting). is_realm a.name) scene ≡ true → realm_of move ≡ realm → ((place : ℕ) (acting : Acting) (d : Done) → slice_get scene place ≡ Some acting → does move acting ≡ Some d → Did acting (settles d)) → (moved_in move realm scene).scene ≡ Some next → Steps move scene next (moved_in move realm scene).printed
+steps_in : (move : Move) (realm : Option (List ℕ)) (scene next : Scene) → is_spelled move ≡ true → are_distinct bytes_eq (names scene) ≡ true → list_all (λ (a : Acting). is_realm a.name) scene ≡ true → realm_of move ≡ realm → ((place : ℕ) (acting : Acting) (d : Done) → slice_get scene place ≡ Some acting → does move acting ≡ Some d → Did (IsMade acting.world move) acting (settles d)) → (moved_in move realm scene).scene ≡ Some next → Steps move scene next (moved_in move realm scene).printed
 steps_in move None scene next spelled distinct all is did goes = all_again move scene next distinct all is goes
 steps_in move (Some realm) scene next spelled distinct all is did goes = steps_at move realm scene next (slice_get scene (place_of realm scene)) spelled distinct all is refl (λ acting d here does_it. did (place_of realm scene) acting d here does_it) goes
 
 -- Lines one after another
-
-same_names : (basis : Basis) (lines : List Line) (histories : List History) (scene : Scene) → AreOf basis lines histories scene → names scene ≡ names_of histories
-same_names basis lines [] [] are = refl
-same_names basis lines [] (a ∷ scene) are = absurd are
-same_names basis lines (h ∷ histories) [] are = absurd are
-same_names basis lines (h ∷ histories) (a ∷ scene) are = ap (λ n. n ∷ names scene) are.0.named ∙ ap (λ l. name_of h ∷ l) (same_names basis lines histories scene are.1)
 
 -- whoever has a name has it still
 names_of_named : (name : List ℕ) (scene : Scene) → list_any (is_named name) scene ≡ list_any (λ other. bytes_eq other name) (names scene)
@@ -393,29 +367,29 @@ then_all move moves scene mid next goes step rest = record {
       (more.0, more.1, more.2 ∙ ap (λ t. record { printed = t; scene = Some (more.0 ∷ []) }) (ap (λ (l : List Line). lines_text l ++ lines_text (lines_on acting.name rest.lines)) (sym away.1) ∙ sym (text_of acting.name)))
 
 -- ONE LINE, in a scene that was reached
-pub step_of : (basis : Basis) (declarations : List Declaration) (text : List ℕ) (move : Move) (scene next : Scene) → is_spelled move ≡ true → Mixed basis declarations text scene → (moved move scene).scene ≡ Some next → Steps move scene next (moved move scene).printed
+pub step_of : {asked : List ℕ → List Move} (basis : Basis) (declarations : List Declaration) (text : List ℕ) (move : Move) (scene next : Scene) → is_spelled move ≡ true → Mixed basis declarations asked text scene → (moved move scene).scene ≡ Some next → Steps move scene next (moved move scene).printed
 step_of basis declarations text move scene next spelled mixed goes = steps_in move (realm_of move) scene next spelled distinct all_spelled refl did_it goes where
   distinct : are_distinct bytes_eq (names scene) ≡ true
-  distinct = ap (are_distinct bytes_eq) (same_names basis mixed.lines mixed.histories scene mixed.each) ∙ mixed.named
+  distinct = ap (are_distinct bytes_eq) (same_names _ basis mixed.lines mixed.histories scene mixed.each) ∙ mixed.named
 
   all_spelled : list_all (λ (a : Acting). is_realm a.name) scene ≡ true
-  all_spelled = spelled_names basis mixed.lines mixed.histories scene mixed.each
+  all_spelled = spelled_names _ basis mixed.lines mixed.histories scene mixed.each
 
-  did_it : (place : ℕ) (acting : Acting) (d : Done) → slice_get scene place ≡ Some acting → does move acting ≡ Some d → Did acting (settles d)
-  did_it place acting d here does_it = did_settle acting d (did move acting d (sound_at basis mixed.lines mixed.histories scene place acting mixed.each here) does_it)
+  did_it : (place : ℕ) (acting : Acting) (d : Done) → slice_get scene place ≡ Some acting → does move acting ≡ Some d → Did (IsMade acting.world move) acting (settles d)
+  did_it place acting d here does_it = did_settle move acting d (did move acting d (sound_at _ basis mixed.lines mixed.histories scene place acting mixed.each here) (numbered_at _ basis mixed.lines mixed.histories scene place acting mixed.each here) does_it)
 
-alone_on : (basis : Basis) (declarations : List Declaration) (text : List ℕ) (moves : List Move) (scene next : Scene) → list_all is_spelled moves ≡ true → Mixed basis declarations text scene → (all_moved moves scene).scene ≡ Some next → IsAlone moves scene next (all_moved moves scene).printed
-alone_on basis declarations text [] scene next spelled mixed goes = subst (λ (s : Scene). IsAlone [] scene s []) (same_Some scene next goes) (record { lines = []; text_is = refl; spelled = refl; each = λ place acting here. (acting, here, refl); silent = λ name none. refl })
-alone_on basis declarations text (move ∷ moves) scene next spelled mixed goes = at (moved move scene).scene refl goes (λ mid on. alone_on basis declarations (text ++ (moved move scene).printed) moves mid next (and_parts (is_spelled move) (list_all is_spelled moves) spelled).1 on) where
+alone_on : (basis : Basis) (declarations : List Declaration) (said : List Move) (text : List ℕ) (moves : List Move) (scene next : Scene) → list_all is_spelled moves ≡ true → Mixed basis declarations (of_all said) text scene → (all_moved moves scene).scene ≡ Some next → IsAlone moves scene next (all_moved moves scene).printed
+alone_on basis declarations said text [] scene next spelled mixed goes = subst (λ (s : Scene). IsAlone [] scene s []) (same_Some scene next goes) (record { lines = []; text_is = refl; spelled = refl; each = λ place acting here. (acting, here, refl); silent = λ name none. refl })
+alone_on basis declarations said text (move ∷ moves) scene next spelled mixed goes = at (moved move scene).scene refl goes (λ mid on. alone_on basis declarations (said ++ move ∷ []) (text ++ (moved move scene).printed) moves mid next (and_parts (is_spelled move) (list_all is_spelled moves) spelled).1 on) where
   printed : List ℕ
   printed = (moved move scene).printed
 
   own_spelled : is_spelled move ≡ true
   own_spelled = (and_parts (is_spelled move) (list_all is_spelled moves) spelled).0
 
-  at : (mid : Option Scene) → (moved move scene).scene ≡ mid → (and_then printed mid (all_moved moves)).scene ≡ Some next → ((later : Scene) → Mixed basis declarations (text ++ printed) later → (all_moved moves later).scene ≡ Some next → IsAlone moves later next (all_moved moves later).printed) → IsAlone (move ∷ moves) scene next (and_then printed mid (all_moved moves)).printed
+  at : (mid : Option Scene) → (moved move scene).scene ≡ mid → (and_then printed mid (all_moved moves)).scene ≡ Some next → ((later : Scene) → Mixed basis declarations (of_all (said ++ move ∷ [])) (text ++ printed) later → (all_moved moves later).scene ≡ Some next → IsAlone moves later next (all_moved moves later).printed) → IsAlone (move ∷ moves) scene next (and_then printed mid (all_moved moves)).printed
   at None is goes more = absurd (none-some next goes)
-  at (Some mid) is goes more = then_all move moves scene mid next is (step_of basis declarations text move scene mid own_spelled mixed is) (more mid ((goes_to basis declarations move text scene own_spelled mixed).on mid is) goes)
+  at (Some mid) is goes more = then_all move moves scene mid next is (step_of basis declarations text move scene mid own_spelled mixed is) (more mid ((goes_to basis declarations said move text scene own_spelled mixed).on mid is) goes)
 
 -- The realms that a script declares
 
@@ -426,24 +400,31 @@ module _ (basis : Basis) (written : AreWritten basis) where
     stage_of (Reached s) = s
     stage_of (Fault n) = a
 
-  reached : (declarations : List Declaration) (text : List ℕ) (stage next : Stage) (number : ℕ) (lines : List (List ℕ)) → Stands basis declarations text stage → (played basis stage number lines).ending ≡ Reached next → Stands basis (declared_at basis declarations stage lines) (text ++ (played basis stage number lines).printed) next
-  reached declarations text stage next number [] stands is =
-      subst (λ ds. Stands basis ds (text ++ []) next) (declared_in_end basis declarations stage)
-      (subst (Stands basis (at_stage declarations stage) (text ++ [])) (same_Reached stage next is) (stays basis written declarations text stage stands))
-  reached declarations text stage next number (line ∷ lines) stands is = at (act_of basis stage line).stage refl is (λ mid on. reached (at_stage declarations stage) (text ++ (act_of basis stage line).printed) mid next (number + 1) lines on) where
+  reached : (declarations : List Declaration) (said : List Move) (text : List ℕ) (stage next : Stage) (number : ℕ) (lines : List (List ℕ)) → Stands basis declarations said text stage → (played basis stage number lines).ending ≡ Reached next → (now : List Move) × Stands basis (declared_at basis declarations stage lines) now (text ++ (played basis stage number lines).printed) next
+  reached declarations said text stage next number [] stands is = (
+    said,
+    subst (λ ds. Stands basis ds said (text ++ []) next) (declared_in_end basis declarations stage)
+        (subst (Stands basis (at_stage declarations stage) said (text ++ [])) (same_Reached stage next is) (stays basis written declarations said text stage stands)),
+  )
+  reached declarations said text stage next number (line ∷ lines) stands is = at (act_of basis stage line).stage refl is (λ mid on. reached (at_stage declarations stage) (then_said said (asked_in line) mid) (text ++ (act_of basis stage line).printed) mid next (number + 1) lines on) where
     here : List ℕ
     here = (act_of basis stage line).printed
 
-    at : (mid : Option Stage) → (act_of basis stage line).stage ≡ mid → (played_on here mid number (λ later. played basis later (number + 1) lines)).ending ≡ Reached next → ((later : Stage) → Stands basis (at_stage declarations stage) (text ++ here) later → (played basis later (number + 1) lines).ending ≡ Reached next → Stands basis (declared_at basis (at_stage declarations stage) later lines) ((text ++ here) ++ (played basis later (number + 1) lines).printed) next) → Stands basis (declared_at basis declarations stage (line ∷ lines)) (text ++ (played_on here mid number (λ later. played basis later (number + 1) lines)).printed) next
+    So : (mid : Option Stage) → Type 0
+    So mid = (now : List Move) × Stands basis (declared_at basis declarations stage (line ∷ lines)) now (text ++ (played_on here mid number (λ later. played basis later (number + 1) lines)).printed) next
+
+    at : (mid : Option Stage) → (act_of basis stage line).stage ≡ mid → (played_on here mid number (λ later. played basis later (number + 1) lines)).ending ≡ Reached next → ((later : Stage) → Stands basis (at_stage declarations stage) (then_said said (asked_in line) later) (text ++ here) later → (played basis later (number + 1) lines).ending ≡ Reached next → (now : List Move) × Stands basis (declared_at basis (at_stage declarations stage) later lines) now ((text ++ here) ++ (played basis later (number + 1) lines).printed) next) → So mid
     at None was is more = absurd (fault_is_not is) where
       fault_is_not : Fault number ≡ Reached next → ⊥
       fault_is_not same = absurd (cc)
     at (Some mid) was is more =
-        subst (λ ds. Stands basis ds (text ++ (here ++ (played basis mid (number + 1) lines).printed)) next) (declared_then basis declarations stage mid line lines was)
-        (subst (λ t. Stands basis (declared_at basis (at_stage declarations stage) mid lines) t next) (append_assoc text here (played basis mid (number + 1) lines).printed)
-        (more mid ((line_so basis written declarations text stage line stands).on mid was) is))
+        let then_ = more mid ((line_so basis written declarations said text stage line stands).on mid was) is in (
+          then_.0,
+          subst (λ ds. Stands basis ds then_.0 (text ++ (here ++ (played basis mid (number + 1) lines).printed)) next) (declared_then basis declarations stage mid line lines was)
+              (subst (λ t. Stands basis (declared_at basis (at_stage declarations stage) mid lines) then_.0 t next) (append_assoc text here (played basis mid (number + 1) lines).printed) then_.1),
+        )
 
   pub each_alone : (lines : List (List ℕ)) (declarations : List Declaration) (moves : List Move) (next : Scene) → (played basis (Declaring []) 1 lines).ending ≡ Reached (Declaring declarations) → list_all is_spelled moves ≡ true → (all_moved moves (scene_of basis declarations)).scene ≡ Some next → IsAlone moves (scene_of basis declarations) next (all_moved moves (scene_of basis declarations)).printed
   each_alone lines declarations moves next declares spelled goes =
-      let stands = reached [] [] (Declaring []) (Declaring declarations) 1 lines (nothing_yet basis) declares in
-      alone_on basis declarations (starts_text basis declarations) moves (scene_of basis declarations) next spelled (started basis declarations written stands.0) goes
+      let stands = (reached [] [] [] (Declaring []) (Declaring declarations) 1 lines (nothing_yet basis) declares).1 in
+      alone_on basis declarations [] (starts_text basis declarations) moves (scene_of basis declarations) next spelled (started basis declarations written stands.0) goes

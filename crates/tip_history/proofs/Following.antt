@@ -25,17 +25,18 @@ use Rattle.tip_rows.specs.Keys.{Key}
 use Rattle.tip_rows.specs.Logs.{is_rising, last_epoch, row_at}
 use Rattle.tip_rows.specs.declared.row.Row.{Row}
 use Rattle.tip_rows.specs.declared.row.Row.TheVariants as row
+use Rattle.tip_script.specs.Scripts.{Move as Order}
 use Rattle.tip_scene.specs.Acts.{Basis, Stage, Declaring, Playing, scene_of, start_of}
 use Rattle.tip_scene.specs.Blaming.{starting_from}
 use Rattle.tip_scene.specs.Scenes.{Scene}
 use Rattle.tip_scene.specs.declared.declared.Declaration.{Declaration}
 use Rattle.tip_play.specs.Transcripts.{Ending, Reached, Fault, act_of, all_played, lines_of, played, played_on}
-use Rattle.tip_history.specs.Histories.{AllMayFollow, AreWritten, History, MayFollow, begin_of, left_of}
+use Rattle.tip_history.specs.Histories.{AllMayFollow, AreWritten, History, MayFollow, asked_in, begin_of, left_from, left_of, left_on}
 use Rattle.tip_history.specs.Sayings.{Line}
 use Rattle.tip_history.proofs.Declaring.{within}
 use Rattle.tip_history.proofs.Doing.{boxes_are_adopted}
 use Rattle.tip_history.proofs.Mixing.{AreOf, IsOf, Mixed}
-use Rattle.tip_history.proofs.Playing.{Stands, at_stage, line_so, nothing_yet, started}
+use Rattle.tip_history.proofs.Playing.{Stands, at_stage, line_so, nothing_yet, started, then_said}
 
 -- Whether two rows are of one transaction of one superior does not hang on the declaration
 
@@ -73,7 +74,7 @@ at_starts head epoch is fine =
     let c = and_parts _ (is_within 1 last_epoch head.epoch) b.0 in
     and_from _ _ (and_from _ _ (and_from _ _ c.0 fine) refl) refl
 
-one_follows : (basis : Basis) (lines : List Line) (history : History) (acting : Acting) → IsOf basis lines history acting → MayFollow acting
+one_follows : {asked : List ℕ → List Order} (basis : Basis) (lines : List Line) (history : History) (acting : Acting) → IsOf basis asked lines history acting → MayFollow acting
 one_follows basis lines history acting is rises declaration =
     let world = acting.world in
     let epoch = world.state.head.epoch in
@@ -90,41 +91,49 @@ one_follows basis lines history acting is rises declaration =
 
 -- All of them
 
-follow_at : (basis : Basis) (lines : List Line) (histories : List History) (scene : Scene) (place : ℕ) (acting : Acting) → AreOf basis lines histories scene → slice_get scene place ≡ Some acting → MayFollow acting
-follow_at basis lines [] [] place acting are here = absurd (none-some acting here)
-follow_at basis lines [] (a ∷ scene) place acting are here = absurd are
-follow_at basis lines (h ∷ histories) [] place acting are here = absurd are
-follow_at basis lines (h ∷ histories) (a ∷ scene) zero acting are here = one_follows basis lines h acting (subst (IsOf basis lines h) (same_Some a acting here) are.0)
-follow_at basis lines (h ∷ histories) (a ∷ scene) (suc place) acting are here = follow_at basis lines histories scene place acting are.1 here
+follow_at : (asked : List ℕ → List Order) (basis : Basis) (lines : List Line) (histories : List History) (scene : Scene) (place : ℕ) (acting : Acting) → AreOf basis asked lines histories scene → slice_get scene place ≡ Some acting → MayFollow acting
+follow_at asked basis lines [] [] place acting are here = absurd (none-some acting here)
+follow_at asked basis lines [] (a ∷ scene) place acting are here = absurd are
+follow_at asked basis lines (h ∷ histories) [] place acting are here = absurd are
+follow_at asked basis lines (h ∷ histories) (a ∷ scene) zero acting are here = one_follows basis lines h acting (subst (IsOf basis asked lines h) (same_Some a acting here) are.0)
+follow_at asked basis lines (h ∷ histories) (a ∷ scene) (suc place) acting are here = follow_at asked basis lines histories scene place acting are.1 here
 
-mixed_follow : (basis : Basis) (declarations : List Declaration) (text : List ℕ) (scene : Scene) → Mixed basis declarations text scene → AllMayFollow scene
-mixed_follow basis declarations text scene mixed place acting here = follow_at basis mixed.lines mixed.histories scene place acting mixed.each here
+mixed_follow : {asked : List ℕ → List Order} (basis : Basis) (declarations : List Declaration) (text : List ℕ) (scene : Scene) → Mixed basis declarations asked text scene → AllMayFollow scene
+mixed_follow basis declarations text scene mixed place acting here = follow_at _ basis mixed.lines mixed.histories scene place acting mixed.each here
+
+abbrev stage_of : Ending → Stage
+stage_of (Reached stage) = stage
+stage_of (Fault number) = Declaring []
+
+-- where the lines reach a stage, they leave the realms as they are there
+pub left_at : (basis : Basis) (stage : Stage) (number : ℕ) (lines : List (List ℕ)) (last : Stage) → (played basis stage number lines).ending ≡ Reached last → left_from basis stage lines ≡ starting_from basis last
+left_at basis stage number [] last is = ap (starting_from basis) (ap stage_of is)
+left_at basis stage number (line ∷ lines) last is = at (act_of basis stage line).stage (λ next there. left_at basis next (number + 1) lines last there) is where
+  at : (next : Option Stage) → ((later : Stage) → (played basis later (number + 1) lines).ending ≡ Reached last → left_from basis later lines ≡ starting_from basis last) → (played_on (act_of basis stage line).printed next number (λ later. played basis later (number + 1) lines)).ending ≡ Reached last → left_on (starting_from basis stage) next (λ n. left_from basis n lines) ≡ starting_from basis last
+  at None more is = absurd (cc is)
+  at (Some next) more is = more next is
 
 module _ (basis : Basis) (written : AreWritten basis) where
-  stage_follows : (declarations : List Declaration) (text : List ℕ) (stage : Stage) → Stands basis declarations text stage → AllMayFollow (starting_from basis stage)
-  stage_follows declarations text (Declaring now) stands = mixed_follow basis now _ (scene_of basis now) (started basis now written stands.0)
-  stage_follows declarations text (Playing scene) stands = mixed_follow basis declarations text scene stands
+  stage_follows : (declarations : List Declaration) (said : List Order) (text : List ℕ) (stage : Stage) → Stands basis declarations said text stage → AllMayFollow (starting_from basis stage)
+  stage_follows declarations said text (Declaring now) stands = mixed_follow basis now _ (scene_of basis now) (started basis now written stands.0)
+  stage_follows declarations said text (Playing scene) stands = mixed_follow basis declarations text scene stands
 
   -- The stage that is reached
 
-  abbrev stage_of : Ending → Stage
-  stage_of (Reached stage) = stage
-  stage_of (Fault number) = Declaring []
-
   IsThere : Stage → Type 0
-  IsThere stage = (declarations : List Declaration) × (text : List ℕ) × Stands basis declarations text stage
+  IsThere stage = (declarations : List Declaration) × (said : List Order) × (text : List ℕ) × Stands basis declarations said text stage
 
-  reached : (declarations : List Declaration) (text : List ℕ) (stage : Stage) (number : ℕ) (lines : List (List ℕ)) (last : Stage) → Stands basis declarations text stage → (played basis stage number lines).ending ≡ Reached last → IsThere last
+  reached : (declarations : List Declaration) (said : List Order) (text : List ℕ) (stage : Stage) (number : ℕ) (lines : List (List ℕ)) (last : Stage) → Stands basis declarations said text stage → (played basis stage number lines).ending ≡ Reached last → IsThere last
   unfolding IsThere
-  reached declarations text stage number [] last stands is = (declarations, text, subst (Stands basis declarations text) (ap stage_of is) stands)
-  reached declarations text stage number (line ∷ lines) last stands is = at (act_of basis stage line).stage refl (λ next on. reached (at_stage declarations stage) (text ++ (act_of basis stage line).printed) next (number + 1) lines last on) is where
+  reached declarations said text stage number [] last stands is = (declarations, said, text, subst (Stands basis declarations said text) (ap stage_of is) stands)
+  reached declarations said text stage number (line ∷ lines) last stands is = at (act_of basis stage line).stage refl (λ next on. reached (at_stage declarations stage) (then_said said (asked_in line) next) (text ++ (act_of basis stage line).printed) next (number + 1) lines last on) is where
     here : List ℕ
     here = (act_of basis stage line).printed
 
-    at : (next : Option Stage) → (act_of basis stage line).stage ≡ next → ((later : Stage) → Stands basis (at_stage declarations stage) (text ++ here) later → (played basis later (number + 1) lines).ending ≡ Reached last → IsThere last) → (played_on here next number (λ later. played basis later (number + 1) lines)).ending ≡ Reached last → IsThere last
+    at : (next : Option Stage) → (act_of basis stage line).stage ≡ next → ((later : Stage) → Stands basis (at_stage declarations stage) (then_said said (asked_in line) later) (text ++ here) later → (played basis later (number + 1) lines).ending ≡ Reached last → IsThere last) → (played_on here next number (λ later. played basis later (number + 1) lines)).ending ≡ Reached last → IsThere last
     at None none more is = absurd (cc is)
-    at (Some next) on more is = more next ((line_so basis written declarations text stage line stands).on next on) is
+    at (Some next) on more is = more next ((line_so basis written declarations said text stage line stands).on next on) is
 
   pub script_follows : (script : List ℕ) (stage : Stage) → (all_played basis script).ending ≡ Reached stage → AllMayFollow (starting_from basis stage)
   unfolding IsThere
-  script_follows script stage is = let there = reached [] [] (Declaring []) 1 (lines_of script) stage (nothing_yet basis) is in stage_follows there.0 there.1 stage there.2
+  script_follows script stage is = let there = reached [] [] [] (Declaring []) 1 (lines_of script) stage (nothing_yet basis) is in stage_follows there.0 there.1 there.2 stage there.3

@@ -25,13 +25,14 @@ use Rattle.tip_script.specs.Scripts as Script
 use Rattle.tip_script.specs.Scripts.{Move, move_of}
 use Rattle.script_lines.specs.Lines.{longest_line}
 use Rattle.tip_play.specs.Transcripts.{Played, act_of, closing_text, played, played_on}
-use Rattle.tip_history.specs.Alone.{AreApart, concerns, heard, heard_on, is_own, is_spelled, own_script, text_of}
+use Rattle.tip_history.specs.Alone.{AreApart, heard, heard_on, is_own, is_spelled, own_script, text_of}
+use Rattle.tip_history.specs.Making.{concerns}
 use Rattle.tip_history.specs.Histories.{AreWritten, declared_by, declared_from, declared_on}
 use Rattle.tip_history.specs.Sayings.{Line, are_spelled, line_text, lines_on, lines_text}
 use Rattle.tip_history.proofs.Apart.{Steps, each_says, each_spelled, each_text, one_says, step_of}
 use Rattle.tip_history.proofs.Declaring.{AreDeclared, can_be, names, one_more, with_names}
 use Rattle.tip_history.proofs.Doing.{opening_is, opening_said}
-use Rattle.tip_history.proofs.Mixing.{Mixed, differs, spelled_on, text_said}
+use Rattle.tip_history.proofs.Mixing.{Mixed, differs, of_all, spelled_on, text_said}
 use Rattle.tip_history.proofs.Playing.{goes, started}
 use Rattle.tip_history.proofs.Spelling.{spelled_move}
 
@@ -267,7 +268,7 @@ module _ (basis : Basis) (line : List ℕ) (move : Move) (says : move_of line �
         ∙ more.each name own before count (other_line own before is standing)
 
 -- a line that may stand, and all that follow
-then_follows : (basis : Basis) (declarations : List Declaration) (text : List ℕ) (scene mid : Scene) (number : ℕ) (line : List ℕ) (lines : List (List ℕ)) (move : Move) (said : List Line) → (says : move_of line ≡ Some move) → (spelled : is_spelled move ≡ true) → (does_so : (stage : Stage) → act_of basis stage line ≡ acts basis stage move) → (mixed : Mixed basis declarations text scene) → (moved move scene).scene ≡ Some mid → ((more : List Line) → Follows basis mid (number + 1) lines (said ++ more)) → Follows basis scene number (line ∷ lines) said
+then_follows : {asked : List ℕ → List Move} (basis : Basis) (declarations : List Declaration) (text : List ℕ) (scene mid : Scene) (number : ℕ) (line : List ℕ) (lines : List (List ℕ)) (move : Move) (said : List Line) → (says : move_of line ≡ Some move) → (spelled : is_spelled move ≡ true) → (does_so : (stage : Stage) → act_of basis stage line ≡ acts basis stage move) → (mixed : Mixed basis declarations asked text scene) → (moved move scene).scene ≡ Some mid → ((more : List Line) → Follows basis mid (number + 1) lines (said ++ more)) → Follows basis scene number (line ∷ lines) said
 then_follows basis declarations text scene mid number line lines move said says spelled does_so mixed is later = record {
   rest = step.lines ++ more.rest;
   text_is = goes_on basis (Playing scene) (Playing mid) (moved move scene).printed number line lines here
@@ -288,11 +289,11 @@ then_follows basis declarations text scene mid number line lines move said says 
   here : act_of basis (Playing scene) line ≡ record { printed = (moved move scene).printed; stage = Some (Playing mid) }
   here = does_so (Playing scene) ∙ ap (λ (s : Option Scene). record { printed = (moved move scene).printed; stage = option_map Playing s }) is
 
-follows : (basis : Basis) (declarations : List Declaration) (text : List ℕ) (scene : Scene) (number : ℕ) (lines : List (List ℕ)) (said : List Line) → Mixed basis declarations text scene → Follows basis scene number lines said
-follows basis declarations text scene number [] said mixed = ends_so basis scene number [] said refl refl
-follows basis declarations text scene number (line ∷ lines) said mixed = at (reads basis line) (λ t s m l. follows basis declarations t s (number + 1) lines l m) where
+follows : (basis : Basis) (declarations : List Declaration) (orders : List Move) (text : List ℕ) (scene : Scene) (number : ℕ) (lines : List (List ℕ)) (said : List Line) → Mixed basis declarations (of_all orders) text scene → Follows basis scene number lines said
+follows basis declarations orders text scene number [] said mixed = ends_so basis scene number [] said refl refl
+follows basis declarations orders text scene number (line ∷ lines) said mixed = at (reads basis line) (λ o t s m l. follows basis declarations o t s (number + 1) lines l m) where
   Later : Type 0
-  Later = (t : List ℕ) (s : Scene) → Mixed basis declarations t s → (l : List Line) → Follows basis s (number + 1) lines l
+  Later = (o : List Move) (t : List ℕ) (s : Scene) → Mixed basis declarations (of_all o) t s → (l : List Line) → Follows basis s (number + 1) lines l
 
   -- an empty line is of nobody
   nothing_here : act_of basis (Playing scene) line ≡ record { printed = []; stage = Some (Playing scene) } → ((own : Stage) → act_of basis own line ≡ record { printed = []; stage = Some own }) → Follows basis scene (number + 1) lines said → Follows basis scene number (line ∷ lines) said
@@ -315,15 +316,15 @@ follows basis declarations text scene number (line ∷ lines) said mixed = at (r
 
   says_it : (move : Move) → move_of line ≡ Some move → is_spelled move ≡ true → ((stage : Stage) → act_of basis stage line ≡ acts basis stage move) → (next : Option Scene) → (moved move scene).scene ≡ next → Later → Follows basis scene number (line ∷ lines) said
   says_it move says spelled does_so None is later =
-      let nothing : (moved move scene).printed ≡ [] = (goes basis declarations move text scene spelled mixed).ends is in
+      let nothing : (moved move scene).printed ≡ [] = (goes basis declarations orders move text scene spelled mixed).ends is in
       let here : act_of basis (Playing scene) line ≡ record { printed = []; stage = None } = does_so (Playing scene) ∙ ap (λ (s : Option Scene). record { printed = (moved move scene).printed; stage = option_map Playing s }) is ∙ ap (λ (t : List ℕ). record { printed = t; stage = None }) nothing in
       ends_so basis scene number (line ∷ lines) said (ends_here basis (Playing scene) [] number line lines here) (heard_none basis (Playing scene) [] line lines here)
   says_it move says spelled does_so (Some mid) is later =
       then_follows basis declarations text scene mid number line lines move said says spelled does_so mixed is
-      (λ more. later (text ++ (moved move scene).printed) mid ((goes basis declarations move text scene spelled mixed).on mid is) (said ++ more))
+      (λ more. later (orders ++ move ∷ []) (text ++ (moved move scene).printed) mid ((goes basis declarations orders move text scene spelled mixed).on mid is) (said ++ more))
 
   at : Reads basis line → Later → Follows basis scene number (line ∷ lines) said
-  at (Empty does_so) later = nothing_here (does_so (Playing scene)) does_so (later text scene mixed said)
+  at (Empty does_so) later = nothing_here (does_so (Playing scene)) does_so (later orders text scene mixed said)
   at (Bad does_so) later = ends_so basis scene number (line ∷ lines) said (ends_here basis (Playing scene) [] number line lines (does_so (Playing scene))) (heard_none basis (Playing scene) [] line lines (does_so (Playing scene)))
   at (Says move says spelled does_so) later = says_it move says spelled does_so (moved move scene).scene refl later
 
@@ -627,7 +628,7 @@ module _ (basis : Basis) (written : AreWritten basis) where
     there_ = does_so (Playing scene)
 
     more : Follows basis scene number (line ∷ lines) (openings basis declarations)
-    more = follows basis declarations (starts_text basis declarations) scene number (line ∷ lines) (openings basis declarations) (started basis declarations written are)
+    more = follows basis declarations [] (starts_text basis declarations) scene number (line ∷ lines) (openings basis declarations) (started basis declarations written are)
 
     played_so : (next : Option Stage) → all_of basis (played_on (starts_text basis declarations ++ went.printed) next number (λ later. played basis later (number + 1) lines)) ≡ starts_text basis declarations ++ all_of basis (played_on went.printed next number (λ later. played basis later (number + 1) lines))
     played_so None = append_assoc (starts_text basis declarations) went.printed []

@@ -8,7 +8,7 @@ use Rattle.tip_play.specs.Transcripts.{IsFront, Transcribes, TranscribesOn, clos
 use Rattle.tip_play.specs.declared.fault.PlayFault.{PlayFault}
 use Rattle.tip_play.specs.declared.fault.PlayFault.TheVariants as fault
 use Rattle.tip_history.specs.Alone.{AreApart}
-use Rattle.tip_history.specs.Histories.{AreWritten, IsTold, declared_by}
+use Rattle.tip_history.specs.Histories.{AreWritten, IsTold, asked_by, declared_by, left_by}
 use Rattle.tip_history.specs.Tellings.{Tells, TellsOn}
 use Rattle.tip_history.proofs.Playing.{told_lines, told_script}
 use Rattle.tip_history.proofs.Scripts.{script_apart}
@@ -22,7 +22,7 @@ module _ (basis : Basis) (written : AreWritten basis) (script : List ℕ) (rest 
     front = front;
     later = later;
     written = appends;
-    told = subst (IsTold basis (declared_by basis (lines_of script))) whole (told_script basis written script);
+    told = subst (IsTold basis (declared_by basis (lines_of script)) (asked_by basis (lines_of script)) (left_by basis (lines_of script))) whole (told_script basis written script);
     apart = subst (AreApart basis (lines_of script)) whole (script_apart basis written (lines_of script));
   }
 

@@ -2,7 +2,6 @@
 use Rattle.std.specs.Prelude.{◌≡◌, ◌⊎◌, ℕ, Bool, true, false, List, [], ◌∷◌, ◌++◌, filter, Option, Some, None, slice_get}
 use Rattle.std.specs.List.{list_any}
 use Rattle.std.specs.Option.{option_map_or}
-use Rattle.std.specs.Str.{bytes_eq}
 use Rattle.tip_line.specs.Words.{is_realm}
 use Rattle.tip_actor.specs.Acting.{Acting}
 use Rattle.tip_scene.specs.Acts.{Basis, Declaring, Stage, is_declared}
@@ -10,14 +9,8 @@ use Rattle.tip_scene.specs.Scenes.{Moved, Scene, is_named, moved}
 use Rattle.tip_script.specs.Scripts.{Move, move_of, realm_of}
 use Rattle.tip_play.specs.Transcripts.{act_of, closing_text, played}
 use Rattle.tip_history.specs.Histories.{declared_by}
+use Rattle.tip_history.specs.Making.{concerns, own}
 use Rattle.tip_history.specs.Sayings.{Line, are_spelled, lines_on, lines_text, shown_of}
-
--- a line concerns the realm that it names, and a restart concerns all
-abbrev pub concerns : List ℕ → Move → Bool
-concerns name move = option_map_or (bytes_eq name) (realm_of move) true
-
-abbrev pub own : List ℕ → List Move → List Move
-own name moves = filter (concerns name) moves
 
 -- it names a realm as realms are spelled
 abbrev pub is_spelled : Move → Bool

@@ -1,4 +1,5 @@
 pub mod Sayings
+pub mod Making
 pub mod Histories
 pub mod Alone
 pub mod Tellings

@@ -6,7 +6,7 @@ use Rattle.tip_scene.specs.Acts.{Basis}
 use Rattle.tip_play.specs.Transcripts.{ended, lines_of}
 use Rattle.tip_play.specs.declared.fault.PlayFault.{PlayFault}
 use Rattle.tip_history.specs.Alone.{AreApart}
-use Rattle.tip_history.specs.Histories.{IsTold, declared_by}
+use Rattle.tip_history.specs.Histories.{IsTold, asked_by, declared_by, left_by}
 
 -- the lines of a script, or those that have ended in what was read of it
 abbrev pub AreRead : List ℕ → Option (List ℕ) → List (List ℕ) → Type 0
@@ -19,7 +19,7 @@ pub record Tells (basis : Basis) (script : List ℕ) (rest old new : Option (Lis
   pub front : List ℕ
   pub later : List ℕ
   pub written : Appends old new front
-  pub told : IsTold basis (declared_by basis lines) (front ++ later)
+  pub told : IsTold basis (declared_by basis lines) (asked_by basis lines) (left_by basis lines) (front ++ later)
   pub apart : AreApart basis lines (front ++ later)
 
 -- the same over a store of any kind, as long as it may be relied on

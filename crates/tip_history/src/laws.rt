@@ -8,14 +8,23 @@ ghost use Rattle.tip_scene.specs.Scenes.{Scene};
 ghost use Rattle.tip_scene.specs.declared.declared.Declaration.{Declaration};
 ghost use Rattle.tip_script.specs.Scripts.{Move};
 ghost use Rattle.tip_history.specs.Alone.{AreApart, IsAlone, all_moved, is_spelled, text_of};
-ghost use Rattle.tip_history.specs.Histories.{AllMayFollow, AreWritten, IsTold, declared_by};
+ghost use Rattle.tip_history.specs.Histories.{AllMayFollow, AreWritten, IsTold, asked_by, declared_by, left_by};
 
 /// ISOLATION AND AGREEMENT: whatever a script says, its transcript says of each realm that it declares what the realm's own machine
-/// shows in an honest run of its own, from its start as it was declared and by what was stored of it, over restarts and renewals; and
-/// in that run no transaction is half committed. What was stored is what tipd alone wrote.
+/// shows in an honest run of its own, from its start as it was declared and by what was stored of it, over restarts and renewals, to
+/// what it is in the end; the run's moves are what the lines ask for that concern it; and no transaction is half committed in it. What
+/// was stored is what tipd alone wrote.
 pub fn each_transcript_tells_honest_histories()
     ensures { (basis : Basis) → AreWritten basis → (script : List ℕ) →
-        IsTold basis (declared_by basis (lines_of script)) (transcript basis script) }
+        IsTold basis (declared_by basis (lines_of script)) (asked_by basis (lines_of script))
+        (left_by basis (lines_of script)) (transcript basis script) }
+{}
+
+/// The histories of a script that ends well lead to the realms that its store has then, of which `play_on` speaks (`Leaves`).
+pub fn the_histories_lead_to_what_is_left()
+    ensures { (basis : Basis) (script : List ℕ) (stage : Stage) →
+        (all_played basis script).ending ≡ Reached stage →
+        left_by basis (lines_of script) ≡ starting_from basis stage }
 {}
 
 /// ISOLATION: whatever realms a script declares, and whatever lines follow, each realm prints what it prints where no other realm is
