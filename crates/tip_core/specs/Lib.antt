@@ -1,4 +1,5 @@
 pub mod Hosted
+pub mod Ordering
 pub mod Recovering
 pub mod Renewing
 pub mod Refusals

@@ -1,6 +1,7 @@
 //! The machines of all realms.
 ghost use Rattle.std.specs.Prelude.{◌≡◌, ◌≢◌, ℕ, ◌+◌, ◌≤◌, ◌<◌, [], None, Some, true, IfOk, OnOk, map, length, slice_get, option_map};
 ghost use Rattle.tip_branch.specs.Always.{Always};
+ghost use Rattle.tip_machine.specs.Counts.{HasCounts};
 ghost use Rattle.tip_machine.specs.Heads.{starting};
 ghost use Rattle.tip_machine.specs.Moves.{risen};
 ghost use Rattle.tip_machine.specs.Recovery.{restarted};
@@ -10,7 +11,9 @@ ghost use Rattle.tip_machine.specs.Types.{seen};
 ghost use Rattle.tip_recovery.specs.Adopting.{are_adopted, loaded};
 ghost use Rattle.tip_rows.specs.Logs.{last_epoch};
 ghost use Rattle.tip_table.specs.Kept.{of};
+ghost use Rattle.tip_rules.specs.Works.{state_in};
 ghost use Rattle.tip_core.specs.Hosted.{realm as realm_at, room_in, may_take_in, must_wait_in, standing_in, HaveNames, IsRoomFor, Steps};
+ghost use Rattle.tip_core.specs.Ordering.{AreKnown};
 ghost use Rattle.tip_core.specs.Recovering.{IsOf, taking_up};
 ghost use Rattle.tip_core.specs.Renewing.{HasRoom};
 ghost use Rattle.tip_core.specs.Usages.{is_owed, is_with_superior, usage_of};
@@ -183,7 +186,7 @@ impl Core {
                 answer,
             };
         }
-        self.turns.note(realm, &self.realms.connections);
+        note_turns(&mut self.turns, &self.realms, realm, &event);
         let made = self.realms.step(realm, event, outcome, making);
         let answer = made.finish(&self.turns);
         Happened {
@@ -298,4 +301,17 @@ fn heads_of(alloc: Global, starts: Vec<Start>) -> Result<Vec<Head>, AllocError>
         heads.push(Head::new(start))?;
     }
     Ok(heads)
+}
+
+/// Notes the turns of a realm's connections, where an event may tell more than one of them.
+fn note_turns(turns: &mut Turns, realms: &Realms, realm: usize, event: &Event)
+    requires here { realm < length realms.now.heads.items }
+    requires counts { HasCounts (state_in realm realms.now) }
+    requires room { length (of realms.now.connections realm) ≤ turns.old.capacity }
+    ensures turns { AreKnown (state_in realm realms.now) event.now turns.new.turns }
+    ensures room { turns.new.capacity ≡ turns.old.capacity }
+{
+    if !realms.is_alone(realm, event) {
+        turns.note(realm, &realms.connections);
+    }
 }

@@ -1,5 +1,5 @@
 -- Each response and each request keeps what each single change keeps.
-use Rattle.std.proofs.Common.{◌≡◌, ℕ, List, Option, Some, None, refl}
+use Rattle.std.proofs.Common.{◌≡◌, ℕ, Bool, true, false, List, Option, Some, None, refl}
 use Rattle.std.specs.Prelude.{◌&&◌, nat_le}
 use Rattle.std.specs.Option.{IfSome}
 use Rattle.tip_line.specs.declared.command.Command.TheVariants as commands
@@ -33,6 +33,11 @@ use Rattle.tip_machine.specs.declared.transaction.Origin.{Origin}
 use Rattle.tip_machine.specs.declared.transaction.Origin.TheVariants as origin
 use Rattle.tip_machine.proofs.Walks.{AtOne, Closed, EndsAtOne, EndsOn, Is, at_one, attempt_on_each, either, either_attempt, is_or_any, key_of, or_any}
 use Rattle.tip_machine.proofs.RuleWalks.{abort-keeps, closed-keeps, closes, goes_wrong, is_commanded, advanced-made, advanced-number, noting-keeps, send-keeps, proceed-keeps, taking-keeps, wrong-keeps}
+
+-- does a response say that a transaction is not there?
+abbrev pub is_denial : Response → Bool
+is_denial QueriedNotFound = true
+is_denial other = false
 
 module _ (R : Work → Work → Type 0) (May : ℕ → Type 0) (On : Key → Type 0) (k : Closed R May On) where
   note_as-keeps : (v : Work) (role : Option Role) (note : Participant → Participant) (w : Work) → IfSome (key_of role) On → R v w → EndsOn On (R v) (note_as role note w)
@@ -87,29 +92,38 @@ module _ (R : Work → Work → Type 0) (May : ℕ → Type 0) (On : Key → Typ
         let gone_on = change c.number (advanced command.Identify response.Identified) w in
         either (R w) (nat_le 3 version) (pursue purpose c gone_on) (wrong c w) (k.then w gone_on _ (go_on-keeps command.Identify response.Identified c w may) (pursue-keeps purpose gone_on)) (wrong-keeps R May On k c w may on)
 
+    noted-keeps : (command : CommandName) (response : ResponseName) (note : Participant → Participant) (w : Work) → EndsOn On (R w) (note_as c.role note (go_on command response c w))
+    noted-keeps command response note w = note_as-keeps w c.role note _ on (go_on-keeps command response c w may)
+
+    proceeded-keeps : (command : CommandName) (response : ResponseName) (w : Work) → EndsOn On (R w) (proceed_as c.role (go_on command response c w))
+    proceeded-keeps command response w = proceed_as-keeps w c.role _ on (go_on-keeps command response c w may)
+
+    -- a response is about the transaction of its connection, but where it denies one in doubt
+    pub responded-keeps : (awaited : Awaited) (response : Response) (w : Work) → is_denial response ≡ false → EndsOn On (R w) (responded awaited response c w)
+    responded-keeps (Identify purpose) (Identified version) w is = greeted-keeps version purpose w
+    responded-keeps Push (Pushed id) w is = noted-keeps _ _ _ w
+    responded-keeps Push (AlreadyPushed id) w is = noted-keeps _ _ _ w
+    responded-keeps Push NotPushed w is = noted-keeps _ _ _ w
+    responded-keeps Pull Pulled w is = go_on-keeps _ _ c w may
+    responded-keeps Pull NotPulled w is = k.then w _ _ (go_on-keeps command.Pull response.NotPulled c w may) (abort_as-keeps c.role _ on)
+    responded-keeps Prepare Prepared w is = noted-keeps _ _ _ w
+    responded-keeps Prepare Aborted w is = noted-keeps _ _ _ w
+    responded-keeps Prepare ReadOnly w is = noted-keeps _ _ _ w
+    responded-keeps Commit Committed w is = noted-keeps _ _ _ w
+    responded-keeps Abort Aborted w is = proceeded-keeps _ _ w
+    responded-keeps (Query key) QueriedExists w is = go_on-keeps _ _ c w may
+    responded-keeps (Query key) QueriedNotFound w is = absurd (cc)
+    responded-keeps Reconnect Reconnected w is = proceeded-keeps _ _ w
+    responded-keeps Reconnect NotReconnected w is = noted-keeps _ _ _ w
+    responded-keeps awaited NeedTls w is = hang_up-keeps w
+    responded-keeps awaited Error w is = hang_up-keeps w
+    responded-keeps awaited other w is = wrong-keeps R May On k c w may on
+
 -- Any response and any line, where what is touched is the transaction of some one key
 module _ (R : Key → Work → Work → Type 0) (May : ℕ → Type 0) (k : (key : Key) → Closed (R key) May (Is key)) where
   module _ (c : Connection) (w : Work) (may : May c.number) where
-    greets : (version : ℕ) (purpose : Purpose) → AtOne R w (greeted version purpose c w)
-    greets version purpose = let key = or_any (key_of c.role) in (key, greeted-keeps (R key) May (Is key) (k key) c may (is_or_any (key_of c.role)) version purpose w)
-
     goes_on : (command : CommandName) (response : ResponseName) → AtOne R w (go_on command response c w)
     goes_on command response = let key = or_any None in (key, go_on-keeps (R key) May (Is key) (k key) command response c w may)
-
-    notes : (command : CommandName) (response : ResponseName) (note : Participant → Participant) → EndsAtOne R w (note_as c.role note (go_on command response c w))
-    notes command response note =
-        let key = or_any (key_of c.role) in
-        at_one R w key _ (note_as-keeps (R key) May (Is key) (k key) w c.role note _ (is_or_any (key_of c.role)) (go_on-keeps (R key) May (Is key) (k key) command response c w may))
-
-    proceeds : (command : CommandName) (response : ResponseName) → EndsAtOne R w (proceed_as c.role (go_on command response c w))
-    proceeds command response =
-        let key = or_any (key_of c.role) in
-        at_one R w key _ (proceed_as-keeps (R key) May (Is key) (k key) w c.role _ (is_or_any (key_of c.role)) (go_on-keeps (R key) May (Is key) (k key) command response c w may))
-
-    aborts : (command : CommandName) (response : ResponseName) → AtOne R w (abort_as c.role (go_on command response c w))
-    aborts command response =
-        let key = or_any (key_of c.role) in
-        (key, (k key).then w _ _ (go_on-keeps (R key) May (Is key) (k key) command response c w may) (abort_as-keeps (R key) May (Is key) (k key) c.role _ (is_or_any (key_of c.role))))
 
     -- the transaction in doubt where the removal is stored, and that of the connection where it is refused
     presumes_abort : (t : Transaction) → EndsAtOne R w (presume_abort c t (go_on command.Query response.QueriedNotFound c w))
@@ -123,27 +137,15 @@ module _ (R : Key → Work → Work → Type 0) (May : ℕ → Type 0) (k : (key
         )
         (goes_on command.Query response.QueriedNotFound)
 
+    undenied : (awaited : Awaited) (response : Response) → is_denial response ≡ false → EndsAtOne R w (responded awaited response c w)
+    undenied awaited response is = let key = or_any (key_of c.role) in at_one R w key (responded awaited response c w) (responded-keeps (R key) May (Is key) (k key) c may (is_or_any (key_of c.role)) awaited response w is)
+
     responds : (awaited : Awaited) (response : Response) → EndsAtOne R w (responded awaited response c w)
-    responds (Identify purpose) (Identified version) = greets version purpose
-    responds Push (Pushed id) = notes _ _ _
-    responds Push (AlreadyPushed id) = notes _ _ _
-    responds Push NotPushed = notes _ _ _
-    responds Pull Pulled = goes_on _ _
-    responds Pull NotPulled = aborts _ _
-    responds Prepare Prepared = notes _ _ _
-    responds Prepare Aborted = notes _ _ _
-    responds Prepare ReadOnly = notes _ _ _
-    responds Commit Committed = notes _ _ _
-    responds Abort Aborted = proceeds _ _
-    responds (Query key) QueriedExists = goes_on _ _
     responds (Query key) QueriedNotFound =
         let gone_on = go_on command.Query response.QueriedNotFound c w in
         attempt_on_each (EndsAtOne R w) (transaction_of key gone_on.state) (presume_abort c) gone_on (goes_on _ _) (λ t is. presumes_abort t)
-    responds Reconnect Reconnected = proceeds _ _
-    responds Reconnect NotReconnected = notes _ _ _
-    responds awaited NeedTls = closes R May k c w may
-    responds awaited Error = closes R May k c w may
-    responds awaited other = goes_wrong R May k c w may
+    responds awaited QueriedNotFound = goes_wrong R May k c w may
+    responds awaited other = undenied awaited other refl
 
     is_answered : (awaited : Option Awaited) (response : Response) → EndsAtOne R w (answered_by awaited response c w)
     is_answered None response = let key = or_any None in (key, (k key).same w)

@@ -254,7 +254,7 @@ module _ (R : Work → Work → Type 0) (May : ℕ → Type 0) (On : Key → Typ
 
   -- Commands
 
-  identify-keeps : (lowest highest : ℕ) (peer : Option (List ℕ)) (c : Connection) (w : Work) → May c.number → IfSome (key_of c.role) On → R w (identify lowest highest peer c w)
+  pub identify-keeps : (lowest highest : ℕ) (peer : Option (List ℕ)) (c : Connection) (w : Work) → May c.number → IfSome (key_of c.role) On → R w (identify lowest highest peer c w)
   unfolding identify
   identify-keeps lowest highest peer c w may on = either (R w) (nat_le lowest 3 && nat_le 3 highest) _ (wrong c w) (k.then w _ _ (k.tells c.number (Say said.Identified) w may tt) (k.changes c.number (identified peer) _ may (advanced-number _ _) (advanced-made _ _))) (wrong-keeps c w may on)
 
@@ -280,7 +280,7 @@ module _ (R : Work → Work → Type 0) (May : ℕ → Type 0) (On : Key → Typ
   either_said true = tt
   either_said false = tt
 
-  query-keeps : (superior : List ℕ) (c : Connection) (w : Work) → May c.number → R w (query superior c w)
+  pub query-keeps : (superior : List ℕ) (c : Connection) (w : Work) → May c.number → R w (query superior c w)
   unfolding query
   query-keeps superior c w may = reply-keeps c.number _ _ w may (either_said (option_map_or exists (identified_by superior w.state) false))
 
@@ -327,7 +327,7 @@ module _ (R : Work → Work → Type 0) (May : ℕ → Type 0) (On : Key → Typ
   there_obeyed (Some (Superior key)) state t is = there_by_key key state.transactions t is
   there_obeyed (Some (Subordinate key part)) state t is = absurd (none-some t is)
 
-  obey-keeps : (command : CommandName) (rule : Transaction → Work → Attempt) (c : Connection) (w : Work) → May c.number → IfSome (key_of c.role) On → ((t : Transaction) (v : Work) → On t.key → transaction_of t.key v.state ≡ Some t → EndsOn On (R v) (rule t v)) → EndsOn On (R w) (obey command rule c w)
+  pub obey-keeps : (command : CommandName) (rule : Transaction → Work → Attempt) (c : Connection) (w : Work) → May c.number → IfSome (key_of c.role) On → ((t : Transaction) (v : Work) → On t.key → transaction_of t.key v.state ≡ Some t → EndsOn On (R v) (rule t v)) → EndsOn On (R w) (obey command rule c w)
   obey-keeps command rule c w may on keeps =
       let owed = change c.number (owing command) w in
       more (obey command rule c w) w owed (k.changes c.number (owing command) w may (λ c. refl) (λ c. refl)) (attempt_on_each (EndsOn On (R owed)) (option_and_then (λ key. transaction_of key owed.state) (superior_role c.role)) rule owed (k.same owed) (λ t is. keeps t owed (on_obeyed c.role owed.state t is on) (there_obeyed c.role owed.state t is)))

@@ -14,12 +14,13 @@ ghost use Rattle.tip_machine.specs.Counts.{HasCounts};
 ghost use Rattle.tip_machine.specs.Failing.{closed};
 ghost use Rattle.tip_machine.specs.Given.{are_numbered, was_given};
 ghost use Rattle.tip_machine.specs.Moves.{Move, World, fresh, led_to};
+ghost use Rattle.tip_machine.specs.Order.{AreFor, is_alone};
 ghost use Rattle.tip_machine.specs.Requests.{push_part, resume};
 ghost use Rattle.tip_machine.specs.Responses.{pursue};
 ghost use Rattle.tip_machine.specs.Returns.{Back, back_of, can_answer, is_done};
 ghost use Rattle.tip_machine.specs.Starting.{IsStart, is_starting};
 ghost use Rattle.tip_machine.specs.States.{State, Work, connection_of, identified_by, started, transaction_of};
-ghost use Rattle.tip_machine.specs.Steps.{entered, step, wants, ChangesTheEntriesAlone, IsForgotten, IsNext, IsOfKey, SendsOne, TellsOfOne, TouchesOne};
+ghost use Rattle.tip_machine.specs.Steps.{attempt, chosen, entered, step, wants, ChangesTheEntriesAlone, IsForgotten, IsNext, IsOfKey, SendsOne, TellsOfOne, TouchesOne};
 ghost use Rattle.tip_machine.specs.Transactions.{decision};
 ghost use Rattle.tip_machine.specs.Types.{Connection, Event};
 ghost use Rattle.tip_machine.specs.declared.answer.Said.TheVariants as said;
@@ -80,6 +81,14 @@ pub fn at_most_one_transaction_changes()
         × TellsOfOne key event state (step state event outcome).answer.sent
         × SendsOne key state (step state event outcome).answer
         × IsOfKey key (wants state event) outcome }
+{}
+
+/// An event on a connection without a transaction tells that connection alone, but for the two that may concern others. So its
+/// lines are in turn as they were said, and nobody's turn needs to be known.
+#[tactic(auto, using(crate::proofs::Alone::is_told_alone))]
+pub fn an_event_of_no_transaction_tells_one_connection()
+    ensures { (state : State) (event : Event) (outcome : Outcome) → is_alone state event ≡ true →
+        (number : ℕ) × AreFor number (chosen (attempt event (entered state)) outcome).answer.sent }
 {}
 
 /// An identifier is never made twice: a new transaction has a key that was not given before, that is given then, and that

@@ -1,10 +1,11 @@
 -- The tables between two events.
-use Rattle.std.proofs.Common.{◌≡◌, ℕ, ◌<◌, Bool, false, not, Option, Some, None, length, ap, sym, ◌∙◌}
-use Rattle.std.specs.Prelude.{slice_index_or}
+use Rattle.std.proofs.Common.{◌≡◌, ℕ, ◌<◌, Bool, true, false, not, Option, Some, None, length, refl, ap, sym, ◌∙◌}
+use Rattle.std.specs.Prelude.{is_none, slice_index_or}
 use Rattle.std.proofs.lemmas.Option.{same_Some, slice_get-get_or}
 use Rattle.tip_table.specs.Kept.{StandsAt, item_at}
 use Rattle.tip_table.proofs.Standing.{found as found_first}
 use Rattle.tip_machine.specs.Connections.{has_number, may_take}
+use Rattle.tip_machine.specs.Order.{is_on_none}
 use Rattle.tip_machine.specs.Requests.{may_take_on, must_wait_on}
 use Rattle.tip_machine.specs.States.{connection_of, seated}
 use Rattle.tip_machine.specs.Types.{Connection}
@@ -14,6 +15,10 @@ use Rattle.tip_rules.specs.Standing.{standing_of, standing_on}
 use Rattle.tip_rules.specs.Works.{Realms, connected, no_head, state_in}
 use Rattle.tip_rules.specs.declared.standing.Standing.{Standing}
 use Rattle.tip_rules.specs.declared.standing.Standing.TheVariants.{Gone}
+
+pub twice : (b : Bool) → b ≡ not (not b)
+twice true = refl
+twice false = refl
 
 module _ (realms : Realms) (realm : ℕ) (head : Head) (inside : realm < length realms.heads.items) (is : head ≡ slice_index_or realms.heads.items realm head) (seat : Seat) where
   -- a realm's seats are those of its head and its connections
@@ -41,6 +46,14 @@ module _ (realms : Realms) (realm : ℕ) (head : Head) (inside : realm < length 
 
   pub stands_nowhere : seated seat (connected head realms.connections realm) ≡ None → Gone ≡ standing_on (seated seat (state_in realm realms))
   stands_nowhere none = sym (ap standing_on (seats ∙ none))
+
+  pub apart_there : (place : ℕ) (item : Connection) → StandsAt realms.connections realm (has_number seat.number) place → item_at realms.connections place ≡ Some item → seated seat (connected head realms.connections realm) ≡ connection_of seat.number (connected head realms.connections realm) → is_none item.role ≡ is_on_none (seated seat (state_in realm realms))
+  apart_there place item here is_item same = sym (there is_on_none place item here is_item same)
+
+  pub apart_nowhere : seated seat (connected head realms.connections realm) ≡ None → true ≡ is_on_none (seated seat (state_in realm realms))
+  apart_nowhere none = sym (ap is_on_none (seats ∙ none))
+
+pub ruleset standing_apart = (apart_there, apart_nowhere)
 
 pub ruleset standing = (stands_there, stands_nowhere)
 

@@ -3,6 +3,7 @@ ghost use Rattle.std.specs.Prelude.{◌≡◌, ◌<◌, ℕ, length, IfOk};
 ghost use Rattle.tip_table.specs.Kept.{of};
 ghost use Rattle.tip_machine.specs.Answers.{silence};
 ghost use Rattle.tip_machine.specs.Counts.{HasCounts};
+ghost use Rattle.tip_machine.specs.Order.{concerns_others, is_alone, is_on_none};
 ghost use Rattle.tip_machine.specs.Requests.{may_take_on, must_wait_on};
 ghost use Rattle.tip_machine.specs.States.{seated};
 ghost use Rattle.tip_rules.specs.Needs.{HasNeeds, Suits, happened};
@@ -16,7 +17,8 @@ use crate::standing::{Standing, standing_of};
 use crate::work::Work;
 use std::alloc::{AllocError, Global};
 use std::mem;
-use tip_machine::{Connection, Event, Head, Outcome, Seat, Transaction};
+use tip_line::{Command, Response};
+use tip_machine::{Connection, Event, Head, Heard, Outcome, Seat, Transaction};
 use tip_table::Table;
 
 /// What is declared and counted of each realm, and the tables of all connections and transactions.
@@ -98,6 +100,36 @@ impl Realms<Connection, Transaction> {
         }
     }
 
+    /// Whether an event tells one connection alone, so that nobody's turn needs to be known.
+    pub fn is_alone(&self, realm: usize, event: &Event) -> bool
+        requires here { realm < length self.now.heads.items }
+        requires counts { HasCounts (state_in realm self.now) }
+        ensures { result ≡ is_alone (state_in realm self.now) event.now }
+    {
+        match event {
+            Event::Open { .. }
+            | Event::Dial { .. }
+            | Event::AskPush { .. }
+            | Event::AskPull { .. } => true,
+            Event::Line { seat, heard } => !concerns_others(heard) && self.is_on_none(realm, *seat),
+            Event::Lost { seat } => self.is_on_none(realm, *seat),
+            Event::Voted(_) | Event::Settled(_) | Event::Resume { .. } => false,
+        }
+    }
+
+    /// Whether no connection has this seat, or it is on no transaction.
+    #[tactic(auto, using(crate::proofs::Lending::standing_apart))]
+    fn is_on_none(&self, realm: usize, seat: Seat) -> bool
+        requires here { realm < length self.now.heads.items }
+        requires counts { HasCounts (state_in realm self.now) }
+        ensures { result ≡ is_on_none (seated seat (state_in realm self.now)) }
+    {
+        match seat_place(&self.heads[realm], &self.connections, realm, seat) {
+            Some(place) => self.connections.item(place).role.is_none(),
+            None => true,
+        }
+    }
+
     /// Lends the tables to the work of an event, with an answer to be made.
     fn lend(
         &mut self,
@@ -133,4 +165,14 @@ impl Realms<Connection, Transaction> {
         self.transactions = transactions;
         making
     }
+}
+
+/// Whether what is heard on a connection without a transaction may concern another.
+fn concerns_others(heard: &Heard) -> bool
+    ensures { result ≡ concerns_others heard.now }
+{
+    matches!(
+        heard,
+        Heard::Command(Command::Reconnect { .. }) | Heard::Response(Response::QueriedNotFound)
+    )
 }

@@ -1,11 +1,8 @@
-use Rattle.std.proofs.Common.{◌∙◌, List, ap, rules, subst, sym}
-use Rattle.tip_machine.specs.Order.{in_turn}
+use Rattle.std.proofs.Common.{rules, subst, sym}
 use Rattle.tip_core.proofs.Naming.{still_named}
 use Rattle.tip_core.proofs.Stepping.{counted, hosted, needs, nowhere_steps, steps, there, turned_down}
 use Rattle.tip_core.specs.Hosted.{IsRoomFor}
-use Rattle.tip_outlook.specs.Turns.{turn_in}
 use Rattle.tip_rules.specs.Works.{state_in}
-use Rattle.tip_outlook.specs.declared.turns.Turn.{Turn}
 use Rattle.tip_core.proofs.machine.Core.apply.Goals as goal
 
 pub returns-then-realm-len-clause-steps : goal.returns-then-realm-len-clause-steps
@@ -14,8 +11,8 @@ returns-then-realm-len-clause-steps g c = rw (← c.self.view_is) (nowhere_steps
 pub returns-then-realm-len-clause-named : goal.returns-then-realm-len-clause-named
 returns-then-realm-len-clause-named g c = rw (← c.self.view_is) c.self.invariant.1
 
-pub note-requires : goal.note-requires
-note-requires g c =
+pub note_turns-requires-clause-room : goal.note_turns-requires-clause-room
+note_turns-requires-clause-room g c =
     let room = subst (λ h. IsRoomFor h c.args.realm c.args.event c.args.room) (sym c.self.view_is) c.requires.room in
     room.turns (state_in c.args.realm c.self.inside.realms) (there c.self.inside.realms c.self.inside.turns.capacity c.args.realm (search rules))
 
@@ -25,20 +22,17 @@ step-made-requires-clause-needs g c =
     needs c.self.inside.realms c.args.realm c.args.outcome c.into_parts-making.result.0 c.args.event c.args.room (room.suits (state_in c.args.realm c.self.inside.realms) (there c.self.inside.realms c.self.inside.turns.capacity c.args.realm (search rules))) c.into_parts-making.ensures.lines c.into_parts-making.ensures.transaction c.into_parts-making.ensures.peer c.into_parts-making.ensures.ours c.into_parts-making.ensures.word
 
 pub returns-clause-steps : goal.returns-clause-steps
-returns-clause-steps g c = rw (← c.self.view_is) (steps c.self.inside.realms c.step-made.new.self c.args.realm c.args.event c.args.outcome c.into_parts-making.result.0 c.step-made.result (search rules) c.step-made.ensures c.self.invariant.0 c.self.inside.turns.capacity c.note.new.self.capacity c.finish-answer-2.result
-    (c.finish-answer-2.ensures ∙ ap (λ (turns : List Turn). record c.step-made.result.answer { sent = in_turn (turn_in turns) c.step-made.result.answer.sent }) c.note.ensures.turns))
+returns-clause-steps g c = rw (← c.self.view_is) (steps c.self.inside.realms c.step-made.new.self c.args.realm c.args.event c.args.outcome c.into_parts-making.result.0 c.step-made.result (search rules) c.step-made.ensures c.self.invariant.0 c.self.inside.turns.capacity c.note_turns.new.turns.capacity c.note_turns.new.turns.turns c.finish-answer-2.result c.note_turns.ensures.turns c.finish-answer-2.ensures)
 
 pub invariant_of-self : goal.invariant_of-self
 invariant_of-self g c = (
   counted c.self.inside.realms c.step-made.new.self c.args.realm c.args.event c.args.outcome c.into_parts-making.result.0 c.step-made.result (search rules) c.step-made.ensures c.self.invariant.0,
-  still_named (hosted c.self.inside.realms c.self.inside.turns.capacity) (hosted c.step-made.new.self c.note.new.self.capacity) c.args.realm c.args.event c.args.outcome c.finish-answer-2.result
-      (steps c.self.inside.realms c.step-made.new.self c.args.realm c.args.event c.args.outcome c.into_parts-making.result.0 c.step-made.result (search rules) c.step-made.ensures c.self.invariant.0 c.self.inside.turns.capacity c.note.new.self.capacity c.finish-answer-2.result
-      (c.finish-answer-2.ensures ∙ ap (λ (turns : List Turn). record c.step-made.result.answer { sent = in_turn (turn_in turns) c.step-made.result.answer.sent }) c.note.ensures.turns))
+  still_named (hosted c.self.inside.realms c.self.inside.turns.capacity) (hosted c.step-made.new.self c.note_turns.new.turns.capacity) c.args.realm c.args.event c.args.outcome c.finish-answer-2.result
+      (steps c.self.inside.realms c.step-made.new.self c.args.realm c.args.event c.args.outcome c.into_parts-making.result.0 c.step-made.result (search rules) c.step-made.ensures c.self.invariant.0 c.self.inside.turns.capacity c.note_turns.new.turns.capacity c.note_turns.new.turns.turns c.finish-answer-2.result c.note_turns.ensures.turns c.finish-answer-2.ensures)
       c.self.invariant.1,
 )
 
 pub returns-clause-named : goal.returns-clause-named
-returns-clause-named g c = still_named (hosted c.self.inside.realms c.self.inside.turns.capacity) (hosted c.step-made.new.self c.note.new.self.capacity) c.args.realm c.args.event c.args.outcome c.finish-answer-2.result
-    (steps c.self.inside.realms c.step-made.new.self c.args.realm c.args.event c.args.outcome c.into_parts-making.result.0 c.step-made.result (search rules) c.step-made.ensures c.self.invariant.0 c.self.inside.turns.capacity c.note.new.self.capacity c.finish-answer-2.result
-    (c.finish-answer-2.ensures ∙ ap (λ (turns : List Turn). record c.step-made.result.answer { sent = in_turn (turn_in turns) c.step-made.result.answer.sent }) c.note.ensures.turns))
+returns-clause-named g c = still_named (hosted c.self.inside.realms c.self.inside.turns.capacity) (hosted c.step-made.new.self c.note_turns.new.turns.capacity) c.args.realm c.args.event c.args.outcome c.finish-answer-2.result
+    (steps c.self.inside.realms c.step-made.new.self c.args.realm c.args.event c.args.outcome c.into_parts-making.result.0 c.step-made.result (search rules) c.step-made.ensures c.self.invariant.0 c.self.inside.turns.capacity c.note_turns.new.turns.capacity c.note_turns.new.turns.turns c.finish-answer-2.result c.note_turns.ensures.turns c.finish-answer-2.ensures)
     c.self.invariant.1
