@@ -51,6 +51,8 @@ impl Actor<PartyOut> {
             IfOk result (λ told. Tells S.keeping stored_core.old stored_core.new place
             self.old self.new (string_bytes printed.old) (string_bytes printed.new) told
             (on_connection loses connection acting)) }
+        ensures untold { IfOk result
+            (λ told. told ≡ false → stored_core.new ≡ stored_core.old) }
     {
         let Some(seat) = self.seat(connection) else {
             return Ok(false);
@@ -82,6 +84,8 @@ impl Actor<PartyOut> {
             IfOk result (λ told. Tells S.keeping stored_core.old stored_core.new place
             self.old self.new (string_bytes printed.old) (string_bytes printed.new) told
             (on_connection (pushes id) connection acting)) }
+        ensures untold { IfOk result
+            (λ told. told ≡ false → stored_core.new ≡ stored_core.old) }
     {
         let Some(seat) = self.seat(connection) else {
             return Ok(false);
@@ -117,6 +121,8 @@ impl Actor<PartyOut> {
             IfOk result (λ told. Tells S.keeping stored_core.old stored_core.new place
             self.old self.new (string_bytes printed.old) (string_bytes printed.new) told
             (on_connection (pulls superior) connection acting)) }
+        ensures untold { IfOk result
+            (λ told. told ≡ false → stored_core.new ≡ stored_core.old) }
     {
         let Some(seat) = self.seat(connection) else {
             return Ok(false);

@@ -37,6 +37,8 @@ impl Actor<PartyOut> {
             IfOk result (λ told. Tells S.keeping stored_core.old stored_core.new place
             self.old self.new (string_bytes printed.old) (string_bytes printed.new) told
             (goes_for acting.world.errands acting)) }
+        ensures untold { IfOk result
+            (λ told. told ≡ false → stored_core.new ≡ stored_core.old) }
     {
         let Some(party) = self.errands.pop_front() else {
             print_idle(printed, self.name.as_str())?;

@@ -3,5 +3,6 @@ pub mod Cutting
 pub mod Transcribing
 pub mod Lines
 pub mod Reading
+pub mod Leaving
 pub mod Ending
 pub mod Blaming

@@ -56,7 +56,7 @@ module _ {S : Type 0} (kept : Keeping S) (basis : Basis) where
   reads_none stage whole old is = record { read = []; consumed = Consumes-nil whole; played = lines.none_played kept basis stage old is }
 
   -- what holds of each script that begins so
-  of_whole : (whole left : Option (List ℕ)) (read : List ℕ) (P : List ℕ → Type 0) → Consumes whole left read → ((rest : List ℕ) → P (read ++ rest)) → IfSome whole P
+  pub of_whole : (whole left : Option (List ℕ)) (read : List ℕ) (P : List ℕ → Type 0) → Consumes whole left read → ((rest : List ℕ) → P (read ++ rest)) → IfSome whole P
   of_whole None left read P consumed all = tt
   of_whole (Some script) None read P consumed all = absurd consumed
   of_whole (Some script) (Some rest) read P consumed all = subst P (sym consumed) (all rest)
@@ -106,7 +106,7 @@ module _ {S : Type 0} (kept : Keeping S) (basis : Basis) where
       (subst (λ lines. list_all (λ l. is_covered basis (move_of l)) lines ≡ true) (last_line (read ++ line) ∙ ap (λ l. ended (read ++ line) ++ l ∷ []) (unended_line read line closed inner)) covers)
 
   -- it has an end
-  behind_feed : (read line rest : List ℕ) → (read ++ (line ++ 10 ∷ [])) ++ rest ≡ (read ++ line) ++ 10 ∷ rest
+  pub behind_feed : (read line rest : List ℕ) → (read ++ (line ++ 10 ∷ [])) ++ rest ≡ (read ++ line) ++ 10 ∷ rest
   behind_feed read line rest = ap (λ l. l ++ rest) (sym (append_assoc read line (10 ∷ []))) ∙ append_assoc (read ++ line) (10 ∷ []) rest
 
   pub line_covered : (stage : AStage S) (number : ℕ) (whole left left' old new : Option (List ℕ)) (line : List ℕ) (end : LineEnd) → HasRead stage number whole left old new → IsCoveredBy basis whole → end ≢ TooLong → Reads left left' line (Ok end) → is_covered basis (move_of line) ≡ true

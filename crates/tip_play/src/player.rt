@@ -7,11 +7,11 @@ ghost use Rattle.tip_script.specs.Scripts.{move_of};
 ghost use Rattle.tip_scene.specs.Acts.{Basis, Stage as AStage, acted, closing_of, is_covered};
 ghost use Rattle.tip_scene.specs.Blaming.{Blames, HadTooFew, HasRefused, IsBlamed, starting_from};
 ghost use Rattle.tip_scene.specs.Boxes.{AreWilling};
-ghost use Rattle.tip_scene.specs.Leaving.{IsLeft, LeavesOthers, names_in};
+ghost use Rattle.tip_scene.specs.Leaving.{IsLeft, LeavesOthers, names_in, scene_behind};
 ghost use Rattle.tip_rows.specs.Logs.{Log};
 ghost use Rattle.tip_scene.specs.Stages.{ComeWith, IsBasis, IsSound, IsStage, Trusts, has_started, store_of};
 ghost use Rattle.tip_play.specs.Endings.{ended, unflushed};
-ghost use Rattle.tip_play.specs.Leaving.{Leaves};
+ghost use Rattle.tip_play.specs.Leaving.{Leaves, LeavesAtFault, LeavesAtLine};
 ghost use Rattle.tip_play.specs.Transcripts.{Transcribes, TranscribesOn, covers_all, in_memory};
 ghost use Rattle.tip_play.specs.Writing.{ActsOn, ClosesOn, HasCome};
 
@@ -74,6 +74,10 @@ pub fn play_on<S: RowLog + Drop, R: BufRead, W: Write>(
         IsBasis S.keeping basis store → (script : List ℕ) →
         R.remaining input.old ≡ Some script → covers_all basis script ≡ true →
         IfOk result (λ left. S.keeping.is_true left → Leaves S.keeping basis script store left) }
+    ensures faults { (basis : Basis) → basis.may_refuse ≡ false →
+        IsBasis S.keeping basis store → (script : List ℕ) →
+        R.remaining input.old ≡ Some script → covers_all basis script ≡ true →
+        LeavesAtFault S.keeping basis script store result }
     ensures blames { (basis : Basis) → basis.may_refuse ≡ false →
         IsBasis S.keeping basis store → (script : List ℕ) →
         R.remaining input.old ≡ Some script → covers_all basis script ≡ true →
@@ -102,6 +106,10 @@ fn play_over<S: RowLog + Drop, F: Refuser<S>, R: BufRead, W: Write>(
         IsBasis S.keeping basis store → (script : List ℕ) →
         R.remaining input.old ≡ Some script → covers_all basis script ≡ true →
         IfOk result (λ left. S.keeping.is_true left → Leaves S.keeping basis script store left) }
+    ensures faults { (basis : Basis) → basis.may_refuse ≡ F.may →
+        IsBasis S.keeping basis store → (script : List ℕ) →
+        R.remaining input.old ≡ Some script → covers_all basis script ≡ true →
+        LeavesAtFault S.keeping basis script store result }
     ensures blames { F.may ≡ false → (basis : Basis) → basis.may_refuse ≡ F.may →
         IsBasis S.keeping basis store → (script : List ℕ) →
         R.remaining input.old ≡ Some script → covers_all basis script ≡ true →
@@ -144,6 +152,10 @@ fn play_lines<S: RowLog + Drop, F: Refuser<S>, R: BufRead, W: Write>(
         IsBasis S.keeping basis store → (script : List ℕ) →
         R.remaining input.old ≡ Some script → covers_all basis script ≡ true →
         IfOk result (λ left. S.keeping.is_true left → Leaves S.keeping basis script store left) }
+    ensures faults { (basis : Basis) → basis.may_refuse ≡ F.may →
+        IsBasis S.keeping basis store → (script : List ℕ) →
+        R.remaining input.old ≡ Some script → covers_all basis script ≡ true →
+        LeavesAtFault S.keeping basis script store result }
     ensures blames { F.may ≡ false → (basis : Basis) → basis.may_refuse ≡ F.may →
         IsBasis S.keeping basis store → (script : List ℕ) →
         R.remaining input.old ≡ Some script → covers_all basis script ≡ true →
@@ -310,6 +322,10 @@ fn act<S: RowLog + Drop, F: Refuser<S>, W: Write>(
         ComeWith (move_of line.now) (map standing boxes.items) →
         IfOk result (λ next. S.keeping.is_true (store_of next) →
         LeavesOthers S.keeping stage next) }
+    ensures faults { (basis : Basis) (now : AStage) → basis.may_refuse ≡ F.may →
+        IsStage S.keeping basis stage now →
+        LeavesAtLine S.keeping (scene_behind basis now (move_of line.now)) (store_of stage)
+        result }
     ensures counts { F.may ≡ false → IfOk result (λ now. S.keeping.faults (store_of now)
         ≡ S.keeping.faults (store_of stage)) }
     ensures blames { F.may ≡ false → (basis : Basis) (now : AStage) →

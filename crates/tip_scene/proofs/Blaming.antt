@@ -79,6 +79,16 @@ module _ {S : Type 0} (kept : Keeping S) (old new : S) (may : Bool) (before afte
     by false true off (Err line.Memory) is = absurd cc
     by false true off (Err line.Store) is = absurd cc
 
+-- one that may not stand here is none that the store is to blame for
+pub judged_not : (may same : Bool) (end : Result (Unit {0}) LineFault) → judged may same end ≡ Err line.NotUnderstood → end ≡ Err line.NotUnderstood
+judged_not true same end is = is
+judged_not false true (Ok done) is = absurd cc
+judged_not false true (Err line.NotUnderstood) is = refl
+judged_not false true (Err line.Memory) is = absurd cc
+judged_not false true (Err line.Store) is = absurd cc
+judged_not false false (Ok done) is = absurd cc
+judged_not false false (Err fault) is = is
+
 -- what was done is what it was
 pub serves_judged : {S : Type 0} (kept : Keeping S) (printed printed' : List ℕ) (moved : Moved) (playing : APlaying S) (may same : Bool) (end : Result (Unit {0}) LineFault) → Serves kept printed printed' moved playing end → Serves kept printed printed' moved playing (judged may same end)
 serves_judged kept printed printed' moved playing true same end serves = serves
@@ -201,6 +211,10 @@ pub act_store : (fault : ActFault) → of_act_fault fault ≡ line.Store → fau
 act_store act.Memory is = absurd cc
 act_store act.Store is = refl
 
+pub act_known : (fault : ActFault) → of_act_fault fault ≡ line.NotUnderstood → ⊥
+act_known act.Memory is = absurd cc
+act_known act.Store is = absurd cc
+
 -- a restart keeps the rows
 pub boxes_again : (scene : Scene) → box_count (map after scene) ≡ box_count scene
 boxes_again [] = refl
@@ -258,6 +272,10 @@ module _ {S : Type 0} (kept : Keeping S) where
   pub of_declared : {X : Type 0} (basis : Basis) (realms : Declared S) (now : Stage) → IsStage kept basis (stage.Declaring realms) now → ((declarations : List Declaration) → IsDeclared kept basis realms declarations → X) → X
   of_declared basis realms (Declaring declarations) is all = all declarations is
   of_declared basis realms (Playing scene) is all = absurd is
+
+  pub declared_at : (basis : Basis) (realms : Declared S) (now : Stage) (P : Stage → Type 0) → IsStage kept basis (stage.Declaring realms) now → ((declarations : List Declaration) → IsDeclared kept basis realms declarations → P (Declaring declarations)) → P now
+  declared_at basis realms (Declaring declarations) P is all = all declarations is
+  declared_at basis realms (Playing scene) P is all = absurd is
 
   pub of_playing : {X : Type 0} (basis : Basis) (playing : APlaying S) (now : Stage) → IsStage kept basis (stage.Playing playing) now → ((scene : Scene) → IsScene kept playing.stored_core playing.actors.items scene → X) → X
   of_playing basis playing (Declaring declarations) is all = absurd is

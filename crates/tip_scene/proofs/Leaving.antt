@@ -15,11 +15,12 @@ use Rattle.std.specs.Prelude.{Err, Ok, OnOk, Result}
 use Rattle.tip_actor.specs.Acting.{Acting, Done, count_of, takes}
 use Rattle.tip_actor.specs.Standing.{Actor, Acts, IsActing, IsStored, Leaves, StoredCore, Tells}
 use Rattle.tip_actor.proofs.Lists.{partner}
-use Rattle.tip_scene.specs.Leaving.{AreStored, IsLeft, LeavesOthers, LeavesRest, OthersStay, is_among, names_in}
+use Rattle.tip_script.specs.Scripts.{Move}
+use Rattle.tip_scene.specs.Leaving.{AreStored, IsLeft, LeavesAtFault, LeavesOthers, LeavesRest, OthersStay, is_among, is_starting, names_in, scene_at}
 use Rattle.tip_scene.specs.Acts.{Basis, Declaring, Playing, Stage, scene_of}
 use Rattle.tip_scene.proofs.Again.{after}
 use Rattle.tip_scene.proofs.Scening.{settled}
-use Rattle.tip_scene.specs.Blaming.{judged, starting_from}
+use Rattle.tip_scene.specs.Blaming.{judged, scene_in, starting_from}
 use Rattle.tip_scene.specs.declared.fault.LineFault.{LineFault}
 use Rattle.tip_scene.specs.declared.fault.LineFault.TheVariants as line
 use Rattle.tip_scene.specs.Scenes.{Scene}
@@ -151,7 +152,7 @@ module _ {S : Type 0} (kept : Keeping S) where
     by (a ∷ actors) [] count named = absurd (omega (arith, count))
     by (a ∷ actors) (s ∷ scene) count named = ap (λ n. n ∷ map (λ (x : Actor). x.name) actors) (named 0 a s refl refl) ∙ ap (λ l. s.name ∷ l) (by actors scene (omega (arith, count)) (λ place. named (suc place)))
 
-  left_by : (stored_core : StoredCore S) (actors : List Actor) (scene : Scene) (starts : ℕ) (old : S) → IsScene kept stored_core actors scene → OthersStay kept starts (map (λ (a : Acting). a.name) scene) old stored_core.store → IsLeft kept scene old stored_core.store
+  pub left_by : (stored_core : StoredCore S) (actors : List Actor) (scene : Scene) (starts : ℕ) (old : S) → IsScene kept stored_core actors scene → OthersStay kept starts (map (λ (a : Acting). a.name) scene) old stored_core.store → IsLeft kept scene old stored_core.store
   left_by stored_core actors scene starts old is others = record { stored = scene_stored stored_core actors scene is; starts = starts; others = others }
 
   -- where a script ends
@@ -231,3 +232,38 @@ module _ {S : Type 0} (kept : Keeping S) where
         starts = 1 + rest.starts;
         others = others_on 1 rest.starts names names realms.store playing.stored_core.store playing'.stored_core.store (λ name apart. apart) (first names) (subst (λ l. OthersStay kept rest.starts l playing.stored_core.store playing'.stored_core.store) (sym rest.same) rest.others);
       }
+
+  -- Where a line may not stand
+
+  -- none has started by it
+  pub stays_left : (basis : Basis) (code : AStage S) (now : Stage) (new : S) → new ≡ store_of code → IsStage kept basis code now → IsLeft kept (scene_in now) (store_of code) new
+  stays_left basis (stage.Declaring realms) (Declaring declarations) new same is = subst (IsLeft kept [] realms.store) (sym same) (record { stored = λ place acting here. absurd (none-some acting here); starts = 0; others = none_done [] realms.store })
+  stays_left basis (stage.Declaring realms) (Playing scene) new same is = absurd is
+  stays_left basis (stage.Playing playing) (Declaring declarations) new same is = absurd is
+  stays_left basis (stage.Playing playing) (Playing scene) new same is = left_then basis playing (Playing scene) new same is
+
+  same_scene : (b : Bool) (scene : Scene) → cond b scene scene ≡ scene
+  same_scene true scene = refl
+  same_scene false scene = refl
+
+  pub fault_stays : (basis : Basis) (code : AStage S) (at : Stage) (why : LineFault) (store : S) → store ≡ store_of code → IsStage kept basis code at → LeavesAtFault kept (scene_in at) (store_of code) (Err (why, store))
+  fault_stays basis code at line.NotUnderstood store same is = λ truth. stays_left basis code at store same is
+  fault_stays basis code at line.Memory store same is = tt
+  fault_stays basis code at line.Store store same is = tt
+
+  -- the realms were at work
+  pub fault_at_work : (basis : Basis) (playing : APlaying S) (now : Stage) (move : Move) (why : LineFault × S) → IsStage kept basis (stage.Playing playing) now → (why.0 ≡ line.NotUnderstood → why.1 ≡ playing.stored_core.store) → LeavesAtFault kept (scene_at basis now move) playing.stored_core.store (Err why)
+  fault_at_work basis playing (Declaring declarations) move why is stays = absurd is
+  fault_at_work basis playing (Playing scene) move (line.NotUnderstood, store) is stays = λ truth. subst (λ s. IsLeft kept s playing.stored_core.store store) (sym (same_scene (is_starting move) scene)) (left_then basis playing (Playing scene) store (stays refl) is)
+  fault_at_work basis playing (Playing scene) move (line.Memory, store) is stays = tt
+  fault_at_work basis playing (Playing scene) move (line.Store, store) is stays = tt
+
+  -- or have started by it
+  pub fault_first : (basis : Basis) (declarations : List Declaration) (realms : Declared S) (playing : APlaying S) (move : Move) (why : LineFault × S) → scene_at basis (Declaring declarations) move ≡ scene_of basis declarations → (kept.is_true why.1 → kept.is_true playing.stored_core.store) → (kept.is_true playing.stored_core.store → IsScene kept playing.stored_core playing.actors.items (scene_of basis declarations)) →
+      (kept.is_true playing.stored_core.store → (names : List (List ℕ)) → OthersStay kept 1 names realms.store playing.stored_core.store) → (why.0 ≡ line.NotUnderstood → why.1 ≡ playing.stored_core.store) → LeavesAtFault kept (scene_at basis (Declaring declarations) move) realms.store (Err why)
+  fault_first basis declarations realms playing move (line.NotUnderstood, store) at trusts is others stays = λ truth.
+      let before = trusts truth in
+      let scene = scene_of basis declarations in
+      subst (λ s. IsLeft kept s realms.store store) (sym at) (subst (IsLeft kept scene realms.store) (sym (stays refl)) (left_by playing.stored_core playing.actors.items scene 1 realms.store (is before) (others before (map (λ (a : Acting). a.name) scene))))
+  fault_first basis declarations realms playing move (line.Memory, store) at trusts is others stays = tt
+  fault_first basis declarations realms playing move (line.Store, store) at trusts is others stays = tt

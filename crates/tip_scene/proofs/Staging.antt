@@ -17,6 +17,7 @@ use Rattle.tip_scene.proofs.Adopted.{both}
 use Rattle.tip_script.specs.declared.instruction.Instruction.{Instruction}
 use Rattle.tip_script.specs.declared.instruction.Instruction.TheVariants as instruction
 use Rattle.tip_scene.specs.Acts.{Stage, Declaring, Playing, Acted, Basis, acted, acted_by, acts, acts_if, are_covered, declaration_of, declared, is_declared, labelled, labelled_at, may_be_declared, may_be_labelled, numbered, is_count, is_other, may_say, not_understood, scene_of, starts_text}
+use Rattle.tip_scene.specs.Leaving.{scene_at}
 use Rattle.tip_scene.specs.Scenes.{Scene, moved}
 use Rattle.tip_scene.specs.Stages.{APlaying, AStage, ActsSo, Declared, Declares, IsDeclared, IsBasis, IsStage, Moves}
 use Rattle.tip_scene.specs.Standing.{IsScene, IsMoved}
@@ -132,6 +133,23 @@ starts_first basis declarations (instruction.Resume realm id) other unlabelled =
 starts_first basis declarations (instruction.Refuse realm) other unlabelled = refl
 starts_first basis declarations (instruction.Renew realm) other unlabelled = refl
 starts_first basis declarations instruction.Restart other unlabelled = refl
+
+-- so the realms that it starts are those that were declared
+pub starts_declared : (basis : Basis) (declarations : List Declaration) (i : Instruction) → ((name : _) (address : _) (branches : ℕ) (limits : Limits) → i ≢ instruction.Realm name address branches limits) → ((realm : _) (labels : _) → i ≢ instruction.Labels realm labels) → scene_at basis (Declaring declarations) (move_by i) ≡ scene_of basis declarations
+starts_declared basis declarations (instruction.Realm name address branches limits) other unlabelled = absurd (other name address branches limits refl)
+starts_declared basis declarations (instruction.Labels realm labels) other unlabelled = absurd (unlabelled realm labels refl)
+starts_declared basis declarations (instruction.Open realm kinds) other unlabelled = refl
+starts_declared basis declarations (instruction.Dial realm address kinds aim) other unlabelled = refl
+starts_declared basis declarations (instruction.Feed realm connection octets) other unlabelled = refl
+starts_declared basis declarations (instruction.Lost realm connection) other unlabelled = refl
+starts_declared basis declarations (instruction.Push asked) other unlabelled = refl
+starts_declared basis declarations (instruction.Pull asked) other unlabelled = refl
+starts_declared basis declarations (instruction.Go realm) other unlabelled = refl
+starts_declared basis declarations (instruction.Drop realm) other unlabelled = refl
+starts_declared basis declarations (instruction.Resume realm id) other unlabelled = refl
+starts_declared basis declarations (instruction.Refuse realm) other unlabelled = refl
+starts_declared basis declarations (instruction.Renew realm) other unlabelled = refl
+starts_declared basis declarations instruction.Restart other unlabelled = refl
 
 -- a line of one realm that renews none starts none again
 pub starts_none : (i : Instruction) (realm : List ℕ) → realm_of (move_by i) ≡ Some realm → ((r : _) → i ≢ instruction.Renew r) → is_start (move_by i) ≡ false

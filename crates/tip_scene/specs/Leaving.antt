@@ -1,5 +1,5 @@
 -- What a script leaves in its store.
-use Rattle.std.specs.Prelude.{◌≡◌, ℕ, ◌+◌, List, [], map, Bool, false, Some, slice_get}
+use Rattle.std.specs.Prelude.{◌≡◌, ℕ, ◌+◌, List, [], map, Bool, false, true, Option, Some, None, Result, Ok, Err, slice_get, if◌then◌else◌}
 use Rattle.std.specs.List.{list_any}
 use Rattle.std.specs.Str.{bytes_eq}
 use Rattle.tip_rows.specs.Keys.{Key}
@@ -7,8 +7,13 @@ use Rattle.tip_rows.specs.Logs.{Keeping}
 use Rattle.tip_rows.specs.declared.row.Row.{Row}
 use Rattle.tip_actor.specs.Acting.{Acting}
 use Rattle.tip_actor.specs.Standing.{IsStored}
+use Rattle.tip_script.specs.Scripts.{Move, Declare, Label}
+use Rattle.tip_scene.specs.Acts.{Basis, Stage, may_say}
+use Rattle.tip_scene.specs.Blaming.{scene_in, starting_from}
 use Rattle.tip_scene.specs.Scenes.{Scene}
 use Rattle.tip_scene.specs.Stages.{APlaying, AStage, store_of}
+use Rattle.tip_scene.specs.declared.fault.LineFault.{LineFault}
+use Rattle.tip_scene.specs.declared.fault.LineFault.TheVariants.{NotUnderstood, Memory, Store}
 use Rattle.tip_scene.specs.declared.stage.Stage.TheVariants as stage
 
 -- each realm of a scene is stored as it is there, in its epoch and with its rows
@@ -46,3 +51,27 @@ pub record LeavesRest {S : Type 0} (kept : Keeping S) (old new : APlaying S) : T
   pub same : map (λ actor. actor.name) new.actors.items ≡ map (λ actor. actor.name) old.actors.items
   pub starts : ℕ
   pub others : OthersStay kept starts (map (λ actor. actor.name) old.actors.items) old.stored_core.store new.stored_core.store
+
+-- Where a line may not stand
+
+-- does it start the realms, if it is the first to?
+abbrev pub is_starting : Move → Bool
+is_starting (Declare name address branches limits) = false
+is_starting (Label realm labels) = false
+is_starting other = true
+
+-- the realms at work behind a line that is understood and may not stand here
+abbrev pub scene_at : Basis → Stage → Move → Scene
+scene_at basis stage move = if is_starting move then starting_from basis stage else scene_in stage
+
+-- and behind any line that may not
+abbrev pub scene_behind : Basis → Stage → Option Move → Scene
+scene_behind basis stage None = scene_in stage
+scene_behind basis stage (Some move) = if may_say basis.may_refuse move then scene_at basis stage move else scene_in stage
+
+-- then the store has the realms that are at work, and every other one's rows; where memory ends, or the store refuses, nothing is said
+abbrev pub LeavesAtFault : {S : Type 0} → Keeping S → Scene → S → Result (AStage S) (LineFault × S) → Type 0
+LeavesAtFault kept scene old (Ok x) = Unit {0}
+LeavesAtFault kept scene old (Err (NotUnderstood, store)) = kept.is_true store → IsLeft kept scene old store
+LeavesAtFault kept scene old (Err (Memory, store)) = Unit {0}
+LeavesAtFault kept scene old (Err (Store, store)) = Unit {0}

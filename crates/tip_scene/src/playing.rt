@@ -1,5 +1,5 @@
 //! The realms of a script at work.
-ghost use Rattle.std.specs.Prelude.{◌≡◌, ◌<◌, ◌==◌, Some, None, true, false, length, map, IfOk, IsErrOf, OnOk, string_bytes};
+ghost use Rattle.std.specs.Prelude.{◌≡◌, ◌<◌, ◌==◌, Some, None, true, false, length, map, IfErr, IfOk, IsErrOf, OnOk, string_bytes};
 ghost use Rattle.std.specs.List.{position_or_len};
 ghost use Rattle.tip_branch.specs.Always.{Always};
 ghost use Rattle.tip_actor.specs.Acting.{Acting, boxes_of, count_of, takes};
@@ -77,6 +77,8 @@ impl<S: RowLog + Drop> Playing<StoredCore<S>, Actor> {
             Blames S.keeping LineFault.Store (IsAtFault S.keeping (length pool.old.items)
             self.stored_core.store (AtWork scene)) (length pool.old.items < box_count scene)
             result }
+        ensures stays { IfErr result (λ fault. fault.0 ≡ LineFault.NotUnderstood →
+            fault.1 ≡ self.stored_core.store) }
     {
         let Some(realm) = instruction.realm() else {
             return restart(self, alloc, pool, printed);
@@ -125,6 +127,8 @@ impl<S: RowLog + Drop> Playing<StoredCore<S>, Actor> {
             S.keeping.is_true self.new.stored_core.store → IsErrOf result LineFault.Store →
             IsAtFault S.keeping (length pool.old.items) self.old.stored_core.store (AtWork scene)
             self.new.stored_core.store }
+        ensures stays { IsErrOf result LineFault.NotUnderstood →
+            self.new.stored_core.store ≡ self.old.stored_core.store }
     {
         if let Instruction::Renew { .. } = instruction {
             return self.renew(alloc, refuser, realm, pool, printed);
@@ -164,6 +168,7 @@ impl<S: RowLog + Drop> Playing<StoredCore<S>, Actor> {
             S.keeping.is_true self.new.stored_core.store → IsErrOf result LineFault.Store →
             IsAtFault S.keeping (length pool.old.items) self.old.stored_core.store (AtWork scene)
             self.new.stored_core.store }
+        ensures understood { IsErrOf result LineFault.NotUnderstood → ⊥ }
     {
         let place = self.place_of(name);
         let Some(actor) = self.actors.get_mut(place) else {
@@ -214,6 +219,8 @@ impl<S: RowLog + Drop> Playing<StoredCore<S>, Actor> {
             ≡ S.keeping.faults self.old.stored_core.store) }
         ensures blames { R.may ≡ false → IsErrOf result LineFault.Store →
             HasRefused S.keeping self.old.stored_core.store self.new.stored_core.store }
+        ensures stays { IsErrOf result LineFault.NotUnderstood →
+            self.new.stored_core.store ≡ self.old.stored_core.store }
     {
         let before = self.stored_core.store.faults();
         let end = self.act_in(alloc, refuser, realm, instruction, boxes, printed);
@@ -253,6 +260,8 @@ impl<S: RowLog + Drop> Playing<StoredCore<S>, Actor> {
             boxes ≡ boxes_of (plans_with (move_by instruction.entry)) →
             S.keeping.is_true self.new.stored_core.store →
             OnOk result (LeavesRest S.keeping self.old self.new) }
+        ensures stays { IsErrOf result LineFault.NotUnderstood →
+            self.new.stored_core.store ≡ self.old.stored_core.store }
     {
         let place = self.place_of(realm);
         let Some(actor) = self.actors.get_mut(place) else {
@@ -375,6 +384,8 @@ fn obey<S: RowLog + Drop, R: Refuser<S>>(
         IfOk result (λ told. Tells S.keeping stored_core.old stored_core.new place
         actor.old actor.new (string_bytes printed.old) (string_bytes printed.new) told
         (does (move_by instruction.entry) acting)) }
+    ensures untold { IfOk result
+        (λ told. told ≡ false → stored_core.new ≡ stored_core.old) }
 {
     match instruction {
         Instruction::Realm { .. }

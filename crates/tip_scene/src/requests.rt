@@ -39,6 +39,8 @@ pub(crate) fn dial<S: RowLog + Drop>(
         stored_core.old stored_core.new place actor.old actor.new (string_bytes printed.old)
         (string_bytes printed.new) told
         (does (Dial realm address.now plans (purpose_of aim.entry)) acting)) }
+    ensures untold { IfOk result
+        (λ told. told ≡ false → stored_core.new ≡ stored_core.old) }
 {
     match dialling(alloc, address, aim, boxes)? {
         Some(event) => {
@@ -90,6 +92,8 @@ pub(crate) fn push<S: RowLog + Drop>(
         IfOk result (λ told. Tells S.keeping stored_core.old stored_core.new place
         actor.old actor.new (string_bytes printed.old) (string_bytes printed.new) told
         (does (Push realm asked.entry.connection asked.entry.id.now) acting)) }
+    ensures untold { IfOk result
+        (λ told. told ≡ false → stored_core.new ≡ stored_core.old) }
 {
     match id_in(alloc, asked.id)? {
         Some(id) => actor.push(alloc, stored_core, place, asked.connection, id, printed),
@@ -115,6 +119,8 @@ pub(crate) fn pull<S: RowLog + Drop>(
         IfOk result (λ told. Tells S.keeping stored_core.old stored_core.new place
         actor.old actor.new (string_bytes printed.old) (string_bytes printed.new) told
         (does (Pull realm asked.entry.connection asked.entry.id.now) acting)) }
+    ensures untold { IfOk result
+        (λ told. told ≡ false → stored_core.new ≡ stored_core.old) }
 {
     match id_in(alloc, asked.id)? {
         Some(superior) => actor.pull(
@@ -147,6 +153,8 @@ pub(crate) fn resume<S: RowLog + Drop>(
         IfOk result (λ told. Tells S.keeping stored_core.old stored_core.new place
         actor.old actor.new (string_bytes printed.old) (string_bytes printed.new) told
         (does (Resume realm id.now) acting)) }
+    ensures untold { IfOk result
+        (λ told. told ≡ false → stored_core.new ≡ stored_core.old) }
 {
     match id_in(alloc, id)? {
         Some(id) => {

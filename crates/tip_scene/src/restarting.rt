@@ -52,6 +52,8 @@ pub(crate) fn restart<S: RowLog + Drop>(
         IsScene S.keeping playing.stored_core playing.actors.items scene →
         Moves S.keeping (string_bytes printed.old)
         (string_bytes printed.new) (restarted scene) result }
+    ensures stays { IfErr result (λ fault. fault.0 ≡ LineFault.NotUnderstood →
+        fault.1 ≡ playing.stored_core.store) }
 {
     let Playing {
         stored_core,

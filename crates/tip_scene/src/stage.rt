@@ -11,7 +11,7 @@ ghost use Rattle.tip_scene.specs.Blaming.{Blames, HadTooFew, HasRefused, IsBlame
 ghost use Rattle.tip_scene.specs.Boxes.{AreWilling};
 ghost use Rattle.tip_scene.specs.Hosting.{may_be_hosted};
 ghost use Rattle.tip_rows.specs.Logs.{Log};
-ghost use Rattle.tip_scene.specs.Leaving.{IsLeft, LeavesOthers, names_in};
+ghost use Rattle.tip_scene.specs.Leaving.{IsLeft, LeavesAtFault, LeavesOthers, names_in, scene_at, scene_behind};
 ghost use Rattle.tip_scene.specs.declared.stage.Stage.TheVariants.{Declaring as AtFirst};
 ghost use Rattle.tip_scene.specs.Stages.{ActsSo, AreWanted, ComeWith, IsDeclared, IsBasis, IsSound, IsStage, Trusts, has_started, store_of};
 
@@ -79,6 +79,10 @@ impl<S: RowLog + Drop> Stage<Declared<S>, Playing<StoredCore<S>>> {
         ensures blames { R.may ≡ false → (basis : Basis) (stage : AStage) →
             IsStage S.keeping basis self stage → Blames S.keeping LineFault.Store
             (IsBlamed S.keeping basis (store_of self)) (HadTooFew S.keeping basis) result }
+        ensures faults { (basis : Basis) (stage : AStage) → basis.may_refuse ≡ R.may →
+            IsStage S.keeping basis self stage →
+            LeavesAtFault S.keeping (scene_behind basis stage (move_of line.now)) (store_of self)
+            result }
     {
         if line.is_empty() {
             return Ok(self);
@@ -274,6 +278,9 @@ impl<S: RowLog + Drop> Stage<Declared<S>, Playing<StoredCore<S>>> {
         ensures blames { R.may ≡ false → (basis : Basis) (stage : AStage) →
             IsStage S.keeping basis self stage → Blames S.keeping LineFault.Store
             (IsBlamed S.keeping basis (store_of self)) (HadTooFew S.keeping basis) result }
+        ensures faults { (basis : Basis) (stage : AStage) → IsStage S.keeping basis self stage →
+            LeavesAtFault S.keeping (scene_at basis stage (move_by instruction.entry))
+            (store_of self) result }
     {
         match self {
             Stage::Declaring(declared) => {
@@ -321,6 +328,10 @@ fn declare<S: RowLog + Drop, R: Refuser<S>>(
     ensures blames { R.may ≡ false → (basis : Basis) (declarations : List Declaration) →
         IsDeclared S.keeping basis declared declarations → Blames S.keeping LineFault.Store
         (IsBlamed S.keeping basis declared.store) (HadTooFew S.keeping basis) result }
+    ensures faults { (basis : Basis) (declarations : List Declaration) →
+        IsDeclared S.keeping basis declared declarations →
+        LeavesAtFault S.keeping (scene_at basis (Begins declarations) (move_by instruction.entry))
+        declared.store result }
 {
     let noted = match instruction {
         Instruction::Realm {

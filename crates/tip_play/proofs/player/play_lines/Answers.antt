@@ -11,7 +11,8 @@ use Rattle.tip_script.specs.Scripts.{move_of, plans_of}
 use Rattle.tip_play.specs.Transcripts.{IsFront, IsReadTo, Transcribes, in_memory}
 use Rattle.tip_scene.proofs.Dealing.{join}
 use Rattle.tip_play.proofs.Making.{all_alike, all_made, fresh_active, fresh_known, fresh_of, no_other, one_alike, one_made, read_of, when_ok}
-use Rattle.tip_play.proofs.Reading.{HasEnded, LeavesFrom, a_line, closes_on, ended_at, goes_front, goes_on, gone, grows_last, leaves_end, leaves_more, leaves_none, leaves_still, line_covered, line_fails, no_line, no_number, not_come, reads_none, relying, stands_so, still_going, trusts_back}
+use Rattle.tip_play.proofs.Leaving.{fault_coming, fault_end, fault_line}
+use Rattle.tip_play.proofs.Reading.{Goes, HasEnded, HasRead, IsCoveredBy, LeavesFrom, a_line, closes_on, ended_at, goes_front, goes_on, gone, grows_last, leaves_end, leaves_more, leaves_none, leaves_still, line_covered, line_fails, no_line, no_number, not_come, reads_none, relying, stands_so, still_going, trusts_back}
 use Rattle.tip_play.proofs.Blaming.{blames_back, blames_back_err, is_err_of, refused_here}
 use Rattle.tip_play.proofs.player.play_lines.Goals as goal
 
@@ -253,3 +254,60 @@ returns-then-is_over-clause-leaves g c = λ basis may on script whole covers.
     (so.played.now, subst (λ s. IsStage kept basis s so.played.now) (sym same) (c.next.ensures.stands basis so.played.now so.played.stands), ended_at kept basis stage (g.R.Read.remaining c.args.input.now) (g.R.Read.remaining c.loop-number.input) (g.W.Write.contents c.args.output.now) (g.W.Write.contents c.loop-number.output) script whole so, (from.starts, from.others)))
     (grows_last kept basis _)
     (c.finish.ensures.leaves basis)
+
+-- What is left of it where a line may not stand in its script
+
+pub returns-in-Err-clause-faults : goal.returns-in-Err-clause-faults
+returns-in-Err-clause-faults g c = λ basis may on script is covers.
+    let kept = g.S.RowLog.keeping in
+    let left = g.R.Read.remaining c.loop-number.input in
+    let left' = g.R.Read.remaining c.next.new.input in
+    let old = g.W.Write.contents c.args.output.now in
+    let new = g.W.Write.contents c.loop-number.output in
+    let stage = c.loop-number.stage in
+    let known : IsCoveredBy basis (g.R.Read.remaining c.args.input.now) = (script, is, covers) in
+    let back = λ (so : kept.is_true c.shut-in-Err.result). c.next.ensures.truth (subst kept.is_true c.shut-in-Err.ensures so) in
+    fault_coming kept basis c.loop-number.is_over stage c.next.new.stage c.loop-number.number script left left' old new c.next.new.line.octets.items c.in-Err.fault c.args.store c.shut-in-Err.result c.shut-in-Err.ensures c.in-Err.ensures.coming
+    (λ so. subst (λ w. Goes kept basis c.loop-number.is_over stage c.loop-number.number w left old new) is (c.loop-number.invariant.goes basis may on known (back so)))
+    (λ so. leaves_still kept basis c.args.store stage c.next.new.stage c.next.ensures.names c.next.ensures.stood (c.loop-number.invariant.rest basis may on known (back so)))
+    (c.next.ensures.stands basis)
+
+pub returns-then-is_over-clause-faults : goal.returns-then-is_over-clause-faults
+returns-then-is_over-clause-faults g c = λ basis may on script is covers.
+    let kept = g.S.RowLog.keeping in
+    let known : IsCoveredBy basis (g.R.Read.remaining c.args.input.now) = (script, is, covers) in
+    let same = c.loop.invariant.same ∙ c.loop-kind.invariant.same in
+    fault_end kept basis script c.args.store _ (g.W.Write.contents c.loop-number.output) (g.W.Write.contents c.finish.new.output) c.finish.result c.finish.ensures.truth
+    (λ left.
+    let now = stands_so kept basis c.loop-number.is_over c.loop-number.stage c.loop-number.number (g.R.Read.remaining c.args.input.now) (g.R.Read.remaining c.loop-number.input) (g.W.Write.contents c.args.output.now) (g.W.Write.contents c.loop-number.output) (c.loop-number.invariant.goes basis may on known (c.next.ensures.truth (subst (λ s. kept.is_true (store_of s)) same left))) in
+    (now.0, subst (λ s. IsStage kept basis s now.0) (sym same) (c.next.ensures.stands basis now.0 now.1)))
+    (c.finish.ensures.closes basis)
+
+pub returns-in_err-stage-clause-faults : goal.returns-in_err-stage-clause-faults
+returns-in_err-stage-clause-faults g c = λ basis may on script is covers.
+    let e = err_from_is_err_and c.from_residual.result c.from_residual.ensures.1 in
+    let kept = g.S.RowLog.keeping in
+    let whole = g.R.Read.remaining c.args.input.now in
+    let left = g.R.Read.remaining c.loop-number.input in
+    let left' = g.R.Read.remaining c.next.new.input in
+    let old = g.W.Write.contents c.args.output.now in
+    let mid = g.W.Write.contents c.loop-number.output in
+    let new = g.W.Write.contents c.act.new.output in
+    let stage = c.loop-number.stage in
+    let number = c.loop-number.number in
+    let text = c.as_slice-text.result.now in
+    let why = c.in_err-stage.field-0.0 in
+    let letters = c.deref-kind-items.result.now in
+    let known : IsCoveredBy basis (g.R.Read.remaining c.args.input.now) = (script, is, covers) in
+    let same = c.loop.invariant.same ∙ c.loop-kind.invariant.same in
+    let come = a_line kept basis c.loop-number.is_over left left' number c.next.new.line.octets.items c.in-Ok-next.coming c.if-is_over.false c.in-Ok-next.ensures.coming in
+    let reads : Reads left left' text (Ok c.in-Ok-next.coming.end) = subst (λ l. Reads left left' l (Ok c.in-Ok-next.coming.end)) (sym c.as_slice-text.ensures) come.0 in
+    let back = λ (so : kept.is_true why.1). c.next.ensures.truth (subst (λ s. kept.is_true (store_of s)) same (c.in_err-stage.ensures.truth so)) in
+    let going = λ (so : kept.is_true why.1). still_going kept basis c.loop-number.is_over stage number whole left old mid c.if-is_over.false (c.loop-number.invariant.goes basis may on known (back so)) in
+    rw (e.1, e.2) (fault_line kept basis stage _ number script left left' old mid new text c.in-Ok-next.coming.end c.args.store why come.1 reads
+    (λ so. subst (λ w. HasRead kept basis stage number w left old mid) is (going so))
+    (λ so. subst (LeavesFrom kept basis c.args.store) (sym same) (leaves_still kept basis c.args.store stage c.next.new.stage c.next.ensures.names c.next.ensures.stood (c.loop-number.invariant.rest basis may on known (back so))))
+    (λ now there. subst (λ s. IsStage kept basis s now) (sym same) (c.next.ensures.stands basis now there))
+    (λ so now there. c.in_err-stage.ensures.acts basis now may there (λ move said. ap badges_of (all_alike _ (λ s. s.standing) no_other (λ box value. refl) c.loop-kind.boxes.items ∙ all_made letters c.loop-kind.kind-index _ c.loop-kind-test.false c.loop-kind.invariant.made) ∙ fresh_known (plans_of letters) ∙ ap (λ l. boxes_of (plans_of l)) c.deref-kind-items.ensures.value ∙ ap boxes_of (come.2 move (ap move_of (sym c.as_slice-text.ensures) ∙ said)))
+    (line_covered kept basis stage number whole left left' old mid text c.in-Ok-next.coming.end (going so) known come.1 reads) so)
+    (λ now there. c.in_err-stage.ensures.faults basis now may there))

@@ -5,7 +5,8 @@ use Rattle.tip_play.specs.Transcripts.{TranscribesOn, covers_all}
 use Rattle.tip_scene.specs.Blaming.{Blames, HadTooFew, IsBlamed}
 use Rattle.tip_play.specs.declared.fault.PlayFault.TheVariants.{Store}
 use Rattle.tip_play.proofs.Blaming.{blames_unflushed}
-use Rattle.tip_play.specs.Leaving.{Leaves}
+use Rattle.tip_play.specs.Leaving.{Leaves, LeavesAtFault}
+use Rattle.tip_play.proofs.Leaving.{fault_unflushed}
 use Rattle.tip_play.proofs.Ending.{all_kept, all_unflushed, never_unflushed}
 use Rattle.tip_play.proofs.player.play_over.Goals as goal
 
@@ -29,3 +30,6 @@ returns-in-Err-clause-blames g c = λ asks basis may on script whole covers.
 pub returns-in-Err-clause-leaves : goal.returns-in-Err-clause-leaves
 returns-in-Err-clause-leaves g c = λ basis may on script whole covers.
     subst (λ r. IfOk r (λ left. g.S.RowLog.keeping.is_true left → Leaves g.S.RowLog.keeping basis script c.args.store left)) (sym c.unflushed.ensures) (never_unflushed (λ left. g.S.RowLog.keeping.is_true left → Leaves g.S.RowLog.keeping basis script c.args.store left) c.play_lines-end.result)
+
+pub returns-in-Err-clause-faults : goal.returns-in-Err-clause-faults
+returns-in-Err-clause-faults g c = λ basis may on script is covers. subst (LeavesAtFault g.S.RowLog.keeping basis script c.args.store) (sym c.unflushed.ensures) (fault_unflushed g.S.RowLog.keeping basis script c.args.store c.play_lines-end.result)

@@ -8,7 +8,7 @@ use Rattle.tip_scene.specs.Standing.{IsScene}
 use Rattle.tip_scene.proofs.Again.{any_at_end, new_again, starts_again, stays_put, wait_again}
 use Rattle.tip_scene.specs.Leaving.{OthersStay}
 use Rattle.tip_scene.proofs.Leaving.{rest_again, start_leaves}
-use Rattle.tip_scene.proofs.Blaming.{act_store, boxes_again, specs_again, start_blamed}
+use Rattle.tip_scene.proofs.Blaming.{act_known, act_store, boxes_again, specs_again, start_blamed}
 use Rattle.tip_scene.proofs.restarting.restart.Goals as goal
 
 pub returns-then-is_any_at_end-clause-moves : goal.returns-then-is_any_at_end-clause-moves
@@ -46,3 +46,14 @@ returns-in-Ok-rise_again-clause-leaves g c = λ scene is truth.
     let waiting = wait_again kept stored_core actors scene c.in-Ok.specs.items c.in-Ok-restart.recovering is c.in-Ok.ensures.specs c.in-Ok-restart.ensures risen in
     rest_again kept c.args.playing c.in-Ok-rise_again.playing scene is (c.in-Ok-rise_again.ensures.scene _ (new_again kept stored_core actors scene is) waiting)
     (λ names. subst (OthersStay kept 1 names stored_core.store) (sym c.in-Ok-rise_again.ensures.store) (start_leaves kept c.in-Ok.specs.items stored_core.store c.in-Ok-restart.recovering names c.in-Ok-restart.ensures risen))
+
+-- Nothing was asked of the store
+
+pub returns-then-is_any_at_end-clause-stays : goal.returns-then-is_any_at_end-clause-stays
+returns-then-is_any_at_end-clause-stays g c = λ is. c.shut.ensures
+
+pub returns-in-Err-rise_again-clause-stays : goal.returns-in-Err-rise_again-clause-stays
+returns-in-Err-rise_again-clause-stays g c = λ is. absurd (act_known c.in-Err-rise_again.fault (sym c.from.ensures ∙ is))
+
+pub returns-in-Err-restart-clause-stays : goal.returns-in-Err-restart-clause-stays
+returns-in-Err-restart-clause-stays g c = λ is. absurd (act_known c.from-in-Err-restart.result (sym c.from-in-Err-restart-2.ensures ∙ is))

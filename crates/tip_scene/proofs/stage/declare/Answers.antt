@@ -6,13 +6,13 @@ use Rattle.tip_scene.specs.Acts.{Declaring, acts, declared, is_covered, labelled
 use Rattle.tip_scene.specs.Stages.{ActsSo}
 use Rattle.tip_scene.specs.declared.stage.Stage.TheVariants as stage
 use Rattle.tip_script.specs.Moves.{move_by}
-use Rattle.tip_scene.specs.Leaving.{LeavesOthers}
-use Rattle.tip_scene.proofs.Leaving.{declared_stays, first_rest}
+use Rattle.tip_scene.specs.Leaving.{LeavesAtFault, LeavesOthers, scene_at}
+use Rattle.tip_scene.proofs.Leaving.{declared_stays, fault_first, fault_stays, first_rest}
 use Rattle.tip_scene.proofs.Blaming.{at_fault, never_asked, play_accused_at, told_on, too_few}
 use Rattle.tip_scene.specs.Blaming.{HadTooFew, IsAtFault, IsBlamed}
 use Rattle.tip_scene.specs.Boxes.{box_count}
 use Rattle.tip_scene.specs.Faults.{of_act_fault}
-use Rattle.tip_scene.proofs.Staging.{declared_covered, declares_not, declares_so, fails_first, labelled_covered, plays_first}
+use Rattle.tip_scene.proofs.Staging.{declared_covered, declares_not, declares_so, fails_first, labelled_covered, plays_first, starts_declared}
 use Rattle.tip_scene.proofs.stage.declare.Goals.{in-Realm, in-Labels}
 use Rattle.tip_scene.proofs.stage.declare.Goals as goal
 
@@ -27,6 +27,8 @@ returns-in_err-playing-in_default g c =
           (λ reliable. c.in_err-playing-in_default.ensures.moves (scene_of basis declarations) (c.in-Ok.ensures.scene basis declarations is (c.in_err-playing-in_default.ensures.truth reliable)) may boxes);
       leaves = λ basis declarations is may boxes. tt;
       counts = λ may. tt;
+      faults = λ basis declarations is. fault_first g.S.RowLog.keeping basis declarations c.args.declared c.in-Ok.playing (move_by c.args.instruction) c.in_err-playing-in_default.field-0.0
+          (starts_declared basis declarations c.args.instruction c.in_default.not-Realm c.in_default.not-Labels) c.in_err-playing-in_default.ensures.truth (c.in-Ok.ensures.scene basis declarations is) c.in-Ok.ensures.leaves c.in_err-playing-in_default.ensures.stays;
       blames = λ may basis declarations is. play_accused_at g.S.RowLog.keeping _ basis c.in-Ok.playing (scene_of basis declarations) c.args.declared.store _ c.in_err-playing-in_default.field-0.0 c.in_err-playing-in_default.ensures.truth c.in-Ok.ensures.counts (c.in-Ok.ensures.scene basis declarations is) (c.in_err-playing-in_default.ensures.blames may (scene_of basis declarations));
     })
 
@@ -38,6 +40,7 @@ returns-in_default g c = record {
       (λ truth. (let before = c.in_ok-playing-in_default.ensures.truth truth in (c.in-Ok.ensures.text basis declarations is before, c.in_ok-playing-in_default.ensures.moves (scene_of basis declarations) (c.in-Ok.ensures.scene basis declarations is before) may boxes truth)));
   leaves = λ basis declarations is may boxes truth. (let before = c.in_ok-playing-in_default.ensures.truth truth in first_rest g.S.RowLog.keeping c.args.declared c.in-Ok.playing c.in_ok-playing-in_default.playing (c.in-Ok.ensures.leaves before) (c.in_ok-playing-in_default.ensures.leaves (scene_of basis declarations) (c.in-Ok.ensures.scene basis declarations is before) may boxes truth));
   counts = λ may. c.in_ok-playing-in_default.ensures.counts may ∙ c.in-Ok.ensures.counts;
+  faults = λ basis declarations is. tt;
   blames = λ may basis declarations is. tt;
 }
 
@@ -82,4 +85,17 @@ returns-in-Ok-noted-clause-leaves g c = λ basis declarations is may boxes truth
     elim c.match-instruction.branch [
       | in-Realm w ↦ subst (λ d. LeavesOthers g.S.RowLog.keeping (stage.Declaring c.args.declared) (stage.Declaring d)) (sym w.declared-is) (declared_stays g.S.RowLog.keeping c.args.declared w.add-noted.new.self w.add-noted.ensures.store)
       | in-Labels w ↦ subst (λ d. LeavesOthers g.S.RowLog.keeping (stage.Declaring c.args.declared) (stage.Declaring d)) (sym w.declared-is) (declared_stays g.S.RowLog.keeping c.args.declared w.label-noted.new.self w.label-noted.ensures.store)
+    ]
+
+-- No realm has started by a declaration
+
+pub returns-in-Err-noted-clause-faults : goal.returns-in-Err-noted-clause-faults
+returns-in-Err-noted-clause-faults g c = λ basis declarations is.
+    let kept = g.S.RowLog.keeping in
+    let store = c.match-instruction.declared.store in
+    elim c.match-instruction.branch [
+      | in-Realm w ↦ subst (λ i. LeavesAtFault kept (scene_at basis (Declaring declarations) (move_by i)) c.args.declared.store (Err (c.in-Err-noted.fault, store))) (sym w.in-Realm.is)
+          (fault_stays kept basis (stage.Declaring c.args.declared) (Declaring declarations) c.in-Err-noted.fault store (ap (λ d. d.store) w.declared-is ∙ w.add-noted.ensures.store) is)
+      | in-Labels w ↦ subst (λ i. LeavesAtFault kept (scene_at basis (Declaring declarations) (move_by i)) c.args.declared.store (Err (c.in-Err-noted.fault, store))) (sym w.in-Labels.is)
+          (fault_stays kept basis (stage.Declaring c.args.declared) (Declaring declarations) c.in-Err-noted.fault store (ap (λ d. d.store) w.declared-is ∙ w.label-noted.ensures.store) is)
     ]

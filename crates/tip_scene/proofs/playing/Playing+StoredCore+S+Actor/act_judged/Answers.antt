@@ -6,7 +6,7 @@ use Rattle.tip_scene.specs.Leaving.{LeavesRest}
 use Rattle.tip_scene.proofs.Leaving.{judged_on}
 use Rattle.tip_scene.specs.Scenes.{moved_in}
 use Rattle.tip_scene.specs.Stages.{Serves}
-use Rattle.tip_scene.proofs.Blaming.{judged_counts, judged_refused, serves_judged}
+use Rattle.tip_scene.proofs.Blaming.{judged_counts, judged_not, judged_refused, serves_judged}
 use Rattle.tip_scene.proofs.playing.Playing+StoredCore+S+Actor.act_judged.Goals as goal
 
 pub returns-clause-serves : goal.returns-clause-serves
@@ -23,3 +23,6 @@ returns-clause-blames g c = λ may bad. judged_refused g.S.RowLog.keeping c.args
 pub returns-clause-leaves : goal.returns-clause-leaves
 returns-clause-leaves g c = λ scene is may boxes truth.
     subst (λ r. OnOk r (LeavesRest g.S.RowLog.keeping c.args.self.now c.act_in-end.new.self)) (sym c.judge.ensures) (judged_on g.S.RowLog.keeping _ _ _ c.act_in-end.result (c.act_in-end.ensures.leaves scene is may boxes truth))
+
+pub returns-clause-stays : goal.returns-clause-stays
+returns-clause-stays g c = λ is. c.act_in-end.ensures.stays (judged_not _ _ c.act_in-end.result (sym c.judge.ensures ∙ is))

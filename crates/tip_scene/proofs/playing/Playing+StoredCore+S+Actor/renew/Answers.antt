@@ -11,7 +11,7 @@ use Rattle.tip_scene.specs.Leaving.{LeavesRest}
 use Rattle.tip_scene.proofs.Leaving.{judged_on, rest_done, rest_stays}
 use Rattle.tip_scene.specs.Scenes.{moved_in}
 use Rattle.tip_scene.specs.Stages.{APlaying, Serves}
-use Rattle.tip_scene.proofs.Blaming.{act_store, err_same, judged_counts, judged_refused, renew_blamed, serves_judged, serves_when}
+use Rattle.tip_scene.proofs.Blaming.{act_known, act_store, err_same, judged_counts, judged_not, judged_refused, renew_blamed, serves_judged, serves_when}
 use Rattle.tip_scene.proofs.Scening.{has_moved, moved_elsewhere}
 use Rattle.tip_scene.proofs.playing.Playing+StoredCore+S+Actor.renew.Goals as goal
 
@@ -69,3 +69,13 @@ returns-clause-leaves g c = λ scene is truth.
     rest_done kept c.args.self.now playing c.renew.new.stored_core scene place actor c.renew.new.actor c.settle-end.new.actor (string_bytes c.args.printed.now) (string_bytes c.renew.new.printed) (string_bytes c.settle-end.new.printed) (λ acting. Some (renews acting)) is
     (some_at actors place actor c.in-Some.ensures.item.3.0 c.in-Some.ensures.item.3.1) refl
     (c.in_ok-renew.ensures.acts (c.settle-end.ensures.truth truth)) settles) c.settle-end.ensures.acts))
+
+-- The line stands here
+
+pub returns-in_err-renew-clause-understood : goal.returns-in_err-renew-clause-understood
+returns-in_err-renew-clause-understood g c =
+    let e = err_from_is_err_and c.from_residual-in_err-renew.result c.from_residual-in_err-renew.ensures.1 in
+    rw (e.1, e.2) (λ is. act_known c.in_err-renew.field-0.0 (err_same is))
+
+pub returns-clause-understood : goal.returns-clause-understood
+returns-clause-understood g c = λ is. c.settle-end.ensures.understood (judged_not _ _ c.settle-end.result (sym c.judge.ensures ∙ is))

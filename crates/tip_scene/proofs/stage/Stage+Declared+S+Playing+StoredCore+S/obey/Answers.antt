@@ -5,11 +5,11 @@ use Rattle.tip_scene.specs.declared.fault.LineFault.TheVariants.{Store}
 use Rattle.tip_script.specs.Moves.{move_by}
 use Rattle.tip_scene.specs.Stages.{IsStage, store_of}
 use Rattle.std.proofs.lemmas.Result.{err_from_is_err_and}
-use Rattle.tip_scene.proofs.Blaming.{of_declared, of_playing, play_accused}
-use Rattle.std.specs.Prelude.{IfOk}
-use Rattle.tip_scene.specs.Leaving.{LeavesOthers}
+use Rattle.tip_scene.proofs.Blaming.{declared_at, of_declared, of_playing, play_accused}
+use Rattle.std.specs.Prelude.{Err, IfOk}
+use Rattle.tip_scene.specs.Leaving.{LeavesAtFault, LeavesOthers, scene_at}
 use Rattle.tip_scene.specs.declared.stage.Stage.TheVariants.{Playing as AtWork}
-use Rattle.tip_scene.proofs.Leaving.{of_rest}
+use Rattle.tip_scene.proofs.Leaving.{fault_at_work, of_rest}
 use Rattle.tip_scene.proofs.Staging.{obeys_first, plays_on}
 use Rattle.tip_scene.proofs.stage.Stage+Declared+S+Playing+StoredCore+S.obey.Goals as goal
 
@@ -37,3 +37,17 @@ pub returns-in_ok-playing-in-Playing-clause-leaves : goal.returns-in_ok-playing-
 returns-in_ok-playing-in-Playing-clause-leaves g c = λ basis stage is may boxes truth.
     subst (λ s. LeavesOthers g.S.RowLog.keeping s (AtWork c.in_ok-playing-in-Playing.playing)) (sym c.in-Playing.is)
     (of_rest g.S.RowLog.keeping c.in-Playing.playing c.in_ok-playing-in-Playing.playing (of_playing g.S.RowLog.keeping basis c.in-Playing.playing stage (subst (λ s. IsStage g.S.RowLog.keeping basis s stage) c.in-Playing.is is) (λ scene kept. c.in_ok-playing-in-Playing.ensures.leaves scene kept may boxes truth)))
+
+-- A line that may not stand here
+
+pub returns-in-Declaring-clause-faults : goal.returns-in-Declaring-clause-faults
+returns-in-Declaring-clause-faults g c = λ basis stage is.
+    let kept = g.S.RowLog.keeping in
+    let at = subst (λ s. IsStage kept basis s stage) c.in-Declaring.is is in
+    subst (λ s. LeavesAtFault kept (scene_at basis stage (move_by c.args.instruction)) (store_of s) c.declare.result) (sym c.in-Declaring.is) (declared_at kept basis c.in-Declaring.declared stage (λ now. LeavesAtFault kept (scene_at basis now (move_by c.args.instruction)) c.in-Declaring.declared.store c.declare.result) at (λ declarations declared. c.declare.ensures.faults basis declarations declared))
+
+pub returns-in_err-playing-in-Playing-clause-faults : goal.returns-in_err-playing-in-Playing-clause-faults
+returns-in_err-playing-in-Playing-clause-faults g c = λ basis stage is.
+    let kept = g.S.RowLog.keeping in
+    let e = err_from_is_err_and c.from_residual.result c.from_residual.ensures.1 in
+    rw (e.1, e.2) (subst (λ s. LeavesAtFault kept (scene_at basis stage (move_by c.args.instruction)) (store_of s) (Err c.in_err-playing-in-Playing.field-0.0)) (sym c.in-Playing.is) (fault_at_work kept basis c.in-Playing.playing stage (move_by c.args.instruction) c.in_err-playing-in-Playing.field-0.0 (subst (λ s. IsStage kept basis s stage) c.in-Playing.is is) c.in_err-playing-in-Playing.ensures.stays))

@@ -1,0 +1,185 @@
+-- What a script leaves whose line may not stand there.
+use Rattle.std.proofs.Common.{◌≡◌, ◌≢◌, ◌≤◌, ◌<◌, ◌+◌, ◌++◌, ◌∷◌, [], ℕ, List, Bool, true, false, cond, Option, Some, None, Ok, Err, Result, length, map, arith, refl, sym, ap, ◌∙◌, subst, length-append}
+use Rattle.std.proofs.lemmas.Bool.{le-leb, lt-leb}
+use Rattle.std.proofs.lemmas.List.{append_assoc}
+use Rattle.std.proofs.lemmas.Option.{none-some}
+use Rattle.std.proofs.KnownBytes.{Consumes-trans, Consumes-whole}
+use Rattle.script_lines.specs.Lines.{AreOfLine, IsTooLong, Reads, is_line_feed, longest_line}
+use Rattle.script_lines.specs.declared.line.LineEnd.{LineEnd}
+use Rattle.script_lines.specs.declared.line.LineEnd.TheVariants.{LineFeed, EndOfInput, TooLong}
+use Rattle.tip_rows.specs.Logs.{Keeping}
+use Rattle.tip_script.specs.Scripts.{Move, move_of}
+use Rattle.tip_actor.specs.Acting.{Acting}
+use Rattle.tip_scene.specs.Acts.{Basis, Declaring, Playing, Stage, acted, closing_of, may_say}
+use Rattle.tip_scene.specs.Blaming.{scene_in}
+use Rattle.tip_scene.specs.Leaving.{IsLeft, OthersStay, is_among, is_starting, names_in, scene_behind}
+use Rattle.tip_scene.specs.Scenes.{Scene}
+use Rattle.tip_scene.specs.Stages.{AStage, IsStage, Trusts, store_of}
+use Rattle.tip_scene.specs.declared.stage.Stage.TheVariants as stage
+use Rattle.tip_scene.proofs.Leaving.{others_on, scene_names, scene_stored}
+use Rattle.tip_play.specs.Endings.{unflushed}
+use Rattle.tip_play.specs.Leaving.{LeavesAtFault, LeavesAtLine, LeavesBehind, left_at}
+use Rattle.tip_play.specs.Transcripts.{ended, unended}
+use Rattle.tip_play.specs.Writing.{Acts, ClosesOn, HasCome}
+use Rattle.tip_play.specs.declared.fault.PlayFault.{PlayFault}
+use Rattle.tip_play.specs.declared.fault.PlayFault.TheVariants as fault
+use Rattle.tip_play.proofs.Cutting.{all_lines, first_line, last_line, not_is}
+use Rattle.tip_play.proofs.Lines.{IsNext, next_line}
+use Rattle.tip_play.proofs.Reading.{Goes, HasRead, LeavesFrom, behind_feed, of_whole}
+
+module _ {S : Type 0} (kept : Keeping S) (basis : Basis) where
+  -- What is stored from the first line on
+
+  -- the realms at work are stored as they are there
+  left_now : (first : S) (code : AStage S) (now : Stage) → IsStage kept basis code now → LeavesFrom kept basis first code → IsLeft kept (scene_in now) first (store_of code)
+  left_now first (stage.Declaring realms) (Declaring declarations) is from = record { stored = λ place acting here. absurd (none-some acting here); starts = from.starts; others = from.others }
+  left_now first (stage.Declaring realms) (Playing scene) is from = absurd is
+  left_now first (stage.Playing playing) (Declaring declarations) is from = absurd is
+  left_now first (stage.Playing playing) (Playing scene) is from = record {
+    stored = scene_stored kept playing.stored_core playing.actors.items scene is;
+    starts = from.starts;
+    others = subst (λ names. OthersStay kept from.starts names first playing.stored_core.store) (scene_names kept playing.stored_core playing.actors.items scene is) from.others;
+  }
+
+  left_then : (first : S) (code : AStage S) (scene : Scene) (store : S) → LeavesFrom kept basis first code → ((name : List ℕ) → is_among (map (λ (a : Acting). a.name) scene) name ≡ false → is_among (names_in code) name ≡ false) → IsLeft kept scene (store_of code) store → IsLeft kept scene first store
+  left_then first code scene store from grows left = record {
+    stored = left.stored;
+    starts = from.starts + left.starts;
+    others = others_on kept from.starts left.starts (names_in code) (map (λ (a : Acting). a.name) scene) first (store_of code) store grows from.others left.others;
+  }
+
+  -- a line that may not stand there starts none that was at work
+  behind_at_work : (scene : Scene) (move : Option Move) → scene_behind basis (Playing scene) move ≡ scene
+  behind_at_work scene None = refl
+  behind_at_work scene (Some move) = by (may_say basis.may_refuse move) (is_starting move) where
+    by : (a b : Bool) → cond a (cond b scene scene) scene ≡ scene
+    by true true = refl
+    by true false = refl
+    by false b = refl
+
+  grows_behind : (code : AStage S) (now : Stage) (move : Option Move) → IsStage kept basis code now → (name : List ℕ) → is_among (map (λ (a : Acting). a.name) (scene_behind basis now move)) name ≡ false → is_among (names_in code) name ≡ false
+  grows_behind (stage.Declaring realms) now move is name apart = refl
+  grows_behind (stage.Playing playing) (Declaring declarations) move is name apart = absurd is
+  grows_behind (stage.Playing playing) (Playing scene) move is name apart =
+      ap (λ names. is_among names name) (scene_names kept playing.stored_core playing.actors.items scene is) ∙ subst (λ (s : Scene). is_among (map (λ (a : Acting). a.name) s) name ≡ false) (behind_at_work scene move) apart
+
+  -- The line
+
+  short_at : (now : Stage) (line : List ℕ) → length line ≤ longest_line → left_at basis now line ≡ scene_behind basis now (move_of line)
+  short_at now line short = rw (le-leb (length line) longest_line short) refl
+
+  long_at : (now : Stage) (line : List ℕ) → longest_line < length line → left_at basis now line ≡ scene_in now
+  long_at now line long = rw (lt-leb (length line) longest_line long) refl
+
+  module _ (stage : AStage S) (number : ℕ) (read line : List ℕ) (old mid : Option (List ℕ)) (first store : S) (next : IsNext kept basis stage number read line old mid) where
+    -- what has come of it is the line
+    at_line : IsLeft kept (scene_behind basis next.now (move_of line)) first store → IsLeft kept (left_at basis next.now (unended (read ++ line))) first store
+    at_line left = subst (λ s. IsLeft kept s first store) (sym (short_at next.now (unended (read ++ line)) next.short ∙ ap (λ l. scene_behind basis next.now (move_of l)) next.left)) left
+
+    -- it has an end
+    fed : (rest : List ℕ) → IsLeft kept (scene_behind basis next.now (move_of line)) first store → LeavesBehind kept basis ((read ++ line) ++ 10 ∷ rest) number first store
+    fed rest left = record {
+      before = ended (read ++ line);
+      line = unended (read ++ line);
+      behind = _;
+      lines = all_lines (read ++ line) (10 ∷ rest);
+      count = next.count;
+      stage = next.now;
+      reached = next.reached;
+      left = at_line left;
+    }
+
+    -- it is the last one
+    last : IsLeft kept (scene_behind basis next.now (move_of line)) first store → LeavesBehind kept basis (read ++ line) number first store
+    last left = record {
+      before = ended (read ++ line);
+      line = unended (read ++ line);
+      behind = [];
+      lines = last_line (read ++ line);
+      count = next.count;
+      stage = next.now;
+      reached = next.reached;
+      left = at_line left;
+    }
+
+    -- it has an octet too many
+    long_line : (rest : List ℕ) (octet : ℕ) → is_line_feed octet ≡ false → length line ≡ longest_line → IsLeft kept (scene_in next.now) first store → LeavesBehind kept basis ((read ++ line) ++ octet ∷ rest) number first store
+    long_line rest octet other full left =
+        let begins = first_line (unended (read ++ line) ++ octet ∷ []) rest in
+        let come = ap length next.left in
+        let more : longest_line < length ((unended (read ++ line) ++ octet ∷ []) ++ begins.more) = simp length-append (omega (arith, come, full)) in record {
+          before = ended (read ++ line);
+          line = (unended (read ++ line) ++ octet ∷ []) ++ begins.more;
+          behind = begins.others;
+          lines = all_lines (read ++ line) (octet ∷ rest) ∙ ap (λ l. ended (read ++ line) ++ l) (rw other begins.are);
+          count = next.count;
+          stage = next.now;
+          reached = next.reached;
+          left = subst (λ s. IsLeft kept s first store) (sym (long_at next.now ((unended (read ++ line) ++ octet ∷ []) ++ begins.more) more)) left;
+        }
+
+  module _ (stage : AStage S) (number : ℕ) (script : List ℕ) (left left' old mid : Option (List ℕ)) (line : List ℕ) (first store : S) (so : HasRead kept basis stage number (Some script) left old mid) where
+    next_to : AreOfLine line → IsNext kept basis stage number so.read line old mid
+    next_to are = next_line kept basis stage number so.read line old mid so.played are
+
+    line_left : (end : LineEnd) → end ≢ TooLong → Reads left left' line (Ok end) → ((now : Stage) → IsStage kept basis stage now → IsLeft kept (scene_behind basis now (move_of line)) first store) → LeavesBehind kept basis script number first store
+    line_left LineFeed other reads leaves =
+        let next = next_to reads.0 in
+        of_whole kept basis (Some script) left' (so.read ++ (line ++ 10 ∷ [])) (λ s. LeavesBehind kept basis s number first store) (Consumes-trans (Some script) left left' so.read (line ++ 10 ∷ []) so.consumed reads.1)
+        (λ rest. subst (λ s. LeavesBehind kept basis s number first store) (sym (behind_feed kept basis so.read line rest)) (fed stage number so.read line old mid first store next rest (leaves next.now next.stands)))
+    line_left EndOfInput other reads leaves =
+        let next = next_to reads.0 in
+        Consumes-whole (Some script) left' (so.read ++ line) (λ s. LeavesBehind kept basis s number first store) (Consumes-trans (Some script) left left' so.read line so.consumed reads.1) reads.2 (last stage number so.read line old mid first store next (leaves next.now next.stands))
+    line_left TooLong other reads leaves = absurd (other refl)
+
+    long_left : AreOfLine line → (long : IsTooLong left left' line) → ((now : Stage) → IsStage kept basis stage now → IsLeft kept (scene_in now) first store) → LeavesBehind kept basis script number first store
+    long_left are long leaves =
+        let next = next_to are in
+        let octet = long.octet in
+        of_whole kept basis (Some script) left' (so.read ++ (line ++ octet ∷ [])) (λ s. LeavesBehind kept basis s number first store) (Consumes-trans (Some script) left left' so.read (line ++ octet ∷ []) so.consumed long.taken)
+        (λ rest. subst (λ s. LeavesBehind kept basis s number first store) (sym (ap (λ l. l ++ rest) (sym (append_assoc so.read line (octet ∷ []))) ∙ append_assoc (so.read ++ line) (octet ∷ []) rest))
+        (long_line stage number so.read line old mid first store next rest octet (not_is (is_line_feed octet) long.inner) long.full (leaves next.now next.stands)))
+
+  -- How the script has ended
+
+  -- a line may not stand there
+  pub fault_line : (stage stage' : AStage S) (number : ℕ) (script : List ℕ) (left left' old mid new : Option (List ℕ)) (line : List ℕ) (end : LineEnd) (first : S) (why : PlayFault × S) → end ≢ TooLong → Reads left left' line (Ok end) → (kept.is_true why.1 → HasRead kept basis stage number (Some script) left old mid) → (kept.is_true why.1 → LeavesFrom kept basis first stage') →
+      ((now : Stage) → IsStage kept basis stage now → IsStage kept basis stage' now) → (kept.is_true why.1 → (now : Stage) → IsStage kept basis stage' now → Acts kept basis number (acted basis now line) mid new (Err why.0)) → ((now : Stage) → IsStage kept basis stage' now → LeavesAtLine kept (scene_behind basis now (move_of line)) (store_of stage') (Err why)) → LeavesAtFault kept basis script first (Err why)
+  fault_line stage stage' number script left left' old mid new line end first (fault.Script n, store) other reads so from stands acts leaves = λ truth.
+      let read = so truth in
+      let here = acts truth read.played.now (stands read.played.now read.played.stands) in
+      subst (λ m. LeavesBehind kept basis script m first store) (sym here.1)
+      (line_left stage number script left left' old mid line first store read end other reads (λ now is. left_then first stage' (scene_behind basis now (move_of line)) store (from truth) (grows_behind stage' now (move_of line) (stands now is)) (leaves now (stands now is) truth)))
+  fault_line stage stage' number script left left' old mid new line end first (fault.Read, store) other reads so from stands acts leaves = tt
+  fault_line stage stage' number script left left' old mid new line end first (fault.Write, store) other reads so from stands acts leaves = tt
+  fault_line stage stage' number script left left' old mid new line end first (fault.Memory, store) other reads so from stands acts leaves = tt
+  fault_line stage stage' number script left left' old mid new line end first (fault.Store, store) other reads so from stands acts leaves = tt
+
+  -- it is too long
+  pub fault_coming : (over : Bool) (stage stage' : AStage S) (number : ℕ) (script : List ℕ) (left left' old new : Option (List ℕ)) (line : List ℕ) (why : PlayFault) (first store : S) → store ≡ store_of stage' → HasCome left left' number over line (Err why) → (kept.is_true store → Goes kept basis over stage number (Some script) left old new) → (kept.is_true store → LeavesFrom kept basis first stage') →
+      ((now : Stage) → IsStage kept basis stage now → IsStage kept basis stage' now) → LeavesAtFault kept basis script first (Err (why, store))
+  fault_coming false stage stage' number script left left' old new line (fault.Script at) first store same come so from stands = λ truth. subst (λ m. LeavesBehind kept basis script m first store) (sym come.1)
+      (long_left stage number script left left' old new line first store (so truth) come.2.0 come.2.1 (λ now is. subst (IsLeft kept (scene_in now) first) (sym same) (left_now first stage' now (stands now is) (from truth))))
+  fault_coming true stage stage' number script left left' old new line (fault.Script at) first store same come so from stands = absurd (cc)
+  fault_coming over stage stage' number script left left' old new line fault.Read first store same come so from stands = tt
+  fault_coming over stage stage' number script left left' old new line fault.Write first store same come so from stands = tt
+  fault_coming over stage stage' number script left left' old new line fault.Memory first store same come so from stands = tt
+  fault_coming over stage stage' number script left left' old new line fault.Store first store same come so from stands = tt
+
+  -- no line is at fault behind the last one
+  pub fault_end : (script : List ℕ) (first : S) (code : AStage S) (mid new : Option (List ℕ)) (result : Result S (PlayFault × S)) → Trusts kept (store_of code) (λ store. store) result → (kept.is_true (store_of code) → (now : Stage) × IsStage kept basis code now) → ((now : Stage) → IsStage kept basis code now → ClosesOn kept (closing_of basis now) mid new result) → LeavesAtFault kept basis script first result
+  fault_end script first code mid new (Ok store) trusts some closes = tt
+  fault_end script first code mid new (Err (fault.Script n, store)) trusts some closes = λ truth. (let now = some (trusts truth) in absurd (closes now.0 now.1 truth))
+  fault_end script first code mid new (Err (fault.Read, store)) trusts some closes = tt
+  fault_end script first code mid new (Err (fault.Write, store)) trusts some closes = tt
+  fault_end script first code mid new (Err (fault.Memory, store)) trusts some closes = tt
+  fault_end script first code mid new (Err (fault.Store, store)) trusts some closes = tt
+
+  -- nor where what was printed is not known to be there
+  pub fault_unflushed : (script : List ℕ) (first : S) (result : Result S (PlayFault × S)) → LeavesAtFault kept basis script first (unflushed result)
+  fault_unflushed script first (Ok store) = tt
+  fault_unflushed script first (Err (fault.Script line, store)) = tt
+  fault_unflushed script first (Err (fault.Read, store)) = tt
+  fault_unflushed script first (Err (fault.Write, store)) = tt
+  fault_unflushed script first (Err (fault.Memory, store)) = tt
+  fault_unflushed script first (Err (fault.Store, store)) = tt
