@@ -1,6 +1,6 @@
 //! Playing a script.
 ghost use Rattle.std.specs.Prelude.{◌≡◌, List, Some, false, true, IfOk, IfSome, IsErrOf, ℕ};
-ghost use Rattle.tip_play.specs.Leaving.{Leaves};
+ghost use Rattle.tip_play.specs.Leaving.{Leaves, LeavesAtFault};
 ghost use Rattle.tip_play.specs.Transcripts.{Transcribes, TranscribesOn, covers_all, in_memory};
 ghost use Rattle.tip_scene.specs.Acts.{Basis};
 ghost use Rattle.tip_scene.specs.Blaming.{Blames, HadTooFew, IsBlamed};
@@ -53,6 +53,10 @@ pub fn play_on<S: RowLog + Drop, R: BufRead, W: Write>(
         IsBasis S.keeping basis store → (script : List ℕ) →
         R.remaining input.old ≡ Some script → covers_all basis script ≡ true →
         IfOk result (λ left. S.keeping.is_true left → Leaves S.keeping basis script store left) }
+    ensures faults { (basis : Basis) → basis.may_refuse ≡ false →
+        IsBasis S.keeping basis store → (script : List ℕ) →
+        R.remaining input.old ≡ Some script → covers_all basis script ≡ true →
+        LeavesAtFault S.keeping basis script store result }
     ensures blames { (basis : Basis) → basis.may_refuse ≡ false →
         IsBasis S.keeping basis store → (script : List ℕ) →
         R.remaining input.old ≡ Some script → covers_all basis script ≡ true →
