@@ -1,8 +1,6 @@
 -- Keys in a list: which are among them, and that none stands twice.
-use Rattle.std.proofs.Common.{◌≡◌, ◌≢◌, ◌<◌, ◌-◌, ℕ, zero, suc, List, [], ◌∷◌, length, get_or, take, take_all, drop, length-drop, Bool, true, false, refl, ap, arith, ◌∙◌, sym, subst, inl, inr}
-use Rattle.std.specs.Prelude.{◌+◌, ◌==◌, ◌||◌, IsSome, insert, position, remove}
-use Rattle.std.specs.List.{position_from}
-use Rattle.std.proofs.lemmas.Iterator.Adapters.{position_from-zero}
+use Rattle.std.proofs.Common.{◌≡◌, ◌≢◌, ◌<◌, ℕ, zero, suc, List, [], ◌∷◌, length, get_or, Bool, true, false, refl, arith, ◌∙◌, subst, inl, inr}
+use Rattle.std.specs.Prelude.{◌==◌, ◌||◌, insert, remove}
 use Rattle.std.proofs.lemmas.Bool.{cases_Bool}
 use Rattle.std.proofs.lemmas.Bool.Decides.{nat_tests}
 use Rattle.tip_table.specs.Entries.{AreApart, is_among}
@@ -25,20 +23,12 @@ tail_apart k key keys none = step (k == key) none where
 turned : (k key : ℕ) → (k == key) ≡ false → (key == k) ≡ false
 turned k key apart = grind (arith, nat_tests, apart)
 
--- those behind a place
-pub behind_all : (keys : List ℕ) (place : ℕ) → take (length keys - place) (drop place keys) ≡ drop place keys
-behind_all keys place = ap (λ n. take n (drop place keys)) (sym (length-drop place keys)) ∙ take_all (length (drop place keys)) (drop place keys) (omega arith)
-
--- where it stands
-sought : (keys : List ℕ) (key from : ℕ) → is_among keys key ≡ true → IsSome (position_from (λ other. other == key) from keys)
-sought [] key from among = absurd (cc)
-sought (k ∷ ks) key from among = elim (cases_Bool (k == key)) [
-  | inl same ↦ simp same refl
-  | inr apart ↦ simp apart (sought ks key (from + 1) (simp apart at among))
-]
-
-pub is_sought : (keys : List ℕ) (key : ℕ) → is_among keys key ≡ true → IsSome (position (λ other. other == key) keys)
-is_sought keys key among = subst IsSome (sym (position_from-zero (λ other. other == key) keys)) (sought keys key 0 among)
+-- one of them is it
+pub is_somewhere : (keys : List ℕ) (key : ℕ) → is_among keys key ≡ true → ((k : ℕ) → k < length keys → (get_or keys k 0 == key) ≡ false) → ⊥
+is_somewhere [] key among none = absurd (cc)
+is_somewhere (k ∷ ks) key among none =
+    let other : (k == key) ≡ false = none 0 (omega arith) in
+    is_somewhere ks key (simp other at among) (λ j within. none (suc j) (omega (arith, within)))
 
 -- one more
 pub among-insert : (keys : List ℕ) (n key other : ℕ) → is_among (insert keys n key) other ≡ ((key == other) || is_among keys other)

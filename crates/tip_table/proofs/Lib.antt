@@ -1,7 +1,7 @@
 pub mod EntryLemmas
 pub mod KeyLemmas
 pub mod OwnLemmas
-pub mod Ranking
+pub mod Halving
 pub mod Shelving
 pub mod SlotLemmas
 pub mod Standing

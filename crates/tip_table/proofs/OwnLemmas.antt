@@ -105,7 +105,7 @@ module _ {T : Type 0} where
       step (Some e) some rest = ap suc rest
 
     -- they are at the front of those that are of no realm below
-    none_own : (keys : List ℕ) (realm later : ℕ) → AreThere slots keys → AreFrom later (placed_at slots keys) → suc realm ≤ later → own_keys slots keys realm ≡ []
+    pub none_own : (keys : List ℕ) (realm later : ℕ) → AreThere slots keys → AreFrom later (placed_at slots keys) → suc realm ≤ later → own_keys slots keys realm ≡ []
     none_own [] realm later there from_it below = refl
     none_own (k ∷ ks) realm later there from_it below = step (get slots k) there.0 from_it (λ rest. none_own ks realm later there.1 rest below) where
       step : (o : Option (Entry T)) → IsSome o → AreFrom later (placed_before k o (placed_at slots ks)) → (AreFrom later (placed_at slots ks) → own_keys slots ks realm ≡ []) → cond (realm_in o == realm) (k ∷ own_keys slots ks realm) (own_keys slots ks realm) ≡ []
@@ -157,27 +157,6 @@ module _ {T : Type 0} where
             let high = count_below (realm + 1) (placed_before k (Some e) (placed_at slots ks)) in
             let whole : high - 0 ≡ high = omega arith in
             rw none_below_it (ap (λ n. take n (k ∷ ks)) whole ∙ rw is at all)
-      ]
-
-    -- a key is not before those of its realm
-    pub among-behind : (keys : List ℕ) (key : ℕ) → AreThere slots keys → AreByRealm (placed_at slots keys) → is_among keys key ≡ true → is_among (drop (count_below (realm_in (get slots key)) (placed_at slots keys)) keys) key ≡ true
-    among-behind [] key there by_realm among = among
-    among-behind (k ∷ ks) key there by_realm among = step (get slots k) refl there.0 by_realm (among-behind ks key there.1) where
-      step : (o : Option (Entry T)) → get slots k ≡ o → IsSome o → AreByRealm (placed_before k o (placed_at slots ks)) →
-          (AreByRealm (placed_at slots ks) → is_among ks key ≡ true → is_among (drop (count_below (realm_in (get slots key)) (placed_at slots ks)) ks) key ≡ true) →
-          is_among (drop (count_below (realm_in (get slots key)) (placed_before k o (placed_at slots ks))) (k ∷ ks)) key ≡ true
-      step None is some by_realm rest = absurd (cc)
-      step (Some e) is some by_realm rest = elim (cases_Bool (nat_lt e.realm (realm_in (get slots key)))) [
-        | inl earlier ↦ elim (cases_Bool (k == key)) [
-          | inl same ↦ absurd (
-              let here : k ≡ key = grind (arith, nat_tests, same) in
-              let its : realm_in (get slots key) ≡ e.realm = ap (λ n. realm_in (get slots n)) (sym here) ∙ ap realm_in is in
-              grind (arith, nat_tests, earlier, its))
-          | inr apart ↦ simp earlier (rest by_realm.1 (simp apart at among))
-        ]
-        | inr not_earlier ↦
-            let none : count_below (realm_in (get slots key)) (placed_at slots ks) ≡ 0 = none_below (realm_in (get slots key)) (placed_at slots ks) e.realm by_realm.0 (grind (arith, nat_tests, not_earlier)) in
-            simp (not_earlier, none) among
       ]
 
     -- each stands where it stands among them

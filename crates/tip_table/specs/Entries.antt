@@ -1,7 +1,8 @@
 -- How a table lies: entries in slots, and the keys of the slots in order, by realm and in a realm as made. No contract speaks of it but by what `Kept` makes of it.
-use Rattle.std.specs.Prelude.{ℕ, suc, ◌≡◌, ◌≢◌, ◌≤◌, Bool, false, length, ◌==◌, if◌then◌else◌, List, [], ◌∷◌, Option, Some, None, IsSome, option_map, map, nat_lt}
+use Rattle.std.specs.Prelude.{ℕ, suc, ◌≡◌, ◌≢◌, ◌≤◌, ◌&&◌, ◌||◌, Bool, false, length, ◌==◌, if◌then◌else◌, List, [], ◌∷◌, Option, Some, None, IsSome, option_map, map, nat_lt, slice_get}
 use Rattle.std.specs.List.{list_any}
 use Rattle.slab.specs.Slab.{Slab, get, with_value}
+use Rattle.tip_table.specs.Lists.{IsFirst}
 use Rattle.tip_table.specs.declared.table.Entry.{Entry}
 
 -- an item is known by its realm and by how many of the realm's items stand before it
@@ -104,10 +105,21 @@ abbrev pub passes_in : {T : Type 0} → (T → Bool) → Option (Entry T) → Bo
 passes_in test None = false
 passes_in test (Some entry) = test entry.item
 
--- the rank of the item of a slot, where the slot has one
-abbrev pub rank_in : {T : Type 0} → (T → ℕ) → Option (Entry T) → ℕ
-rank_in rank None = 0
-rank_in rank (Some entry) = rank entry.item
+-- does the entry of a slot stand before one of this realm and rank? Entries stand by realm, and those of one realm by rank
+abbrev pub comes_before : {T : Type 0} → (T → ℕ) → ℕ → ℕ → Option (Entry T) → Bool
+comes_before rank realm wanted None = false
+comes_before rank realm wanted (Some entry) = nat_lt entry.realm realm || (entry.realm == realm && nat_lt (rank entry.item) wanted)
+
+-- is it of this realm, and of this rank?
+abbrev pub is_ranked : {T : Type 0} → (T → ℕ) → ℕ → ℕ → Option (Entry T) → Bool
+is_ranked rank realm wanted None = false
+is_ranked rank realm wanted (Some entry) = entry.realm == realm && rank entry.item == wanted
+
+-- the item of this key is the first of those at these keys that passes
+pub record IsFirstAt {T : Type 0} (slots : Slab (Entry T)) (test : T → Bool) (keys : List ℕ) (key : ℕ) : Type 0 where
+  pub at : ℕ
+  pub here : slice_get keys at ≡ Some key
+  pub first : IsFirst test (items_at slots keys) at
 
 -- the slots with the item at a key changed
 abbrev pub changed_at : {T : Type 0} → (T → T) → Slab (Entry T) → ℕ → Option (Entry T) → Slab (Entry T)

@@ -2,8 +2,8 @@
 ghost use Rattle.std.specs.Prelude.{◌≡◌, ◌==◌, ◌+◌, ◌<◌, ◌≤◌, true, None, IfSome, count_by, length, map, position, slice_index_or};
 ghost use Rattle.std.specs.List.{find};
 ghost use Rattle.slab.specs.Slab.{get};
-ghost use Rattle.tip_table.specs.Entries.{AreApart, AreByRealm, AreThere, count_below, is_among, items_at, own_keys, passes_in, placed_at, rank_in, realm_in, visited_at};
-ghost use Rattle.tip_table.specs.Lists.{IsFirst, are_rising};
+ghost use Rattle.tip_table.specs.Entries.{AreApart, AreByRealm, AreThere, IsFirstAt, comes_before, count_below, is_among, is_ranked, items_at, own_keys, passes_in, placed_at, realm_in, visited_at};
+ghost use Rattle.tip_table.specs.Lists.{are_rising};
 ghost use Rattle.tip_table.specs.Visits.{MayVisit, notes_of};
 
 use crate::rank::Rank;
@@ -56,6 +56,7 @@ pub(crate) fn own<'a, T, A: Allocator>(
 }
 
 /// Where a key stands that is one of these.
+#[tactic(auto, using(crate::proofs::OwnLemmas::counts_rise))]
 pub(crate) fn index_of<T, A: Allocator>(
     slots: &Slab<Entry<T>, A>,
     keys: &[usize],
@@ -67,24 +68,26 @@ pub(crate) fn index_of<T, A: Allocator>(
     ensures within { result < length keys.now }
     ensures found { slice_index_or keys.now result 0 ≡ key }
 {
-    let start = before(slots, keys, realm_at(slots, key));
-    start + offset_of(&keys[start..], key)
+    let realm = realm_at(slots, key);
+    let start = before(slots, keys, realm);
+    let end = through(slots, keys, realm);
+    start + offset_of(&keys[start..end], key)
 }
 
-/// Where a key stands first that is one of these.
+/// Where a key stands that is one of these, sought from the end: who leaves has mostly come late.
 fn offset_of(keys: &[usize], key: usize) -> usize
     requires { is_among keys.now key ≡ true }
     ensures within { result < length keys.now }
     ensures found { slice_index_or keys.now result 0 ≡ key }
 {
-    first_of(keys, key).unwrap()
-}
-
-/// Where a key stands first.
-fn first_of(keys: &[usize], key: usize) -> Option<usize>
-    ensures { result ≡ position (λ other. other == key) keys.now }
-{
-    keys.iter().position(|other| *other == key)
+    let mut end = keys.len();
+    while end > 0 {
+        end -= 1;
+        if keys[end] == key {
+            return end;
+        }
+    }
+    unreachable!()
 }
 
 /// How many keys, at the front, are of realms below this bound.
@@ -127,35 +130,62 @@ fn passes_at<T, A: Allocator, Q: Test<T>>(slots: &Slab<Entry<T>, A>, key: usize,
     }
 }
 
-/// Where the first of these keys stands whose item has this rank, by halves.
-pub(crate) fn first_ranked<T, A: Allocator, R: Rank<T>>(
+/// The key of the first of a realm's items of this rank, in one search by halves: entries stand by realm, and those of this realm by
+/// rank.
+pub(crate) fn key_ranked<T, A: Allocator, R: Rank<T>>(
     slots: &Slab<Entry<T>, A>,
     keys: &[usize],
+    realm: usize,
     ranks: &R,
     rank: u64,
 ) -> Option<usize>
     requires there { AreThere slots.now keys.now }
-    requires rising { are_rising (map (R.rank ranks.now) (items_at slots.now keys.now)) ≡ true }
-    ensures some { IfSome result (λ at.
-        IsFirst (λ item. R.rank ranks.now item == rank) (items_at slots.now keys.now) at) }
-    ensures none { result ≡ None →
-        find (λ item. R.rank ranks.now item == rank) (items_at slots.now keys.now) ≡ None }
-    ensures within { IfSome result (λ at. at < length keys.now) }
+    requires by_realm { AreByRealm (placed_at slots.now keys.now) }
+    requires rising { are_rising (map (R.rank ranks.now)
+        (items_at slots.now (own_keys slots.now keys.now realm))) ≡ true }
+    ensures some { IfSome result (IsFirstAt slots.now (λ item. R.rank ranks.now item == rank)
+        (own_keys slots.now keys.now realm)) }
+    ensures none { result ≡ None → find (λ item. R.rank ranks.now item == rank)
+        (items_at slots.now (own_keys slots.now keys.now realm)) ≡ None }
 {
-    let at = keys.partition_point(|key| rank_at(slots, *key, ranks) < rank);
+    let at = keys.partition_point(|key| comes_before(slots, *key, realm, ranks, rank));
     match keys.get(at) {
-        Some(key) if rank_at(slots, *key, ranks) == rank => Some(at),
+        Some(key) if is_ranked(slots, *key, realm, ranks, rank) => Some(*key),
         _ => None,
     }
 }
 
-/// The rank of the item under a key; 0 where there is none.
-fn rank_at<T, A: Allocator, R: Rank<T>>(slots: &Slab<Entry<T>, A>, key: usize, ranks: &R) -> u64
-    ensures { result ≡ rank_in (R.rank ranks.now) (get slots.now key) }
+/// Whether the entry under a key stands before one of this realm and rank.
+fn comes_before<T, A: Allocator, R: Rank<T>>(
+    slots: &Slab<Entry<T>, A>,
+    key: usize,
+    realm: usize,
+    ranks: &R,
+    rank: u64,
+) -> bool
+    ensures { result ≡ comes_before (R.rank ranks.now) realm rank (get slots.now key) }
 {
     match slots.get(key) {
-        Some(entry) => ranks.rank(&entry.item),
-        None => 0,
+        Some(entry) => {
+            entry.realm < realm || entry.realm == realm && ranks.rank(&entry.item) < rank
+        }
+        None => false,
+    }
+}
+
+/// Whether the entry under a key is of this realm, and its item of this rank.
+fn is_ranked<T, A: Allocator, R: Rank<T>>(
+    slots: &Slab<Entry<T>, A>,
+    key: usize,
+    realm: usize,
+    ranks: &R,
+    rank: u64,
+) -> bool
+    ensures { result ≡ is_ranked (R.rank ranks.now) realm rank (get slots.now key) }
+{
+    match slots.get(key) {
+        Some(entry) => entry.realm == realm && ranks.rank(&entry.item) == rank,
+        None => false,
     }
 }
 

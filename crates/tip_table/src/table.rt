@@ -7,7 +7,7 @@ ghost use Rattle.tip_table.specs.Lists.{are_rising};
 ghost use Rattle.tip_table.specs.Visits.{MayVisit, notes_of};
 
 use crate::items::Items;
-use crate::order::{count_passing, first_passing, first_ranked, index_of, own, through, visit_at};
+use crate::order::{count_passing, first_passing, index_of, key_ranked, own, through, visit_at};
 use crate::rank::Rank;
 use crate::test::Test;
 use crate::visit::Visit;
@@ -141,9 +141,7 @@ impl<T: Drop, A: Allocator> Table<T, A> {
         ensures some { IfSome result
             (λ place. StandsAt self.now realm (λ item. R.rank ranks.now item == rank) place) }
     {
-        let own = own(&self.slots, &self.order, realm);
-        let at = first_ranked(&self.slots, own, ranks, rank)?;
-        Some(own[at])
+        key_ranked(&self.slots, &self.order, realm, ranks, rank)
     }
 
     /// The items of a realm, in the order made.
