@@ -2,9 +2,9 @@
 use Rattle.std.proofs.Common.{◌≡◌, Result, Ok, Err, inl, inr, sym, ap, subst}
 use Rattle.std.specs.Prelude.{IsErrOf}
 use Rattle.tip_rows.specs.Logs.{Keeping}
-use Rattle.tip_scene.proofs.Blaming.{blames_on, refused_since}
+use Rattle.tip_scene.proofs.Blaming.{refused_since}
 use Rattle.tip_scene.specs.Acts.{Basis}
-use Rattle.tip_scene.specs.Blaming.{Accuses, Blames, HadTooFew, HasRefused, IsBlamed}
+use Rattle.tip_scene.specs.Blaming.{Accuses, Blames, HasRefused, IsBlamed}
 use Rattle.tip_scene.specs.Stages.{Trusts}
 use Rattle.tip_play.specs.Endings.{unflushed}
 use Rattle.tip_play.specs.declared.fault.PlayFault.{PlayFault}
@@ -22,17 +22,17 @@ module _ {S : Type 0} (kept : Keeping S) (basis : Basis) where
   since_first old mid new same (inl since) = inl (refused_since kept old mid new same since)
   since_first old mid new same (inr unfit) = inr unfit
 
-  pub blames_back_err : (old mid : S) (why : PlayFault × S) → (kept.is_true why.1 → kept.is_true mid) → kept.faults mid ≡ kept.faults old → (kept.is_true mid → Accuses kept fault.Store (IsBlamed kept basis mid) (HadTooFew kept basis) why) → Accuses kept fault.Store (IsBlamed kept basis old) (HadTooFew kept basis) why
-  blames_back_err old mid why trusts same blames = λ is truth. blames_on kept fault.Store (IsBlamed kept basis mid) (IsBlamed kept basis old) (HadTooFew kept basis) (HadTooFew kept basis) why (λ new. since_first old mid new same) (λ few. few) (blames (trusts truth)) is truth
+  pub blames_back_err : (old mid : S) (why : PlayFault × S) → (kept.is_true why.1 → kept.is_true mid) → kept.faults mid ≡ kept.faults old → (kept.is_true mid → Accuses kept fault.Store (IsBlamed kept basis mid) why) → Accuses kept fault.Store (IsBlamed kept basis old) why
+  blames_back_err old mid why trusts same blames = λ is truth. since_first old mid why.1 same (blames (trusts truth) is truth)
 
-  pub blames_back : {T : Type 0} (old mid : S) (store : T → S) (result : Result T (PlayFault × S)) → Trusts kept mid store result → kept.faults mid ≡ kept.faults old → (kept.is_true mid → Blames kept fault.Store (IsBlamed kept basis mid) (HadTooFew kept basis) result) → Blames kept fault.Store (IsBlamed kept basis old) (HadTooFew kept basis) result
+  pub blames_back : {T : Type 0} (old mid : S) (store : T → S) (result : Result T (PlayFault × S)) → Trusts kept mid store result → kept.faults mid ≡ kept.faults old → (kept.is_true mid → Blames kept fault.Store (IsBlamed kept basis mid) result) → Blames kept fault.Store (IsBlamed kept basis old) result
   blames_back old mid store (Ok x) trusts same blames = tt
   blames_back old mid store (Err why) trusts same blames = blames_back_err old mid why trusts same blames
 
-  pub blames_unflushed : (why : S → Type 0) (few : Type 0) (result : Result S (PlayFault × S)) → Blames kept fault.Store why few result → Blames kept fault.Store why few (unflushed result)
-  blames_unflushed why few (Ok store) blames = λ is. absurd cc
-  blames_unflushed why few (Err (fault.Script line, store)) blames = λ is. absurd cc
-  blames_unflushed why few (Err (fault.Read, store)) blames = blames
-  blames_unflushed why few (Err (fault.Write, store)) blames = blames
-  blames_unflushed why few (Err (fault.Memory, store)) blames = blames
-  blames_unflushed why few (Err (fault.Store, store)) blames = blames
+  pub blames_unflushed : (why : S → Type 0) (result : Result S (PlayFault × S)) → Blames kept fault.Store why result → Blames kept fault.Store why (unflushed result)
+  blames_unflushed why (Ok store) blames = λ is. absurd cc
+  blames_unflushed why (Err (fault.Script line, store)) blames = λ is. absurd cc
+  blames_unflushed why (Err (fault.Read, store)) blames = blames
+  blames_unflushed why (Err (fault.Write, store)) blames = blames
+  blames_unflushed why (Err (fault.Memory, store)) blames = blames
+  blames_unflushed why (Err (fault.Store, store)) blames = blames

@@ -1,7 +1,8 @@
 -- What a script leaves whose line may not stand there.
-use Rattle.std.proofs.Common.{◌≡◌, ◌≢◌, ◌≤◌, ◌<◌, ◌+◌, ◌++◌, ◌∷◌, [], ℕ, List, Bool, true, false, cond, Option, Some, None, Ok, Err, Result, length, map, arith, refl, sym, ap, ◌∙◌, subst, length-append}
+use Rattle.std.proofs.Common.{◌≡◌, ◌≢◌, ◌⊎◌, ◌≤◌, ◌<◌, ◌+◌, ◌++◌, ◌∷◌, [], ℕ, List, Bool, true, false, cond, Option, Some, None, Ok, Err, Result, length, map, arith, inl, inr, refl, sym, ap, ◌∙◌, subst, length-append}
 use Rattle.std.proofs.lemmas.Bool.{le-leb, lt-leb}
-use Rattle.std.proofs.lemmas.List.{append_assoc}
+use Rattle.std.proofs.lemmas.List.{append-nil, append_assoc}
+use Rattle.std.specs.Prelude.{IfOk}
 use Rattle.std.proofs.lemmas.Option.{none-some}
 use Rattle.std.proofs.KnownBytes.{Consumes-trans, Consumes-whole}
 use Rattle.script_lines.specs.Lines.{AreOfLine, IsTooLong, Reads, is_line_feed, longest_line}
@@ -11,21 +12,22 @@ use Rattle.tip_rows.specs.Logs.{Keeping}
 use Rattle.tip_script.specs.Scripts.{Move, move_of}
 use Rattle.tip_actor.specs.Acting.{Acting}
 use Rattle.tip_scene.specs.Acts.{Basis, Declaring, Playing, Stage, acted, closing_of, may_say}
-use Rattle.tip_scene.specs.Blaming.{scene_in}
+use Rattle.tip_scene.specs.Blaming.{scene_in, starting_from}
 use Rattle.tip_scene.specs.Leaving.{IsLeft, OthersStay, is_among, is_starting, names_in, scene_behind}
 use Rattle.tip_scene.specs.Scenes.{Scene}
 use Rattle.tip_scene.specs.Stages.{AStage, IsStage, Trusts, store_of}
 use Rattle.tip_scene.specs.declared.stage.Stage.TheVariants as stage
 use Rattle.tip_scene.proofs.Leaving.{others_on, scene_names, scene_stored}
 use Rattle.tip_play.specs.Endings.{unflushed}
-use Rattle.tip_play.specs.Leaving.{LeavesAtFault, LeavesAtLine, LeavesBehind, left_at}
-use Rattle.tip_play.specs.Transcripts.{ended, unended}
+use Rattle.tip_play.specs.Leaving.{HasDone, Leaves, LeavesAfter, LeavesAtEnd, LeavesAtFault, LeavesAtLine, LeavesBehind, LeavesUnwritten, left_at}
+use Rattle.tip_play.specs.Transcripts.{Played, Reached, all_played, ended, lines_of, played_of, unended}
+use Rattle.tip_play.proofs.Transcribing.{plays_line}
 use Rattle.tip_play.specs.Writing.{Acts, ClosesOn, HasCome}
 use Rattle.tip_play.specs.declared.fault.PlayFault.{PlayFault}
 use Rattle.tip_play.specs.declared.fault.PlayFault.TheVariants as fault
-use Rattle.tip_play.proofs.Cutting.{all_lines, first_line, last_line, not_is}
-use Rattle.tip_play.proofs.Lines.{IsNext, next_line}
-use Rattle.tip_play.proofs.Reading.{Goes, HasRead, LeavesFrom, behind_feed, of_whole}
+use Rattle.tip_play.proofs.Cutting.{all_lines, ended_feed, first_line, last_line, not_is}
+use Rattle.tip_play.proofs.Lines.{IsNext, next_line, next_now}
+use Rattle.tip_play.proofs.Reading.{Goes, HasRead, LeavesFrom, behind_feed, grows_last, leaves_end, leaves_more, of_whole, still_going}
 
 module _ {S : Type 0} (kept : Keeping S) (basis : Basis) where
   -- What is stored from the first line on
@@ -122,14 +124,18 @@ module _ {S : Type 0} (kept : Keeping S) (basis : Basis) where
     next_to : AreOfLine line → IsNext kept basis stage number so.read line old mid
     next_to are = next_line kept basis stage number so.read line old mid so.played are
 
-    line_left : (end : LineEnd) → end ≢ TooLong → Reads left left' line (Ok end) → ((now : Stage) → IsStage kept basis stage now → IsLeft kept (scene_behind basis now (move_of line)) first store) → LeavesBehind kept basis script number first store
+    at_next : (are : AreOfLine line) → (next_to are).now ≡ so.played.now
+    unfolding next_to
+    at_next are = next_now kept basis stage number so.read line old mid so.played are
+
+    line_left : (end : LineEnd) → end ≢ TooLong → Reads left left' line (Ok end) → IsLeft kept (scene_behind basis so.played.now (move_of line)) first store → LeavesBehind kept basis script number first store
     line_left LineFeed other reads leaves =
         let next = next_to reads.0 in
         of_whole kept basis (Some script) left' (so.read ++ (line ++ 10 ∷ [])) (λ s. LeavesBehind kept basis s number first store) (Consumes-trans (Some script) left left' so.read (line ++ 10 ∷ []) so.consumed reads.1)
-        (λ rest. subst (λ s. LeavesBehind kept basis s number first store) (sym (behind_feed kept basis so.read line rest)) (fed stage number so.read line old mid first store next rest (leaves next.now next.stands)))
+        (λ rest. subst (λ s. LeavesBehind kept basis s number first store) (sym (behind_feed kept basis so.read line rest)) (fed stage number so.read line old mid first store next rest (subst (λ n. IsLeft kept (scene_behind basis n (move_of line)) first store) (sym (at_next reads.0)) leaves)))
     line_left EndOfInput other reads leaves =
         let next = next_to reads.0 in
-        Consumes-whole (Some script) left' (so.read ++ line) (λ s. LeavesBehind kept basis s number first store) (Consumes-trans (Some script) left left' so.read line so.consumed reads.1) reads.2 (last stage number so.read line old mid first store next (leaves next.now next.stands))
+        Consumes-whole (Some script) left' (so.read ++ line) (λ s. LeavesBehind kept basis s number first store) (Consumes-trans (Some script) left left' so.read line so.consumed reads.1) reads.2 (last stage number so.read line old mid first store next (subst (λ n. IsLeft kept (scene_behind basis n (move_of line)) first store) (sym (at_next reads.0)) leaves))
     line_left TooLong other reads leaves = absurd (other refl)
 
     long_left : AreOfLine line → (long : IsTooLong left left' line) → ((now : Stage) → IsStage kept basis stage now → IsLeft kept (scene_in now) first store) → LeavesBehind kept basis script number first store
@@ -140,18 +146,78 @@ module _ {S : Type 0} (kept : Keeping S) (basis : Basis) where
         (λ rest. subst (λ s. LeavesBehind kept basis s number first store) (sym (ap (λ l. l ++ rest) (sym (append_assoc so.read line (octet ∷ []))) ∙ append_assoc (so.read ++ line) (octet ∷ []) rest))
         (long_line stage number so.read line old mid first store next rest octet (not_is (is_line_feed octet) long.inner) long.full (leaves next.now next.stands)))
 
+  -- the line was done, and what is left is what the realms are behind it
+  module _ (stage : AStage S) (number : ℕ) (script : List ℕ) (left left' old mid : Option (List ℕ)) (line : List ℕ) (first store : S) (after : Stage) (so : HasRead kept basis stage number (Some script) left old mid) where
+    done_of : AreOfLine line → (acted basis so.played.now line).stage ≡ Some after → (played_of basis ((so.read ++ line) ++ 10 ∷ [])).ending ≡ Reached after
+    done_of are does =
+        let next = next_line kept basis stage number so.read line old mid so.played are in
+        ap (λ (p : Played). p.ending) (plays_line basis (so.read ++ line) next.now after next.reached next.short (ap (λ l. (acted basis next.now l).stage) next.left ∙ ap (λ n. (acted basis n line).stage) (next_now kept basis stage number so.read line old mid so.played are) ∙ does))
+
+    done_left : (end : LineEnd) → end ≢ TooLong → Reads left left' line (Ok end) → (acted basis so.played.now line).stage ≡ Some after → IsLeft kept (scene_in after) first store → LeavesAfter kept basis script first store
+    done_left LineFeed other reads does here =
+        let reached = done_of reads.0 does in
+        of_whole kept basis (Some script) left' (so.read ++ (line ++ 10 ∷ [])) (λ s. LeavesAfter kept basis s first store) (Consumes-trans (Some script) left left' so.read (line ++ 10 ∷ []) so.consumed reads.1)
+        (λ rest. record {
+          before = ended ((so.read ++ line) ++ 10 ∷ []);
+          behind = _;
+          lines = ap (λ l. lines_of (l ++ rest)) (sym (append_assoc so.read line (10 ∷ []))) ∙ all_lines ((so.read ++ line) ++ 10 ∷ []) rest;
+          stage = after;
+          reached = reached;
+          left = here;
+        })
+    done_left EndOfInput other reads does here =
+        let reached = done_of reads.0 does in
+        Consumes-whole (Some script) left' (so.read ++ line) (λ s. LeavesAfter kept basis s first store) (Consumes-trans (Some script) left left' so.read line so.consumed reads.1) reads.2 (record {
+          before = ended ((so.read ++ line) ++ 10 ∷ []);
+          behind = [];
+          lines = last_line (so.read ++ line) ∙ sym (ended_feed (so.read ++ line)) ∙ sym (append-nil (ended ((so.read ++ line) ++ 10 ∷ [])));
+          stage = after;
+          reached = reached;
+          left = here;
+        })
+    done_left TooLong other reads does here = absurd (other refl)
+
+  -- no line more was read
+  read_left : (stage stage' : AStage S) (number : ℕ) (script : List ℕ) (left old new : Option (List ℕ)) (first store : S) → store ≡ store_of stage' → HasRead kept basis stage number (Some script) left old new → LeavesFrom kept basis first stage' → ((now : Stage) → IsStage kept basis stage now → IsStage kept basis stage' now) → LeavesAfter kept basis script first store
+  read_left stage stage' number script left old new first store same so from stands =
+      let now = so.played.now in
+      let here = subst (IsLeft kept (scene_in now) first) (sym same) (left_now first stage' now (stands now so.played.stands) from) in
+      of_whole kept basis (Some script) left so.read (λ s. LeavesAfter kept basis s first store) so.consumed (λ rest. record {
+        before = ended so.read;
+        behind = _;
+        lines = all_lines so.read rest;
+        stage = now;
+        reached = so.played.reached;
+        left = here;
+      })
+
   -- How the script has ended
+
+  -- there are no more numbers for lines
+  pub fault_beyond : (over : Bool) (stage : AStage S) (number : ℕ) (script : List ℕ) (left old new : Option (List ℕ)) (first store : S) → store ≡ store_of stage → over ≡ false → (kept.is_true store → Goes kept basis over stage number (Some script) left old new) → (kept.is_true store → LeavesFrom kept basis first stage) → LeavesAtFault kept basis script first (Err (fault.Read, store))
+  fault_beyond over stage number script left old new first store same more so from = λ truth. read_left stage stage number script left old new first store same (still_going kept basis over stage number (Some script) left old new more (so truth)) (from truth) (λ now is. is)
+
+  -- what it prints was not written
+  unwritten : (stage stage' : AStage S) (number : ℕ) (script : List ℕ) (left left' old mid : Option (List ℕ)) (line : List ℕ) (end : LineEnd) (first store : S) (so : HasRead kept basis stage number (Some script) left old mid) → IsStage kept basis stage' so.played.now → LeavesFrom kept basis first stage' → end ≢ TooLong → Reads left left' line (Ok end) →
+      IsLeft kept (scene_behind basis so.played.now (move_of line)) (store_of stage') store ⊎ HasDone kept basis (acted basis so.played.now line) stage' store → LeavesUnwritten kept basis script first store
+  unwritten stage stage' number script left left' old mid line end first store so at from other reads (inl here) =
+      let now = so.played.now in
+      inr (inr (number, line_left stage number script left left' old mid line first store so end other reads (left_then first stage' (scene_behind basis now (move_of line)) store from (grows_behind stage' now (move_of line) at) here)))
+  unwritten stage stage' number script left left' old mid line end first store so at from other reads (inr done) =
+      inl (done_left stage number script left left' old mid line first store done.now so end other reads done.does (subst (IsLeft kept (scene_in done.now) first) (sym done.store) (left_now first done.stage done.now done.stands (leaves_more kept basis first stage' done.stage from done.leaves))))
 
   -- a line may not stand there
   pub fault_line : (stage stage' : AStage S) (number : ℕ) (script : List ℕ) (left left' old mid new : Option (List ℕ)) (line : List ℕ) (end : LineEnd) (first : S) (why : PlayFault × S) → end ≢ TooLong → Reads left left' line (Ok end) → (kept.is_true why.1 → HasRead kept basis stage number (Some script) left old mid) → (kept.is_true why.1 → LeavesFrom kept basis first stage') →
-      ((now : Stage) → IsStage kept basis stage now → IsStage kept basis stage' now) → (kept.is_true why.1 → (now : Stage) → IsStage kept basis stage' now → Acts kept basis number (acted basis now line) mid new (Err why.0)) → ((now : Stage) → IsStage kept basis stage' now → LeavesAtLine kept (scene_behind basis now (move_of line)) (store_of stage') (Err why)) → LeavesAtFault kept basis script first (Err why)
+      ((now : Stage) → IsStage kept basis stage now → IsStage kept basis stage' now) → (kept.is_true why.1 → (now : Stage) → IsStage kept basis stage' now → Acts kept basis number (acted basis now line) mid new (Err why.0)) → (kept.is_true why.1 → (now : Stage) → IsStage kept basis stage' now → LeavesAtLine kept basis (scene_behind basis now (move_of line)) (acted basis now line) stage' (Err why)) → LeavesAtFault kept basis script first (Err why)
   fault_line stage stage' number script left left' old mid new line end first (fault.Script n, store) other reads so from stands acts leaves = λ truth.
       let read = so truth in
-      let here = acts truth read.played.now (stands read.played.now read.played.stands) in
+      let now = read.played.now in
+      let at = stands now read.played.stands in
+      let here = acts truth now at in
       subst (λ m. LeavesBehind kept basis script m first store) (sym here.1)
-      (line_left stage number script left left' old mid line first store read end other reads (λ now is. left_then first stage' (scene_behind basis now (move_of line)) store (from truth) (grows_behind stage' now (move_of line) (stands now is)) (leaves now (stands now is) truth)))
-  fault_line stage stage' number script left left' old mid new line end first (fault.Read, store) other reads so from stands acts leaves = tt
-  fault_line stage stage' number script left left' old mid new line end first (fault.Write, store) other reads so from stands acts leaves = tt
+      (line_left stage number script left left' old mid line first store read end other reads (left_then first stage' (scene_behind basis now (move_of line)) store (from truth) (grows_behind stage' now (move_of line) at) (leaves truth now at truth)))
+  fault_line stage stage' number script left left' old mid new line end first (fault.Read, store) other reads so from stands acts leaves = λ truth. (let read = so truth in absurd (acts truth read.played.now (stands read.played.now read.played.stands)))
+  fault_line stage stage' number script left left' old mid new line end first (fault.Write, store) other reads so from stands acts leaves = λ truth. (let read = so truth in let at = stands read.played.now read.played.stands in unwritten stage stage' number script left left' old mid line end first store read at (from truth) other reads (leaves truth read.played.now at truth))
   fault_line stage stage' number script left left' old mid new line end first (fault.Memory, store) other reads so from stands acts leaves = tt
   fault_line stage stage' number script left left' old mid new line end first (fault.Store, store) other reads so from stands acts leaves = tt
 
@@ -161,25 +227,31 @@ module _ {S : Type 0} (kept : Keeping S) (basis : Basis) where
   fault_coming false stage stage' number script left left' old new line (fault.Script at) first store same come so from stands = λ truth. subst (λ m. LeavesBehind kept basis script m first store) (sym come.1)
       (long_left stage number script left left' old new line first store (so truth) come.2.0 come.2.1 (λ now is. subst (IsLeft kept (scene_in now) first) (sym same) (left_now first stage' now (stands now is) (from truth))))
   fault_coming true stage stage' number script left left' old new line (fault.Script at) first store same come so from stands = absurd (cc)
-  fault_coming over stage stage' number script left left' old new line fault.Read first store same come so from stands = tt
-  fault_coming over stage stage' number script left left' old new line fault.Write first store same come so from stands = tt
+  fault_coming false stage stage' number script left left' old new line fault.Read first store same come so from stands = λ truth. read_left stage stage' number script left old new first store same (so truth) (from truth) stands
+  fault_coming true stage stage' number script left left' old new line fault.Read first store same come so from stands = absurd (cc)
+  fault_coming over stage stage' number script left left' old new line fault.Write first store same come so from stands = absurd come
   fault_coming over stage stage' number script left left' old new line fault.Memory first store same come so from stands = tt
   fault_coming over stage stage' number script left left' old new line fault.Store first store same come so from stands = tt
 
   -- no line is at fault behind the last one
-  pub fault_end : (script : List ℕ) (first : S) (code : AStage S) (mid new : Option (List ℕ)) (result : Result S (PlayFault × S)) → Trusts kept (store_of code) (λ store. store) result → (kept.is_true (store_of code) → (now : Stage) × IsStage kept basis code now) → ((now : Stage) → IsStage kept basis code now → ClosesOn kept (closing_of basis now) mid new result) → LeavesAtFault kept basis script first result
-  fault_end script first code mid new (Ok store) trusts some closes = tt
-  fault_end script first code mid new (Err (fault.Script n, store)) trusts some closes = λ truth. (let now = some (trusts truth) in absurd (closes now.0 now.1 truth))
-  fault_end script first code mid new (Err (fault.Read, store)) trusts some closes = tt
-  fault_end script first code mid new (Err (fault.Write, store)) trusts some closes = tt
-  fault_end script first code mid new (Err (fault.Memory, store)) trusts some closes = tt
-  fault_end script first code mid new (Err (fault.Store, store)) trusts some closes = tt
+  pub at_end : (scene : Scene) (old : S) (result : Result S (PlayFault × S)) → LeavesAtEnd kept scene old result → IfOk result (λ store. kept.is_true store → IsLeft kept scene old store)
+  at_end scene old (Ok store) leaves = leaves
+  at_end scene old (Err why) leaves = tt
+
+  pub fault_end : (script : List ℕ) (first : S) (code : AStage S) (mid new : Option (List ℕ)) (result : Result S (PlayFault × S)) → Trusts kept (store_of code) (λ store. store) result → (kept.is_true (store_of code) → (now : Stage) × IsStage kept basis code now × ((all_played basis script).ending ≡ Reached now) × ((starts : ℕ) × OthersStay kept starts (names_in code) first (store_of code))) →
+      ((now : Stage) → IsStage kept basis code now → ClosesOn kept (closing_of basis now) mid new result) → ((now : Stage) → IsStage kept basis code now → LeavesAtEnd kept (starting_from basis now) (store_of code) result) → LeavesAtFault kept basis script first result
+  fault_end script first code mid new (Ok store) trusts so closes leaves = tt
+  fault_end script first code mid new (Err (fault.Script n, store)) trusts so closes leaves = λ truth. (let now = so (trusts truth) in absurd (closes now.0 now.1 truth))
+  fault_end script first code mid new (Err (fault.Read, store)) trusts so closes leaves = λ truth. (let now = so (trusts truth) in absurd (closes now.0 now.1 truth))
+  fault_end script first code mid new (Err (fault.Write, store)) trusts so closes leaves = λ truth. inr (inl (leaves_end kept basis {E = PlayFault} (λ now. IsStage kept basis code now) script (names_in code) first (store_of code) (store_of code) (Ok store) refl trusts so (grows_last kept basis code) leaves truth))
+  fault_end script first code mid new (Err (fault.Memory, store)) trusts so closes leaves = tt
+  fault_end script first code mid new (Err (fault.Store, store)) trusts so closes leaves = tt
 
   -- nor where what was printed is not known to be there
-  pub fault_unflushed : (script : List ℕ) (first : S) (result : Result S (PlayFault × S)) → LeavesAtFault kept basis script first (unflushed result)
-  fault_unflushed script first (Ok store) = tt
-  fault_unflushed script first (Err (fault.Script line, store)) = tt
-  fault_unflushed script first (Err (fault.Read, store)) = tt
-  fault_unflushed script first (Err (fault.Write, store)) = tt
-  fault_unflushed script first (Err (fault.Memory, store)) = tt
-  fault_unflushed script first (Err (fault.Store, store)) = tt
+  pub fault_unflushed : (script : List ℕ) (first : S) (result : Result S (PlayFault × S)) → IfOk result (λ left. kept.is_true left → Leaves kept basis script first left) → LeavesAtFault kept basis script first result → LeavesAtFault kept basis script first (unflushed result)
+  fault_unflushed script first (Ok store) leaves faults = λ truth. inr (inl (leaves truth))
+  fault_unflushed script first (Err (fault.Script line, store)) leaves faults = λ truth. inr (inr (line, faults truth))
+  fault_unflushed script first (Err (fault.Read, store)) leaves faults = faults
+  fault_unflushed script first (Err (fault.Write, store)) leaves faults = faults
+  fault_unflushed script first (Err (fault.Memory, store)) leaves faults = tt
+  fault_unflushed script first (Err (fault.Store, store)) leaves faults = tt

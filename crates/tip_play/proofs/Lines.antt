@@ -60,6 +60,11 @@ module _ {S : Type 0} (kept : Keeping S) (basis : Basis) where
         written = subst (Appends old new) (sym (ap (λ (p : Played). p.printed) same)) so.written;
       }
 
+  -- it comes to the stage that was reached before it
+  pub next_now : (stage : AStage S) (number : ℕ) (read line : List ℕ) (old new : Option (List ℕ)) (so : HasPlayed stage number read old new) (are : AreOfLine line) → (next_line stage number read line old new so are).now ≡ so.now
+  unfolding next_line
+  next_now stage number read line old new so are = refl
+
   -- what the code did of it is what its text does
   does_next : (stage : AStage S) (number : ℕ) (read line : List ℕ) (old mid new : Option (List ℕ)) (result : Result (AStage S) PlayFault) (so : IsNext stage number read line old mid) → ((now : Stage) → IsStage kept basis stage now → Acts kept basis number (acted basis now line) mid new result) → Acts kept basis number (acted basis so.now (unended (read ++ line))) mid new result
   does_next stage number read line old mid new result so acts = subst (λ l. Acts kept basis number (acted basis so.now l) mid new result) (sym so.left) (acts so.now so.stands)

@@ -1,7 +1,7 @@
 -- What is seen of boxes that one function alone makes: all of them hold branches of one type.
-use Rattle.std.proofs.Common.{◌≡◌, ◌<◌, ◌≤◌, ◌+◌, ◌⊎◌, ◌∙◌, ◌++◌, ◌∷◌, [], ℕ, Global, List, ap, get_or, inl, inr, length, map, refl, sym, take}
+use Rattle.std.proofs.Common.{◌≡◌, ◌<◌, ◌≤◌, ◌+◌, ◌⊎◌, ◌∙◌, ◌++◌, ◌∷◌, [], ℕ, Global, List, ap, get_or, inl, inr, length, length-append, map, refl, sym, take}
 use Rattle.std.specs.Prelude.{Err, Ok, OnOk, Result, false, is_err}
-use Rattle.std.proofs.lemmas.List.{map-append, take_all, take_more}
+use Rattle.std.proofs.lemmas.List.{length-map, map-append, take_all, take_more}
 use Rattle.std.proofs.lemmas.List.Elements.{All-cons, All-nil}
 use Rattle.std.specs.declared.dyn_box.DynBox.{DynBox}
 use Rattle.tip_actor.specs.Acting.{boxes_of}
@@ -73,3 +73,7 @@ one_made kinds place old new few so more =
 
 pub all_made : (kinds : List ℕ) (count : ℕ) (made : List Standing) → length kinds ≤ count → made ≡ map fresh_of (plans_of (take count kinds)) → made ≡ map fresh_of (plans_of kinds)
 all_made kinds count made past so = so ∙ ap (λ l. map fresh_of (plans_of l)) (take_all count kinds past)
+
+-- one more was made
+pub one_longer : {X Y : Type 0} (f : X → Y) (old new : List X) (y : Y) → map f new ≡ map f old ++ y ∷ [] → length new ≡ length old + 1
+one_longer f old new y is = sym (length-map new f) ∙ ap length is ∙ length-append (map f old) (y ∷ []) ∙ ap (λ n. n + 1) (length-map old f)

@@ -1,6 +1,6 @@
 -- What is written of one line.
 use Rattle.tip_rows.specs.Logs.{Keeping}
-use Rattle.std.specs.Prelude.{◌≡◌, ◌≢◌, ℕ, Bool, true, false, List, Option, None, Some, Result, Ok, Err}
+use Rattle.std.specs.Prelude.{◌≡◌, ◌≢◌, ℕ, Bool, true, false, List, Option, None, Some, Result, Ok, Err, if◌then◌else◌}
 use Rattle.std.specs.Io.KnownBytes.{Appends}
 use Rattle.tip_scene.specs.Acts.{Acted, Basis, Stage}
 use Rattle.tip_scene.specs.Stages.{AStage, IsStage, store_of}
@@ -9,6 +9,7 @@ use Rattle.script_lines.specs.declared.line.LineEnd.TheVariants.{TooLong}
 use Rattle.script_lines.specs.declared.line.LineFault.TheVariants as line_fault
 use Rattle.tip_script.specs.Scripts.{move_of}
 use Rattle.tip_scene.specs.Stages.{AreWanted}
+use Rattle.tip_scene.specs.Wanting.{wanted_at_start, wanted_by}
 use Rattle.tip_writing.specs.Fronts.{IsFrontOf}
 use Rattle.tip_play.specs.declared.player.Coming.{Coming}
 use Rattle.tip_play.specs.declared.fault.PlayFault.{PlayFault}
@@ -50,3 +51,7 @@ HasCome left left' number over line (Err fault.Read) = (over ≡ false) × Reads
 HasCome left left' number over line (Err fault.Write) = ⊥
 HasCome left left' number over line (Err fault.Memory) = Unit {0}
 HasCome left left' number over line (Err fault.Store) = Unit {0}
+
+-- and how many willing boxes it wants
+abbrev pub wanted_next : Basis → Stage → Bool → List ℕ → ℕ
+wanted_next basis now is_over line = if is_over then wanted_at_start basis now else wanted_by basis now (move_of line)

@@ -1,19 +1,20 @@
 //! Playing a script.
-ghost use Rattle.std.specs.Prelude.{◌≡◌, ◌≢◌, ℕ, List, true, false, Some, map, IfErr, IfOk, IfSome, IsErrOf, OnOk};
+ghost use Rattle.std.specs.Prelude.{◌≡◌, ◌≢◌, ◌≤◌, ℕ, List, true, false, Some, length, map, IfErr, IfOk, IfSome, IsErrOf, OnOk};
 ghost use Rattle.script_lines.specs.declared.line.LineEnd.TheVariants.{EndOfInput, TooLong};
 ghost use Rattle.tip_branch.specs.Lots.{AreIn};
 ghost use Rattle.tip_branch.specs.declared.branch.Phase.TheVariants.{Active};
 ghost use Rattle.tip_script.specs.Scripts.{move_of};
 ghost use Rattle.tip_scene.specs.Acts.{Basis, Stage as AStage, acted, closing_of, is_covered};
-ghost use Rattle.tip_scene.specs.Blaming.{Blames, HadTooFew, HasRefused, IsBlamed, starting_from};
+ghost use Rattle.tip_scene.specs.Blaming.{Blames, HasRefused, IsBlamed, starting_from};
 ghost use Rattle.tip_scene.specs.Boxes.{AreWilling};
-ghost use Rattle.tip_scene.specs.Leaving.{IsLeft, LeavesOthers, names_in, scene_behind};
+ghost use Rattle.tip_scene.specs.Leaving.{LeavesOthers, names_in, scene_behind};
 ghost use Rattle.tip_rows.specs.Logs.{Log};
 ghost use Rattle.tip_scene.specs.Stages.{ComeWith, IsBasis, IsSound, IsStage, Trusts, has_started, store_of};
+ghost use Rattle.tip_scene.specs.Wanting.{wanted_at_start, wanted_by};
 ghost use Rattle.tip_play.specs.Endings.{ended, unflushed};
-ghost use Rattle.tip_play.specs.Leaving.{Leaves, LeavesAtFault, LeavesAtLine};
+ghost use Rattle.tip_play.specs.Leaving.{Leaves, LeavesAtEnd, LeavesAtFault, LeavesAtLine};
 ghost use Rattle.tip_play.specs.Transcripts.{Transcribes, TranscribesOn, covers_all, in_memory};
-ghost use Rattle.tip_play.specs.Writing.{ActsOn, ClosesOn, HasCome};
+ghost use Rattle.tip_play.specs.Writing.{ActsOn, ClosesOn, HasCome, wanted_next};
 
 use crate::fault::PlayFault;
 use script_lines::{LineEnd, ScriptLine};
@@ -81,8 +82,7 @@ pub fn play_on<S: RowLog + Drop, R: BufRead, W: Write>(
     ensures blames { (basis : Basis) → basis.may_refuse ≡ false →
         IsBasis S.keeping basis store → (script : List ℕ) →
         R.remaining input.old ≡ Some script → covers_all basis script ≡ true →
-        Blames S.keeping PlayFault.Store (IsBlamed S.keeping basis store)
-        (HadTooFew S.keeping basis) result }
+        Blames S.keeping PlayFault.Store (IsBlamed S.keeping basis store) result }
 {
     play_over(alloc, store, &ByItself, input, output)
 }
@@ -113,8 +113,7 @@ fn play_over<S: RowLog + Drop, F: Refuser<S>, R: BufRead, W: Write>(
     ensures blames { F.may ≡ false → (basis : Basis) → basis.may_refuse ≡ F.may →
         IsBasis S.keeping basis store → (script : List ℕ) →
         R.remaining input.old ≡ Some script → covers_all basis script ≡ true →
-        Blames S.keeping PlayFault.Store (IsBlamed S.keeping basis store)
-        (HadTooFew S.keeping basis) result }
+        Blames S.keeping PlayFault.Store (IsBlamed S.keeping basis store) result }
 {
     let end = play_lines(alloc, store, refuser, input, output);
     match output.flush() {
@@ -159,8 +158,7 @@ fn play_lines<S: RowLog + Drop, F: Refuser<S>, R: BufRead, W: Write>(
     ensures blames { F.may ≡ false → (basis : Basis) → basis.may_refuse ≡ F.may →
         IsBasis S.keeping basis store → (script : List ℕ) →
         R.remaining input.old ≡ Some script → covers_all basis script ≡ true →
-        Blames S.keeping PlayFault.Store (IsBlamed S.keeping basis store)
-        (HadTooFew S.keeping basis) result }
+        Blames S.keeping PlayFault.Store (IsBlamed S.keeping basis store) result }
 {
     let Ok(mut line) = ScriptLine::new(alloc) else {
         return Err((PlayFault::Memory, store));
@@ -256,6 +254,10 @@ fn next<S: RowLog + Drop, R: BufRead>(
         IsStage S.keeping basis stage.old now → IsErrOf result PlayFault.Store →
         S.keeping.is_true (store_of stage.new) →
         HasRefused S.keeping (store_of stage.old) (store_of stage.new) }
+    ensures wanted { (basis : Basis) (now : AStage) →
+        IsStage S.keeping basis stage.old now →
+        IfOk result (λ coming. S.keeping.is_true (store_of stage.new) → coming.wanted.willing
+        ≡ wanted_next basis now is_over line.new.octets.items) }
 {
     if is_over {
         let willing = stage.wanted_at_start()?;
@@ -324,13 +326,16 @@ fn act<S: RowLog + Drop, F: Refuser<S>, W: Write>(
         LeavesOthers S.keeping stage next) }
     ensures faults { (basis : Basis) (now : AStage) → basis.may_refuse ≡ F.may →
         IsStage S.keeping basis stage now →
-        LeavesAtLine S.keeping (scene_behind basis now (move_of line.now)) (store_of stage)
-        result }
+        ComeWith (move_of line.now) (map standing boxes.items) →
+        is_covered basis (move_of line.now) ≡ true →
+        LeavesAtLine S.keeping basis (scene_behind basis now (move_of line.now))
+        (acted basis now line.now) stage result }
     ensures counts { F.may ≡ false → IfOk result (λ now. S.keeping.faults (store_of now)
         ≡ S.keeping.faults (store_of stage)) }
     ensures blames { F.may ≡ false → (basis : Basis) (now : AStage) →
-        IsStage S.keeping basis stage now → Blames S.keeping PlayFault.Store
-        (IsBlamed S.keeping basis (store_of stage)) (HadTooFew S.keeping basis) result }
+        IsStage S.keeping basis stage now →
+        wanted_by basis now (move_of line.now) ≤ length pool.old.items →
+        Blames S.keeping PlayFault.Store (IsBlamed S.keeping basis (store_of stage)) result }
 {
     printed.clear();
     match stage.act(alloc, refuser, line, boxes, pool, printed) {
@@ -364,13 +369,12 @@ fn finish<S: RowLog + Drop, W: Write>(
         ClosesOn S.keeping (closing_of basis now)
         (W.contents output.old) (W.contents output.new) result }
     ensures leaves { (basis : Basis) (now : AStage) → IsStage S.keeping basis stage now →
-        IfOk result (λ store. S.keeping.is_true store →
-        IsLeft S.keeping (starting_from basis now) (store_of stage) store) }
+        LeavesAtEnd S.keeping (starting_from basis now) (store_of stage) result }
     ensures started { has_started stage ≡ true →
         IfErr result (λ fault. fault.0 ≡ PlayFault.Write) }
     ensures blames { (basis : Basis) (now : AStage) → IsStage S.keeping basis stage now →
-        Blames S.keeping PlayFault.Store (IsBlamed S.keeping basis (store_of stage))
-        (HadTooFew S.keeping basis) result }
+        wanted_at_start basis now ≤ length pool.old.items →
+        Blames S.keeping PlayFault.Store (IsBlamed S.keeping basis (store_of stage)) result }
 {
     printed.clear();
     match stage.finish(alloc, pool, printed) {

@@ -1,5 +1,5 @@
 -- Why the store is blamed where a script ends.
-use Rattle.std.proofs.Common.{◌≡◌, ◌≢◌, ◌+◌, ◌<◌, ◌⊎◌, ◌==◌, ◌∷◌, ℕ, zero, suc, Bool, true, false, List, [], length, map, option_map, Option, Some, None, arith, inl, inr, refl, sym, ap, ◌∙◌, subst}
+use Rattle.std.proofs.Common.{◌≡◌, ◌≢◌, ◌+◌, ◌<◌, ◌≤◌, ◌⊎◌, ◌==◌, ◌∷◌, ℕ, zero, suc, Bool, true, false, List, [], length, map, option_map, Option, Some, None, arith, inl, inr, refl, sym, ap, ◌∙◌, subst}
 use Rattle.std.specs.Prelude.{◌%◌, ◌^◌, Err, IfErr, IfOk, IsErrOf, Ok, OnOk, Result, slice_get}
 use Rattle.std.specs.Cmp.{unsigned_Decides}
 use Rattle.std.proofs.lemmas.Bool.{and_from, false≢true}
@@ -28,8 +28,8 @@ use Rattle.tip_actor.specs.Standing.{Actor, StoredCore}
 use Rattle.tip_core.specs.Hosted.{realm}
 use Rattle.tip_machine.specs.States.{State, started}
 use Rattle.tip_scene.proofs.Again.{after, boxes_of_recovery, boxes_of_rows, boxes_unadopted, mapped_at, same_lists, unmapped_at}
-use Rattle.tip_scene.specs.Acts.{Basis, Declaring, Playing, Stage, scene_of}
-use Rattle.tip_scene.specs.Blaming.{Accuses, AreUnread, Blames, CannotStart, HadTooFew, HasNoRenewal, HasRefused, IsAtFault, IsBlamed, IsNotRenewed, judged, specs_in, starting_from}
+use Rattle.tip_scene.specs.Acts.{Basis, Declaring, Playing, Stage}
+use Rattle.tip_scene.specs.Blaming.{Accuses, AreUnread, Blames, CannotStart, HasRefused, IsAtFault, IsBlamed, IsNotRenewed, judged, specs_in}
 use Rattle.tip_scene.specs.Boxes.{box_count, boxes_for, branch_count, row_count}
 use Rattle.tip_scene.specs.Faults.{of_act_fault}
 use Rattle.tip_scene.specs.Rising.{AreWaiting, IsWilling}
@@ -143,11 +143,6 @@ module _ {S : Type 0} (kept : Keeping S) (old new : S) where
   not_renewed acting recovery renew.NotRaised willing runs counts reason store = inl (refuses kept old new counts)
   not_renewed acting recovery renew.Memory willing runs counts reason store = absurd (memory_is_not store)
 
--- a renewal that was refused, or what it was to start by is not what is stored
-pub orelse : {S : Type 0} (kept : Keeping S) (boxes : ℕ) (old new : S) (acting : Acting) → HasRefused kept old new ⊎ IsNotRenewed kept old new acting → HasRefused kept old new ⊎ HasNoRenewal kept boxes old new acting
-orelse kept boxes old new acting (inl since) = inl since
-orelse kept boxes old new acting (inr unfit) = inr (inl unfit)
-
 pub renews_since : {S : Type 0} (kept : Keeping S) (old mid new : S) (acting : Acting) → kept.faults mid ≡ kept.faults old → ((log : Log) → kept.stands old log → kept.stands mid log) → HasRefused kept mid new ⊎ IsNotRenewed kept mid new acting → HasRefused kept old new ⊎ IsNotRenewed kept old new acting
 renews_since kept old mid new acting same stood (inl since) = inl (refused_since kept old mid new same since)
 renews_since kept old mid new acting same stood (inr unfit) = inr (unfit.0, λ log was truth. unfit.1 log (stood log was) truth)
@@ -193,15 +188,15 @@ module _ {S : Type 0} (kept : Keeping S) where
   pub specs_again : (stored_core : StoredCore S) (actors : List Actor) (scene : Scene) (specs : List RealmSpec) → IsScene kept stored_core actors scene → ((place : ℕ) → slice_get specs place ≡ option_map (λ (state : State). Loading.spec_of state.head) (realm stored_core.core place)) → specs ≡ specs_in (Playing scene)
   specs_again stored_core actors scene specs is specs_are = same_lists specs (specs_in (Playing scene)) (λ place. specs_are place ∙ spec_at stored_core actors scene is place (slice_get scene place) refl)
 
-  pub start_blamed : (boxes : ℕ) (old new : S) (now : Stage) (specs : List RealmSpec) → specs ≡ specs_in now → (fault : LoadFault) → kept.faults new ≡ counted (is_refusal_to_load fault) (kept.faults old) → ((log : Log) → kept.stands old log → kept.is_true new → IsReason specs log fault) → of_load_fault fault ≡ act.Store → IsAtFault kept boxes old now new
-  start_blamed boxes old new now specs is fault counts reason store = told (not_loaded kept old new (specs_in now) fault counts (λ log stood sure. subst (λ l. IsReason l log fault) is (reason log stood sure)) store) where
-    told : HasRefused kept old new ⊎ ((why : LoadFault) × ((log : Log) → kept.stands old log → kept.is_true new → CannotStart (specs_in now) log why)) → IsAtFault kept boxes old now new
+  pub start_blamed : (old new : S) (now : Stage) (specs : List RealmSpec) → specs ≡ specs_in now → (fault : LoadFault) → kept.faults new ≡ counted (is_refusal_to_load fault) (kept.faults old) → ((log : Log) → kept.stands old log → kept.is_true new → IsReason specs log fault) → of_load_fault fault ≡ act.Store → IsAtFault kept old now new
+  start_blamed old new now specs is fault counts reason store = told (not_loaded kept old new (specs_in now) fault counts (λ log stood sure. subst (λ l. IsReason l log fault) is (reason log stood sure)) store) where
+    told : HasRefused kept old new ⊎ ((why : LoadFault) × ((log : Log) → kept.stands old log → kept.is_true new → CannotStart (specs_in now) log why)) → IsAtFault kept old now new
     told (inl since) = inl since
     told (inr why) = inr (inl why)
 
-pub renew_blamed : {S : Type 0} (kept : Keeping S) (boxes : ℕ) (old new : S) (scene : Scene) (place : ℕ) (acting : Acting) → slice_get scene place ≡ Some acting → HasRefused kept old new ⊎ HasNoRenewal kept boxes old new acting → IsAtFault kept boxes old (Playing scene) new
-renew_blamed kept boxes old new scene place acting here (inl since) = inl since
-renew_blamed kept boxes old new scene place acting here (inr unfit) = inr (inr (place, acting, here, unfit))
+pub renew_blamed : {S : Type 0} (kept : Keeping S) (old new : S) (scene : Scene) (place : ℕ) (acting : Acting) → slice_get scene place ≡ Some acting → HasRefused kept old new ⊎ IsNotRenewed kept old new acting → IsAtFault kept old (Playing scene) new
+renew_blamed kept old new scene place acting here (inl since) = inl since
+renew_blamed kept old new scene place acting here (inr unfit) = inr (inr (place, acting, here, unfit))
 
 -- who declares a realm asks no store
 pub never_asked : (more : Option (List Declaration)) (now : List Declaration) (result : Result (Unit {0}) LineFault) (why : LineFault) → Declares more now result → result ≡ Err why → why ≡ line.Store → ⊥
@@ -216,23 +211,16 @@ act_known act.Memory is = absurd cc
 act_known act.Store is = absurd cc
 
 -- a restart keeps the rows
-pub boxes_again : (scene : Scene) → box_count (map after scene) ≡ box_count scene
+pub boxes_again : (scene : Scene) → box_count None (map after scene) ≡ box_count None scene
 boxes_again [] = refl
 boxes_again (acting ∷ scene) = ap (λ n. boxes_for acting.world.rows + n) (boxes_again scene)
 
 -- What a stage blames
 
-either : {A B C D : Type 0} → (A → C) → (B → D) → A ⊎ B → C ⊎ D
-either one other (inl a) = inl (one a)
-either one other (inr b) = inr (other b)
-
 module _ {S : Type 0} (kept : Keeping S) where
-  pub blames_on : {E : Type 0} (blame : E) (why because : S → Type 0) (few fewer : Type 0) (fault : E × S) → ((new : S) → why new → because new) → (few → fewer) → Accuses kept blame why few fault → Accuses kept blame because fewer fault
-  blames_on blame why because few fewer fault weaker lacking is = λ same truth. either (weaker fault.1) lacking (is same truth)
-
   -- as it is told of a line
-  pub told_on : (why because : S → Type 0) (few fewer : Type 0) (fault : ActFault) (store : S) (told : LineFault) → told ≡ of_act_fault fault → ((new : S) → why new → because new) → (few → fewer) → Accuses kept act.Store why few (fault, store) → Accuses kept line.Store because fewer (told, store)
-  told_on why because few fewer fault store told is weaker lacking accuses = λ bad truth. either (weaker store) lacking (accuses (act_store fault (sym is ∙ bad)) truth)
+  pub told_on : (why because : S → Type 0) (fault : ActFault) (store : S) (told : LineFault) → told ≡ of_act_fault fault → ((new : S) → why new → because new) → Accuses kept act.Store why (fault, store) → Accuses kept line.Store because (told, store)
+  told_on why because fault store told is weaker accuses = λ bad truth. weaker store (accuses (act_store fault (sym is ∙ bad)) truth)
 
   -- REALMS THAT RISE, whose store is the one from which they were read
   module _ {T : Type 0} (store : T → S) (mid : S) where
@@ -244,30 +232,28 @@ module _ {S : Type 0} (kept : Keeping S) where
     risen_so P (Ok x) same all = λ truth. all (subst kept.is_true same truth)
     risen_so P (Err fault) same all = tt
 
-    pub risen_blamed : (why : S → Type 0) (few : Type 0) (result : Result T (ActFault × S)) → IfErr result (λ fault. fault.1 ≡ mid) → (kept.is_true mid → IfErr result (λ fault. fault.0 ≡ act.Store → few)) → Blames kept act.Store why few result
-    risen_blamed why few (Ok x) back lacks = tt
-    risen_blamed why few (Err fault) back lacks = λ bad truth. inr (lacks (subst kept.is_true back truth) bad)
+    -- and that had enough boxes
+    pub risen_blamed : (why : S → Type 0) (boxes wanted : ℕ) (result : Result T (ActFault × S)) → wanted ≤ boxes → IfErr result (λ fault. fault.1 ≡ mid) → (kept.is_true mid → IfErr result (λ fault. fault.0 ≡ act.Store → boxes < wanted)) → Blames kept act.Store why result
+    risen_blamed why boxes wanted (Ok x) enough back few = tt
+    risen_blamed why boxes wanted (Err fault) enough back few = λ bad truth. (let lacks = few (subst kept.is_true back truth) bad in absurd (omega (arith, enough, lacks)))
 
-  pub at_fault : (basis : Basis) (stage : AStage S) (now : Stage) (boxes : ℕ) (old new : S) → IsStage kept basis stage now → kept.faults (store_of stage) ≡ kept.faults old → IsAtFault kept boxes (store_of stage) now new → IsBlamed kept basis old new
-  at_fault basis stage now boxes old new is same (inl since) = inl (refused_since kept old (store_of stage) new same since)
-  at_fault basis stage now boxes old new is same (inr unfit) = inr (record { stage = stage; now = now; stands = is; boxes = boxes; unfit = unfit })
+  pub at_fault : (basis : Basis) (stage : AStage S) (now : Stage) (old new : S) → IsStage kept basis stage now → kept.faults (store_of stage) ≡ kept.faults old → IsAtFault kept (store_of stage) now new → IsBlamed kept basis old new
+  at_fault basis stage now old new is same (inl since) = inl (refused_since kept old (store_of stage) new same since)
+  at_fault basis stage now old new is same (inr unfit) = inr (record { stage = stage; now = now; stands = is; unfit = unfit })
 
-  pub too_few : (basis : Basis) (stage : AStage S) (now : Stage) (boxes : ℕ) → IsStage kept basis stage now → boxes < box_count (starting_from basis now) → HadTooFew kept basis
-  too_few basis stage now boxes is few = record { stage = stage; now = now; stands = is; boxes = boxes; few = few }
+  pub play_accused_at : {E : Type 0} (blame : E) (basis : Basis) (playing : APlaying S) (scene : Scene) (old : S) (fault : E × S) → (kept.is_true fault.1 → kept.is_true playing.stored_core.store) → kept.faults playing.stored_core.store ≡ kept.faults old → (kept.is_true playing.stored_core.store → IsScene kept playing.stored_core playing.actors.items scene) →
+      (kept.is_true playing.stored_core.store → IsScene kept playing.stored_core playing.actors.items scene → Accuses kept blame (IsAtFault kept playing.stored_core.store (Playing scene)) fault) → Accuses kept blame (IsBlamed kept basis old) fault
+  play_accused_at blame basis playing scene old fault trusts same is accuses = λ bad truth. (let sure = trusts truth in at_fault basis (stage.Playing playing) (Playing scene) old fault.1 (is sure) same (accuses sure (is sure) bad truth))
 
-  pub play_accused_at : {E : Type 0} (blame : E) (basis : Basis) (playing : APlaying S) (scene : Scene) (old : S) (boxes : ℕ) (fault : E × S) → (kept.is_true fault.1 → kept.is_true playing.stored_core.store) → kept.faults playing.stored_core.store ≡ kept.faults old → (kept.is_true playing.stored_core.store → IsScene kept playing.stored_core playing.actors.items scene) →
-      (IsScene kept playing.stored_core playing.actors.items scene → Accuses kept blame (IsAtFault kept boxes playing.stored_core.store (Playing scene)) (boxes < box_count scene) fault) → Accuses kept blame (IsBlamed kept basis old) (HadTooFew kept basis) fault
-  play_accused_at blame basis playing scene old boxes fault trusts same is accuses = λ bad truth. (let stands = is (trusts truth) in either (at_fault basis (stage.Playing playing) (Playing scene) boxes old fault.1 stands same) (too_few basis (stage.Playing playing) (Playing scene) boxes stands) (accuses stands bad truth))
+  pub play_accused : {E : Type 0} (blame : E) (basis : Basis) (playing : APlaying S) (now : Stage) (Enough : Stage → Type 0) (fault : E × S) → IsStage kept basis (stage.Playing playing) now → Enough now →
+      ((scene : Scene) → IsScene kept playing.stored_core playing.actors.items scene → Enough (Playing scene) → Accuses kept blame (IsAtFault kept playing.stored_core.store (Playing scene)) fault) → Accuses kept blame (IsBlamed kept basis playing.stored_core.store) fault
+  play_accused blame basis playing (Declaring declarations) Enough fault is enough accuses = absurd is
+  play_accused blame basis playing (Playing scene) Enough fault is enough accuses = λ bad truth. at_fault basis (stage.Playing playing) (Playing scene) playing.stored_core.store fault.1 is refl (accuses scene is enough bad truth)
 
-  pub play_accused : {E : Type 0} (blame : E) (basis : Basis) (playing : APlaying S) (now : Stage) (boxes : ℕ) (fault : E × S) → IsStage kept basis (stage.Playing playing) now →
-      ((scene : Scene) → IsScene kept playing.stored_core playing.actors.items scene → Accuses kept blame (IsAtFault kept boxes playing.stored_core.store (Playing scene)) (boxes < box_count scene) fault) → Accuses kept blame (IsBlamed kept basis playing.stored_core.store) (HadTooFew kept basis) fault
-  play_accused blame basis playing (Declaring declarations) boxes fault is accuses = absurd is
-  play_accused blame basis playing (Playing scene) boxes fault is accuses = blames_on blame (IsAtFault kept boxes playing.stored_core.store (Playing scene)) (IsBlamed kept basis playing.stored_core.store) (boxes < box_count scene) (HadTooFew kept basis) fault (λ new. at_fault basis (stage.Playing playing) (Playing scene) boxes playing.stored_core.store new is refl) (too_few basis (stage.Playing playing) (Playing scene) boxes is) (accuses scene is)
-
-  pub start_accused : {E : Type 0} (blame : E) (basis : Basis) (realms : Declared S) (now : Stage) (boxes : ℕ) (fault : E × S) → IsStage kept basis (stage.Declaring realms) now →
-      ((declarations : List Declaration) → IsDeclared kept basis realms declarations → Accuses kept blame (IsAtFault kept boxes realms.store (Declaring declarations)) (boxes < box_count (scene_of basis declarations)) fault) → Accuses kept blame (IsBlamed kept basis realms.store) (HadTooFew kept basis) fault
-  start_accused blame basis realms (Declaring declarations) boxes fault is accuses = blames_on blame (IsAtFault kept boxes realms.store (Declaring declarations)) (IsBlamed kept basis realms.store) (boxes < box_count (scene_of basis declarations)) (HadTooFew kept basis) fault (λ new. at_fault basis (stage.Declaring realms) (Declaring declarations) boxes realms.store new is refl) (too_few basis (stage.Declaring realms) (Declaring declarations) boxes is) (accuses declarations is)
-  start_accused blame basis realms (Playing scene) boxes fault is accuses = absurd is
+  pub start_accused : {E : Type 0} (blame : E) (basis : Basis) (realms : Declared S) (now : Stage) (Enough : Stage → Type 0) (fault : E × S) → IsStage kept basis (stage.Declaring realms) now → Enough now →
+      ((declarations : List Declaration) → IsDeclared kept basis realms declarations → Enough (Declaring declarations) → Accuses kept blame (IsAtFault kept realms.store (Declaring declarations)) fault) → Accuses kept blame (IsBlamed kept basis realms.store) fault
+  start_accused blame basis realms (Declaring declarations) Enough fault is enough accuses = λ bad truth. at_fault basis (stage.Declaring realms) (Declaring declarations) realms.store fault.1 is refl (accuses declarations is enough bad truth)
+  start_accused blame basis realms (Playing scene) Enough fault is enough accuses = absurd is
 
   pub of_declared : {X : Type 0} (basis : Basis) (realms : Declared S) (now : Stage) → IsStage kept basis (stage.Declaring realms) now → ((declarations : List Declaration) → IsDeclared kept basis realms declarations → X) → X
   of_declared basis realms (Declaring declarations) is all = all declarations is
@@ -308,7 +294,7 @@ counts_all name found rows is = ap row_count is ∙ counts_unadopted name rows
 abbrev AreTheirRows : List Recovery → Scene → Type 0
 AreTheirRows realms scene = (place : ℕ) (acting : Acting) → slice_get scene place ≡ Some acting → (recovery : Recovery) × (slice_get realms place ≡ Some recovery) × (recovery.rows ≡ map (unadopted acting.name) acting.world.rows)
 
-pub all_fit : (realms : List Recovery) (scene : Scene) → AreTheirRows realms scene → ((place : ℕ) → slice_get scene place ≡ None → slice_get realms place ≡ None) → (branch_count realms ≡ box_count scene) × (are_for_each (map boxes_of_recovery realms) realms ≡ true)
+pub all_fit : (realms : List Recovery) (scene : Scene) → AreTheirRows realms scene → ((place : ℕ) → slice_get scene place ≡ None → slice_get realms place ≡ None) → (branch_count realms ≡ box_count None scene) × (are_for_each (map boxes_of_recovery realms) realms ≡ true)
 all_fit [] [] rows none = (refl, refl)
 all_fit [] (acting ∷ scene) rows none = absurd (none-some (rows 0 acting refl).0 (rows 0 acting refl).1)
 all_fit (recovery ∷ realms) [] rows none = absurd (none-some recovery (sym (none 0 refl)))
@@ -328,5 +314,5 @@ module _ {S : Type 0} (kept : Keeping S) (recovering : Recovering S) (scene : Sc
     by None has = refl
     by (Some recovery) has = absurd (none-some (started (starting has.0)) has.1)
 
-  pub waiting_fit : (branch_count recovering.realms ≡ box_count scene) × (are_for_each (map boxes_of_recovery recovering.realms) recovering.realms ≡ true)
+  pub waiting_fit : (branch_count recovering.realms ≡ box_count None scene) × (are_for_each (map boxes_of_recovery recovering.realms) recovering.realms ≡ true)
   waiting_fit = all_fit recovering.realms scene (λ place acting here. (let is = waiting.each place acting here in (is.recovery, is.there, is.rows))) beyond_all

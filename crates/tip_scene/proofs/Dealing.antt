@@ -1,5 +1,5 @@
 -- Willing boxes, which are dealt one by one.
-use Rattle.std.proofs.Common.{◌≡◌, ◌<◌, ◌+◌, ◌++◌, ◌∷◌, ◌∙◌, [], ℕ, zero, suc, List, arith, drop, get_or, length, map, refl, sym, ap, subst}
+use Rattle.std.proofs.Common.{◌≡◌, ◌++◌, ◌∷◌, ◌∙◌, [], List, length, map, refl, sym, ap, subst}
 use Rattle.std.proofs.lemmas.List.Elements.{All-cons, All-nil}
 use Rattle.std.proofs.lemmas.List.{map_push}
 use Rattle.tip_branch.specs.Lots.{AreIn, badges_of}
@@ -8,9 +8,7 @@ use Rattle.tip_branch.specs.declared.branch.Phase.TheVariants.{Ready}
 use Rattle.tip_branch.specs.declared.branch.Plan.TheVariants.{Yes}
 use Rattle.tip_branch.specs.declared.branch.Standing.{Standing}
 use Rattle.tip_actor.specs.Acting.{willing}
-use Rattle.tip_recovery.specs.Adopting.{Recovery, Unfinished}
-use Rattle.tip_rows.specs.Rows.{branches_of}
-use Rattle.tip_scene.specs.Boxes.{AreWilling, branch_count, row_count, willing_branch}
+use Rattle.tip_scene.specs.Boxes.{AreWilling, willing_branch}
 
 pub are_ready : (boxes : List Standing) → AreWilling boxes → AreIn Ready boxes
 are_ready [] are = All-nil (λ (s : Standing). s.phase ≡ Ready)
@@ -34,19 +32,3 @@ pub deals : {X : Type 0} (seen : X → Standing) (pool left dealt more : List X)
 deals seen pool left dealt more box was now pooled given =
     let parts = split (map seen left) (seen box) (subst AreWilling (ap (map seen) was ∙ map_push seen left box) pooled) in
     (parts.0, subst AreWilling (sym (ap (map seen) now ∙ map_push seen dealt box)) (join (map seen dealt) (seen box) given parts.1))
-
--- the branches of the rows from one on are its own and those of the rows behind it
-pub one_row : (rows : List Unfinished) (place : ℕ) (row : Unfinished) → place < length rows → row ≡ get_or rows place row → row_count (drop place rows) ≡ length (branches_of row.row) + row_count (drop (place + 1) rows)
-one_row [] place row few is = absurd (omega (arith, few))
-one_row (r ∷ rows) zero row few is = ap (λ (x : Unfinished). length (branches_of x.row) + row_count rows) (sym is)
-one_row (r ∷ rows) (suc place) row few is =
-    let more : suc place + 1 ≡ suc (place + 1) = omega arith in
-    one_row rows place row (omega (arith, few)) is ∙ ap (λ n. length (branches_of row.row) + row_count (drop n (r ∷ rows))) (sym more)
-
--- and so are those of the realms
-pub one_realm : (realms : List Recovery) (place : ℕ) (recovery : Recovery) → place < length realms → recovery ≡ get_or realms place recovery → branch_count (drop place realms) ≡ row_count recovery.rows + branch_count (drop (place + 1) realms)
-one_realm [] place recovery few is = absurd (omega (arith, few))
-one_realm (r ∷ realms) zero recovery few is = ap (λ (x : Recovery). row_count x.rows + branch_count realms) (sym is)
-one_realm (r ∷ realms) (suc place) recovery few is =
-    let more : suc place + 1 ≡ suc (place + 1) = omega arith in
-    one_realm realms place recovery (omega (arith, few)) is ∙ ap (λ n. row_count recovery.rows + branch_count (drop n (r ∷ realms))) (sym more)

@@ -14,3 +14,4 @@ pub mod Blaming
 pub mod Leaving
 pub mod Staging
 pub mod Dialling
+pub mod Wanting

@@ -4,7 +4,9 @@ use Rattle.std.specs.Cmp.{unsigned_Decides}
 use Rattle.std.specs.List.{position_or_len}
 use Rattle.std.specs.Prelude.{slice_get}
 use Rattle.std.proofs.lemmas.Bool.{false≢true}
+use Rattle.std.proofs.lemmas.List.Folds.{find_at}
 use Rattle.std.proofs.lemmas.Option.{none-some, same_Some}
+use Rattle.tip_line.proofs.Texts.{find_passes}
 
 -- none of so many passes
 abbrev pub NonePasses : {X : Type 0} → (X → Bool) → List X → ℕ → Type 0
@@ -31,3 +33,7 @@ pub none_passes : {X : Type 0} (p : X → Bool) (xs : List X) (count : ℕ) → 
 none_passes p [] count all none = refl
 none_passes p (y ∷ xs) zero all none = absurd (omega (arith, all))
 none_passes p (y ∷ xs) (suc count) all none = rw (none 0 y refl (omega arith)) (let more = none_passes p xs count (omega (arith, all)) (λ k z at few. none (suc k) z at (omega (arith, few))) in omega (arith, more))
+
+-- the item there passes
+pub passes_at : {X : Type 0} (p : X → Bool) (xs : List X) (place : ℕ) (x : X) → place ≡ position_or_len p xs → slice_get xs place ≡ Some x → p x ≡ true
+passes_at p xs place x is here = find_passes p xs x (find_at p xs ∙ ap (slice_get xs) (sym is) ∙ here)

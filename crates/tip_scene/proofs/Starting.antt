@@ -14,7 +14,7 @@ use Rattle.tip_scene.specs.Rising.{AreWaiting, IsWaiting}
 use Rattle.tip_scene.specs.Stages.{IsBasis, spec_of}
 use Rattle.tip_scene.specs.declared.declared.Declaration.{Declaration}
 
-declaration_at : (basis : Basis) (declarations : List Declaration) (place : ℕ) (acting : Acting) → slice_get (scene_of basis declarations) place ≡ Some acting → (declaration : Declaration) × (slice_get (map spec_of declarations) place ≡ Some (spec_of declaration)) × (acting ≡ acting_of basis declaration)
+pub declaration_at : (basis : Basis) (declarations : List Declaration) (place : ℕ) (acting : Acting) → slice_get (scene_of basis declarations) place ≡ Some acting → (declaration : Declaration) × (slice_get (map spec_of declarations) place ≡ Some (spec_of declaration)) × (acting ≡ acting_of basis declaration)
 declaration_at basis [] place acting here = absurd (none-some acting here)
 declaration_at basis (d ∷ declarations) zero acting here = (d, refl, sym (same_Some (acting_of basis d) acting here))
 declaration_at basis (d ∷ declarations) (suc place) acting here = declaration_at basis declarations place acting here
@@ -24,7 +24,7 @@ none_declared basis [] place none = refl
 none_declared basis (d ∷ declarations) zero none = absurd (none-some (acting_of basis d) (sym none))
 none_declared basis (d ∷ declarations) (suc place) none = none_declared basis declarations place none
 
-named_covered : (basis : Basis) (declarations : List Declaration) (place : ℕ) (declaration : Declaration) → slice_get (map spec_of declarations) place ≡ Some (spec_of declaration) → are_covered basis declarations ≡ true → basis.covers declaration.name ≡ true
+pub named_covered : (basis : Basis) (declarations : List Declaration) (place : ℕ) (declaration : Declaration) → slice_get (map spec_of declarations) place ≡ Some (spec_of declaration) → are_covered basis declarations ≡ true → basis.covers declaration.name ≡ true
 named_covered basis [] place declaration here all = absurd (none-some (spec_of declaration) here)
 named_covered basis (d ∷ declarations) zero declaration here all = subst (λ (s : RealmSpec). basis.covers s.name ≡ true) (same_Some (spec_of d) (spec_of declaration) here) (both (basis.covers d.name) (are_covered basis declarations) all).0
 named_covered basis (d ∷ declarations) (suc place) declaration here all = named_covered basis declarations place declaration here (both (basis.covers d.name) (are_covered basis declarations) all).1

@@ -1,5 +1,5 @@
 -- Why a script ends by its store.
-use Rattle.std.specs.Prelude.{◌≡◌, ◌≢◌, ◌⊎◌, ◌<◌, ℕ, Bool, true, false, List, [], map, Some, Result, Ok, Err, slice_get}
+use Rattle.std.specs.Prelude.{◌≡◌, ◌≢◌, ◌⊎◌, ℕ, Bool, true, false, List, [], map, Some, Result, Ok, Err, slice_get}
 use Rattle.tip_rows.specs.Logs.{Keeping, Log, IsSpoiled}
 use Rattle.tip_recovery.specs.Adopting.{Recovery}
 use Rattle.tip_stored.specs.Loading as Loading
@@ -12,7 +12,6 @@ use Rattle.tip_stored.specs.declared.renewing.RenewFault.{RenewFault}
 use Rattle.tip_stored.specs.declared.renewing.RenewFault.TheVariants as renew
 use Rattle.tip_actor.specs.Acting.{Acting}
 use Rattle.tip_scene.specs.Acts.{Stage, Declaring, Playing, Basis, scene_of}
-use Rattle.tip_scene.specs.Boxes.{box_count, boxes_for}
 use Rattle.tip_scene.specs.Rising.{IsWilling}
 use Rattle.tip_scene.specs.Scenes.{Scene}
 use Rattle.tip_scene.specs.declared.fault.LineFault.{LineFault}
@@ -73,16 +72,12 @@ HasNoStart kept old new now = (fault : LoadFault) × ((log : Log) → kept.stand
 abbrev pub IsNotRenewed : {S : Type 0} → Keeping S → S → S → Acting → Type 0
 IsNotRenewed kept old new acting = (fault : RenewFault) × ((log : Log) → kept.stands old log → kept.is_true new → CannotRenew acting log fault)
 
--- or of these boxes there are too few for its rows
-abbrev pub HasNoRenewal : {S : Type 0} → Keeping S → ℕ → S → S → Acting → Type 0
-HasNoRenewal kept boxes old new acting = IsNotRenewed kept old new acting ⊎ (boxes < boxes_for acting.world.rows)
-
-abbrev pub IsUnfit : {S : Type 0} → Keeping S → ℕ → S → Stage → S → Type 0
-IsUnfit kept boxes old now new = HasNoStart kept old new now ⊎ ((place : ℕ) × (acting : Acting) × (slice_get (scene_in now) place ≡ Some acting) × HasNoRenewal kept boxes old new acting)
+abbrev pub IsUnfit : {S : Type 0} → Keeping S → S → Stage → S → Type 0
+IsUnfit kept old now new = HasNoStart kept old new now ⊎ ((place : ℕ) × (acting : Acting) × (slice_get (scene_in now) place ≡ Some acting) × IsNotRenewed kept old new acting)
 
 -- a call of a stage was refused, or what it was to start can't
-abbrev pub IsAtFault : {S : Type 0} → Keeping S → ℕ → S → Stage → S → Type 0
-IsAtFault kept boxes old now new = HasRefused kept old new ⊎ IsUnfit kept boxes old now new
+abbrev pub IsAtFault : {S : Type 0} → Keeping S → S → Stage → S → Type 0
+IsAtFault kept old now new = HasRefused kept old new ⊎ IsUnfit kept old now new
 
 -- On the way
 
@@ -91,30 +86,21 @@ pub record WasUnfit {S : Type 0} (kept : Keeping S) (basis : Basis) (new : S) : 
   pub stage : AStage S
   pub now : Stage
   pub stands : IsStage kept basis stage now
-  pub boxes : ℕ
-  pub unfit : IsUnfit kept boxes (store_of stage) now new
+  pub unfit : IsUnfit kept (store_of stage) now new
 
 -- the realms of a stage as they start
 abbrev pub starting_from : Basis → Stage → Scene
 starting_from basis (Declaring declarations) = scene_of basis declarations
 starting_from basis (Playing scene) = scene
 
--- and of these boxes there were too few for their rows
-pub record HadTooFew {S : Type 0} (kept : Keeping S) (basis : Basis) : Type 0 where
-  pub stage : AStage S
-  pub now : Stage
-  pub stands : IsStage kept basis stage now
-  pub boxes : ℕ
-  pub few : boxes < box_count (starting_from basis now)
-
 -- WHY THE STORE IS BLAMED: it has refused a call since, or realms could not start
 abbrev pub IsBlamed : {S : Type 0} → Keeping S → Basis → S → S → Type 0
 IsBlamed kept basis old new = HasRefused kept old new ⊎ WasUnfit kept basis new
 
--- it is so where a fault blames it, or there were too few boxes
-abbrev pub Accuses : {S E : Type 0} → Keeping S → E → (S → Type 0) → Type 0 → E × S → Type 0
-Accuses kept blame why few fault = fault.0 ≡ blame → kept.is_true fault.1 → why fault.1 ⊎ few
+-- it is so where a fault blames it
+abbrev pub Accuses : {S E : Type 0} → Keeping S → E → (S → Type 0) → E × S → Type 0
+Accuses kept blame why fault = fault.0 ≡ blame → kept.is_true fault.1 → why fault.1
 
-abbrev pub Blames : {S T E : Type 0} → Keeping S → E → (S → Type 0) → Type 0 → Result T (E × S) → Type 0
-Blames kept blame why few (Ok x) = Unit {0}
-Blames kept blame why few (Err fault) = Accuses kept blame why few fault
+abbrev pub Blames : {S T E : Type 0} → Keeping S → E → (S → Type 0) → Result T (E × S) → Type 0
+Blames kept blame why (Ok x) = Unit {0}
+Blames kept blame why (Err fault) = Accuses kept blame why fault

@@ -8,3 +8,4 @@ pub mod Rising
 pub mod Stages
 pub mod Blaming
 pub mod Leaving
+pub mod Wanting

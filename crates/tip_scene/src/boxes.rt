@@ -1,11 +1,11 @@
 //! The boxes that come with a line.
-ghost use Rattle.std.specs.Prelude.{◌≡◌, ◌+◌, ◌++◌, ◌∷◌, [], ◌<◌, length, map, IfOk, IsErrOf, OnOk};
+ghost use Rattle.std.specs.Prelude.{◌≡◌, ◌+◌, ◌++◌, ◌∷◌, [], ◌<◌, length, map, IfOk, IfSome, IsErrOf, OnOk};
 ghost use Rattle.tip_actor.specs.Acting.{willing, willing_boxes};
 ghost use Rattle.tip_actor.specs.declared.fault.ActFault.TheVariants.{Store};
 ghost use Rattle.tip_branch.specs.Lots.{AreIn, badges_of};
 ghost use Rattle.tip_branch.specs.Members.{untold};
 ghost use Rattle.tip_branch.specs.declared.branch.Phase.TheVariants.{Active};
-ghost use Rattle.tip_scene.specs.Boxes.{AreWilling, branch_count, row_count};
+ghost use Rattle.tip_scene.specs.Boxes.{AreWilling, boxes_for, branch_count, row_count};
 
 use std::alloc::{AllocError, Global};
 use tip_actor::ActFault;
@@ -22,7 +22,9 @@ pub struct Wanted {
 
 impl Wanted {
     /// So many willing boxes alone.
-    pub fn of_rows(alloc: Global, willing: usize) -> Wanted {
+    pub fn of_rows(alloc: Global, willing: usize) -> Wanted
+        ensures { result.willing ≡ willing }
+    {
         Wanted {
             kinds: Vec::new(alloc),
             willing,
@@ -31,7 +33,8 @@ impl Wanted {
 
     /// Boxes of these letters, and so many willing ones.
     pub(crate) fn new(alloc: Global, letters: &[u8], willing: usize) -> Result<Wanted, AllocError>
-        ensures { IfOk result (λ wanted. wanted.kinds.items ≡ letters.now) }
+        ensures kinds { IfOk result (λ wanted. wanted.kinds.items ≡ letters.now) }
+        ensures willing { IfOk result (λ wanted. wanted.willing ≡ willing) }
     {
         let mut kinds = Vec::new(alloc);
         kinds.extend_from_slice(letters)?;
@@ -55,13 +58,15 @@ pub fn add_box(
     Ok(())
 }
 
-/// How many branches rows have, as far as that can be counted.
-pub(crate) fn count_branches(rows: &[(Key, Row)]) -> usize {
-    let mut count: usize = 0;
+/// So many, and one for each branch of these rows; none where they are more than there can be boxes in memory.
+pub(crate) fn add_branches(count: usize, rows: &[(Key, Row)]) -> Option<usize>
+    ensures { IfSome result (λ sum. sum ≡ count + boxes_for rows.now) }
+{
+    let mut sum = count;
     for (_, row) in rows {
-        count = count.saturating_add(branches_of(row).len());
+        sum = sum.checked_add(branches_of(row).len())?;
     }
-    count
+    Some(sum)
 }
 
 /// Boxes that no transaction has yet.
@@ -91,6 +96,8 @@ pub(crate) fn dealt_to_all(
     ensures dealt { IfOk result (λ all. map (λ lots. lots.items) all.items
         ≡ map (λ recovery. map (λ row. willing_boxes row.row) recovery.rows) realms.now) }
     ensures few { IsErrOf result Store → length pool.old.items < branch_count realms.now }
+    ensures left { OnOk result (length pool.new.items + branch_count realms.now
+        ≡ length pool.old.items) }
     ensures willing { OnOk result (AreWilling (map standing pool.new.items)) }
 {
     let mut all = Vec::with_capacity(alloc, realms.len())?;

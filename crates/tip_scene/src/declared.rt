@@ -1,5 +1,5 @@
 //! The realms of a script, before they start.
-ghost use Rattle.std.specs.Prelude.{◌≡◌, ◌≤◌, ◌<◌, ◌++◌, ◌&&◌, true, false, ℕ, List, [], None, Some, length, map, IfOk, OnErr, OnOk, IsErrOf, string_bytes};
+ghost use Rattle.std.specs.Prelude.{◌≡◌, ◌≤◌, ◌+◌, ◌++◌, ◌&&◌, true, false, ℕ, List, [], None, Some, length, map, option_map, IfOk, OnErr, OnOk, IsErrOf, string_bytes};
 ghost use Rattle.std.specs.List.{list_all, position_or_len};
 ghost use Rattle.tip_branch.specs.Always.{Always};
 ghost use Rattle.tip_line.specs.Fields.{fields_of};
@@ -134,9 +134,15 @@ impl<S: RowLog + Drop> Declared<S, Core> {
         ensures counts { IfOk result (λ playing. S.keeping.faults playing.stored_core.store
             ≡ S.keeping.faults self.store) }
         ensures blames { (basis : Basis) (declarations : List Declaration) →
-            IsDeclared S.keeping basis self declarations → Blames S.keeping ActFault.Store
-            (IsAtFault S.keeping (length pool.old.items) self.store (Begins declarations))
-            (length pool.old.items < box_count (scene_of basis declarations)) result }
+            IsDeclared S.keeping basis self declarations →
+            box_count None (scene_of basis declarations) ≤ length pool.old.items →
+            Blames S.keeping ActFault.Store
+            (IsAtFault S.keeping self.store (Begins declarations)) result }
+        ensures left { (basis : Basis) (declarations : List Declaration) →
+            IsDeclared S.keeping basis self declarations →
+            IfOk result (λ playing. S.keeping.is_true playing.stored_core.store →
+            length pool.new.items + box_count None (scene_of basis declarations)
+            ≡ length pool.old.items) }
         ensures text { (basis : Basis) (declarations : List Declaration) →
             IsDeclared S.keeping basis self declarations →
             IfOk result (λ playing. S.keeping.is_true playing.stored_core.store →
@@ -178,6 +184,10 @@ impl<S: RowLog + Drop> Declared<S, Core> {
             IsDeclared S.keeping basis self.old declarations → IsErrOf result ActFault.Store →
             S.keeping.is_true self.new.store →
             HasRefused S.keeping self.old.store self.new.store }
+        ensures wanted { (basis : Basis) (declarations : List Declaration) →
+            IsDeclared S.keeping basis self.old declarations →
+            IfOk result (λ count. S.keeping.is_true self.new.store → count
+            ≡ box_count (option_map (λ name. name.now) only.entry) (scene_of basis declarations)) }
     {
         count_declared(&mut self.store, &self.declarations, only)
     }

@@ -1,5 +1,5 @@
 //! The realms of a script at work.
-ghost use Rattle.std.specs.Prelude.{◌≡◌, ◌<◌, ◌==◌, Some, None, true, false, length, map, IfErr, IfOk, IsErrOf, OnOk, string_bytes};
+ghost use Rattle.std.specs.Prelude.{◌≡◌, ◌≤◌, ◌==◌, Some, None, true, false, length, map, option_map, IfErr, IfOk, IsErrOf, OnOk, string_bytes};
 ghost use Rattle.std.specs.List.{position_or_len};
 ghost use Rattle.tip_branch.specs.Always.{Always};
 ghost use Rattle.tip_actor.specs.Acting.{Acting, boxes_of, count_of, takes};
@@ -16,6 +16,7 @@ ghost use Rattle.tip_rows.specs.Logs.{Log};
 ghost use Rattle.tip_scene.specs.Scenes.{Scene, does, elsewhere, moved, moved_in};
 ghost use Rattle.tip_scene.specs.Standing.{has_name, IsScene};
 ghost use Rattle.tip_scene.specs.Stages.{ComeWith, Moves, Prints, Serves, Trusts};
+ghost use Rattle.tip_scene.specs.Wanting.{wanted_again};
 
 use crate::boxes::fresh;
 use crate::counting::count_acting;
@@ -74,9 +75,9 @@ impl<S: RowLog + Drop> Playing<StoredCore<S>, Actor> {
             ≡ S.keeping.faults self.stored_core.store) }
         ensures blames { R.may ≡ false → (scene : Scene) →
             IsScene S.keeping self.stored_core self.actors.items scene →
-            Blames S.keeping LineFault.Store (IsAtFault S.keeping (length pool.old.items)
-            self.stored_core.store (AtWork scene)) (length pool.old.items < box_count scene)
-            result }
+            wanted_again (move_by instruction.entry) scene ≤ length pool.old.items →
+            Blames S.keeping LineFault.Store
+            (IsAtFault S.keeping self.stored_core.store (AtWork scene)) result }
         ensures stays { IfErr result (λ fault. fault.0 ≡ LineFault.NotUnderstood →
             fault.1 ≡ self.stored_core.store) }
     {
@@ -124,8 +125,9 @@ impl<S: RowLog + Drop> Playing<StoredCore<S>, Actor> {
             ≡ S.keeping.faults self.old.stored_core.store) }
         ensures blames { R.may ≡ false → (scene : Scene) → IsScene S.keeping
             self.old.stored_core self.old.actors.items scene →
+            wanted_again (move_by instruction.entry) scene ≤ length pool.old.items →
             S.keeping.is_true self.new.stored_core.store → IsErrOf result LineFault.Store →
-            IsAtFault S.keeping (length pool.old.items) self.old.stored_core.store (AtWork scene)
+            IsAtFault S.keeping self.old.stored_core.store (AtWork scene)
             self.new.stored_core.store }
         ensures stays { IsErrOf result LineFault.NotUnderstood →
             self.new.stored_core.store ≡ self.old.stored_core.store }
@@ -165,8 +167,9 @@ impl<S: RowLog + Drop> Playing<StoredCore<S>, Actor> {
             ≡ S.keeping.faults self.old.stored_core.store) }
         ensures blames { R.may ≡ false → (scene : Scene) → IsScene S.keeping
             self.old.stored_core self.old.actors.items scene →
+            box_count (Some name.now) scene ≤ length pool.old.items →
             S.keeping.is_true self.new.stored_core.store → IsErrOf result LineFault.Store →
-            IsAtFault S.keeping (length pool.old.items) self.old.stored_core.store (AtWork scene)
+            IsAtFault S.keeping self.old.stored_core.store (AtWork scene)
             self.new.stored_core.store }
         ensures understood { IsErrOf result LineFault.NotUnderstood → ⊥ }
     {
@@ -296,6 +299,10 @@ impl<S: RowLog + Drop> Playing<StoredCore<S>, Actor> {
             self.old.stored_core self.old.actors.items scene → IsErrOf result ActFault.Store →
             S.keeping.is_true self.new.stored_core.store →
             HasRefused S.keeping self.old.stored_core.store self.new.stored_core.store }
+        ensures wanted { (scene : Scene) → IsScene S.keeping
+            self.old.stored_core self.old.actors.items scene →
+            IfOk result (λ count. S.keeping.is_true self.new.stored_core.store →
+            count ≡ box_count (option_map (λ name. name.now) only.entry) scene) }
         ensures running { self.new.stored_core.is_stopped ≡ self.old.stored_core.is_stopped }
         ensures truth { S.keeping.is_true self.new.stored_core.store →
             S.keeping.is_true self.old.stored_core.store }

@@ -1,5 +1,5 @@
 //! One realm of a script starts again while the others run.
-ghost use Rattle.std.specs.Prelude.{◌≡◌, ◌⊎◌, ◌+◌, ◌++◌, false, Some, length, IsErrOf, OnOk, map, string_bytes};
+ghost use Rattle.std.specs.Prelude.{◌≡◌, ◌≤◌, ◌⊎◌, ◌+◌, ◌++◌, false, Some, length, IsErrOf, OnOk, map, string_bytes};
 ghost use Rattle.std.specs.List.{flat_map};
 ghost use Rattle.tip_actor.specs.Acting.{Acting, renewed, renews};
 ghost use Rattle.tip_actor.specs.Standing.{Acts, IsActing, IsDone};
@@ -10,8 +10,8 @@ ghost use Rattle.tip_machine.specs.States.{State};
 ghost use Rattle.tip_rows.specs.Rows.{branches_of};
 ghost use Rattle.tip_transcript.specs.Printing.{adopted_text, shown_text, start_text};
 ghost use Rattle.tip_actor.specs.declared.fault.ActFault.TheVariants.{Store};
-ghost use Rattle.tip_scene.specs.Blaming.{HasNoRenewal, HasRefused, IsNotRenewed};
-ghost use Rattle.tip_scene.specs.Boxes.{AreWilling};
+ghost use Rattle.tip_scene.specs.Blaming.{HasRefused, IsNotRenewed};
+ghost use Rattle.tip_scene.specs.Boxes.{AreWilling, boxes_for};
 ghost use Rattle.tip_scene.specs.Rising.{IsWilling};
 
 use crate::boxes::dealt_to_rows;
@@ -45,10 +45,10 @@ pub(crate) fn renew<S: RowLog + Drop>(
         (string_bytes printed.old) (string_bytes printed.new) renews) }
     ensures blames { (acting : Acting) →
         IsActing S.keeping stored_core.old place actor.old acting →
+        boxes_for acting.world.rows ≤ length pool.old.items →
         stored_core.old.is_stopped ≡ false → S.keeping.is_true stored_core.new.store →
         IsErrOf result Store → HasRefused S.keeping stored_core.old.store stored_core.new.store
-        ⊎ HasNoRenewal S.keeping (length pool.old.items) stored_core.old.store
-        stored_core.new.store acting }
+        ⊎ IsNotRenewed S.keeping stored_core.old.store stored_core.new.store acting }
 {
     let Some(epoch) = next_epoch(stored_core.core.heads(), place) else {
         print_refusal(printed, actor.name.as_str(), Refusal::EpochEnd)?;

@@ -1,5 +1,5 @@
 //! The process of a script starts again.
-ghost use Rattle.std.specs.Prelude.{◌≡◌, ◌<◌, ◌++◌, ◌==◌, ℕ, false, length, map, IfErr, IfOk, OnOk, option_map, slice_get, string_bytes};
+ghost use Rattle.std.specs.Prelude.{◌≡◌, ◌<◌, ◌≤◌, ◌++◌, ◌==◌, ℕ, None, false, length, map, IfErr, IfOk, OnOk, option_map, slice_get, string_bytes};
 ghost use Rattle.std.specs.List.{flat_map, list_any};
 ghost use Rattle.tip_actor.specs.Acting.{is_at_end, restarts};
 ghost use Rattle.tip_core.specs.Hosted.{realm as realm_at};
@@ -45,9 +45,8 @@ pub(crate) fn restart<S: RowLog + Drop>(
         ≡ S.keeping.faults playing.stored_core.store) }
     ensures blames { (scene : Scene) →
         IsScene S.keeping playing.stored_core playing.actors.items scene →
-        Blames S.keeping LineFault.Store (IsAtFault S.keeping (length pool.old.items)
-        playing.stored_core.store (AtWork scene)) (length pool.old.items < box_count scene)
-        result }
+        box_count None scene ≤ length pool.old.items → Blames S.keeping LineFault.Store
+        (IsAtFault S.keeping playing.stored_core.store (AtWork scene)) result }
     ensures moves { (scene : Scene) →
         IsScene S.keeping playing.stored_core playing.actors.items scene →
         Moves S.keeping (string_bytes printed.old)
@@ -104,7 +103,8 @@ fn rise_again<S: RowLog + Drop>(
     requires { AreWilling (map standing pool.old.items) }
     ensures running { IfOk result (λ playing. playing.stored_core.is_stopped ≡ false) }
     ensures few { (scene : Scene) → AreWaiting S.keeping recovering scene →
-        IfErr result (λ fault. fault.0 ≡ ActFault.Store → length pool.old.items < box_count scene) }
+        IfErr result (λ fault. fault.0 ≡ ActFault.Store →
+        length pool.old.items < box_count None scene) }
     ensures store { IfOk result (λ playing. playing.stored_core.store ≡ recovering.store) }
     ensures back { IfErr result (λ fault. fault.1 ≡ recovering.store) }
     ensures text { (scene : Scene) → AreAgain actors.items scene →

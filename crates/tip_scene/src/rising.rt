@@ -1,5 +1,5 @@
 //! Realms that have started, and are put to work.
-ghost use Rattle.std.specs.Prelude.{◌≡◌, ◌<◌, ◌++◌, ℕ, [], false, true, length, map, IfErr, IfOk, OnOk, string_bytes};
+ghost use Rattle.std.specs.Prelude.{◌≡◌, ◌<◌, ◌+◌, ◌++◌, ℕ, [], None, false, true, length, map, IfErr, IfOk, OnOk, string_bytes};
 ghost use Rattle.std.specs.List.{flat_map};
 ghost use Rattle.tip_machine.specs.Answers.{identifier};
 ghost use Rattle.tip_rows.specs.Rows.{branches_of};
@@ -34,7 +34,9 @@ pub(crate) fn rise<S: RowLog + Drop>(
     ensures willing { OnOk result (AreWilling (map standing pool.new.items)) }
     ensures running { IfOk result (λ playing. playing.stored_core.is_stopped ≡ false) }
     ensures few { (scene : Scene) → AreWaiting S.keeping recovering scene →
-        IfErr result (λ fault. fault.0 ≡ Store → length pool.old.items < box_count scene) }
+        IfErr result (λ fault. fault.0 ≡ Store → length pool.old.items < box_count None scene) }
+    ensures left { (scene : Scene) → AreWaiting S.keeping recovering scene →
+        OnOk result (length pool.new.items + box_count None scene ≡ length pool.old.items) }
     ensures store { IfOk result (λ playing. playing.stored_core.store ≡ recovering.store) }
     ensures back { IfErr result (λ fault. fault.1 ≡ recovering.store) }
     ensures text { (scene : Scene) → AreNew actors.items scene →

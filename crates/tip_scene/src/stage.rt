@@ -1,5 +1,5 @@
 //! A script as far as it was played.
-ghost use Rattle.std.specs.Prelude.{◌≡◌, ◌++◌, [], List, Some, map, IfOk, IsErrOf, IsOk, OnOk, true, false, string_bytes};
+ghost use Rattle.std.specs.Prelude.{◌≡◌, ◌≤◌, ◌++◌, [], List, Some, length, map, option_map, IfOk, IsErrOf, IsOk, OnOk, true, false, string_bytes};
 ghost use Rattle.tip_branch.specs.Always.{Always};
 ghost use Rattle.tip_script.specs.Moves.{move_by};
 ghost use Rattle.tip_script.specs.Scripts.{move_of};
@@ -7,13 +7,14 @@ ghost use Rattle.tip_scene.specs.Acts.{Basis, Stage as AStage, Declaring as Begi
 ghost use Rattle.tip_branch.specs.Lots.{AreIn};
 ghost use Rattle.tip_branch.specs.declared.branch.Phase.TheVariants.{Active};
 ghost use Rattle.std.specs.List.{list_all};
-ghost use Rattle.tip_scene.specs.Blaming.{Blames, HadTooFew, HasRefused, IsBlamed, starting_from};
-ghost use Rattle.tip_scene.specs.Boxes.{AreWilling};
+ghost use Rattle.tip_scene.specs.Blaming.{Blames, HasRefused, IsBlamed, starting_from};
+ghost use Rattle.tip_scene.specs.Boxes.{AreWilling, box_count};
 ghost use Rattle.tip_scene.specs.Hosting.{may_be_hosted};
 ghost use Rattle.tip_rows.specs.Logs.{Log};
 ghost use Rattle.tip_scene.specs.Leaving.{IsLeft, LeavesAtFault, LeavesOthers, names_in, scene_at, scene_behind};
 ghost use Rattle.tip_scene.specs.declared.stage.Stage.TheVariants.{Declaring as AtFirst};
 ghost use Rattle.tip_scene.specs.Stages.{ActsSo, AreWanted, ComeWith, IsDeclared, IsBasis, IsSound, IsStage, Trusts, has_started, store_of};
+ghost use Rattle.tip_scene.specs.Wanting.{wanted_at_start, wanted_by};
 
 use crate::boxes::Wanted;
 use crate::declared::{Declaration, Declared};
@@ -77,8 +78,9 @@ impl<S: RowLog + Drop> Stage<Declared<S>, Playing<StoredCore<S>>> {
         ensures counts { R.may ≡ false → IfOk result (λ now. S.keeping.faults (store_of now)
             ≡ S.keeping.faults (store_of self)) }
         ensures blames { R.may ≡ false → (basis : Basis) (stage : AStage) →
-            IsStage S.keeping basis self stage → Blames S.keeping LineFault.Store
-            (IsBlamed S.keeping basis (store_of self)) (HadTooFew S.keeping basis) result }
+            IsStage S.keeping basis self stage →
+            wanted_by basis stage (move_of line.now) ≤ length pool.old.items →
+            Blames S.keeping LineFault.Store (IsBlamed S.keeping basis (store_of self)) result }
         ensures faults { (basis : Basis) (stage : AStage) → basis.may_refuse ≡ R.may →
             IsStage S.keeping basis self stage →
             LeavesAtFault S.keeping (scene_behind basis stage (move_of line.now)) (store_of self)
@@ -116,8 +118,9 @@ impl<S: RowLog + Drop> Stage<Declared<S>, Playing<StoredCore<S>>> {
             IfOk result (λ store. S.keeping.is_true store →
             IsLeft S.keeping (starting_from basis stage) (store_of self) store) }
         ensures blames { (basis : Basis) (stage : AStage) →
-            IsStage S.keeping basis self stage → Blames S.keeping ActFault.Store
-            (IsBlamed S.keeping basis (store_of self)) (HadTooFew S.keeping basis) result }
+            IsStage S.keeping basis self stage →
+            wanted_at_start basis stage ≤ length pool.old.items →
+            Blames S.keeping ActFault.Store (IsBlamed S.keeping basis (store_of self)) result }
     {
         match self {
             Stage::Declaring(declared) => {
@@ -157,6 +160,10 @@ impl<S: RowLog + Drop> Stage<Declared<S>, Playing<StoredCore<S>>> {
             IsStage S.keeping basis self.old stage → IsErrOf result ActFault.Store →
             S.keeping.is_true (store_of self.new) →
             HasRefused S.keeping (store_of self.old) (store_of self.new) }
+        ensures willing { (basis : Basis) (stage : AStage) →
+            IsStage S.keeping basis self.old stage →
+            IfOk result (λ wanted. S.keeping.is_true (store_of self.new) →
+            wanted.willing ≡ wanted_by basis stage (move_of line.now)) }
         ensures wanted { IfOk result (AreWanted (move_of line.now)) }
     {
         match Instruction::parse(line) {
@@ -186,6 +193,10 @@ impl<S: RowLog + Drop> Stage<Declared<S>, Playing<StoredCore<S>>> {
             IsStage S.keeping basis self.old stage → IsErrOf result ActFault.Store →
             S.keeping.is_true (store_of self.new) →
             HasRefused S.keeping (store_of self.old) (store_of self.new) }
+        ensures wanted { (basis : Basis) (stage : AStage) →
+            IsStage S.keeping basis self.old stage →
+            IfOk result (λ count. S.keeping.is_true (store_of self.new) →
+            count ≡ wanted_at_start basis stage) }
     {
         match self {
             Stage::Declaring(declared) => declared.willing(None),
@@ -211,6 +222,10 @@ impl<S: RowLog + Drop> Stage<Declared<S>, Playing<StoredCore<S>>> {
             IsStage S.keeping basis self.old stage → IsErrOf result ActFault.Store →
             S.keeping.is_true (store_of self.new) →
             HasRefused S.keeping (store_of self.old) (store_of self.new) }
+        ensures wanted { (basis : Basis) (stage : AStage) →
+            IsStage S.keeping basis self.old stage →
+            IfOk result (λ count. S.keeping.is_true (store_of self.new) →
+            count ≡ wanted_by basis stage (Some (move_by instruction.entry))) }
     {
         let again = match instruction {
             Instruction::Realm { .. } | Instruction::Labels { .. } => return Ok(0),
@@ -218,7 +233,8 @@ impl<S: RowLog + Drop> Stage<Declared<S>, Playing<StoredCore<S>>> {
             Instruction::Renew { realm } => self.rows(Some(realm))?,
             _ => 0,
         };
-        Ok(self.wanted_at_start()?.saturating_add(again))
+        let first = self.wanted_at_start()?;
+        first.checked_add(again).ok_or(ActFault::Memory)
     }
 
     /// How many branches the stored rows have, of one realm or of all.
@@ -238,6 +254,10 @@ impl<S: RowLog + Drop> Stage<Declared<S>, Playing<StoredCore<S>>> {
             IsStage S.keeping basis self.old stage → IsErrOf result ActFault.Store →
             S.keeping.is_true (store_of self.new) →
             HasRefused S.keeping (store_of self.old) (store_of self.new) }
+        ensures wanted { (basis : Basis) (stage : AStage) →
+            IsStage S.keeping basis self.old stage →
+            IfOk result (λ count. S.keeping.is_true (store_of self.new) → count
+            ≡ box_count (option_map (λ name. name.now) only.entry) (starting_from basis stage)) }
     {
         match self {
             Stage::Declaring(declared) => declared.willing(only),
@@ -276,8 +296,9 @@ impl<S: RowLog + Drop> Stage<Declared<S>, Playing<StoredCore<S>>> {
         ensures counts { R.may ≡ false → IfOk result (λ now. S.keeping.faults (store_of now)
             ≡ S.keeping.faults (store_of self)) }
         ensures blames { R.may ≡ false → (basis : Basis) (stage : AStage) →
-            IsStage S.keeping basis self stage → Blames S.keeping LineFault.Store
-            (IsBlamed S.keeping basis (store_of self)) (HadTooFew S.keeping basis) result }
+            IsStage S.keeping basis self stage →
+            wanted_by basis stage (Some (move_by instruction.entry)) ≤ length pool.old.items →
+            Blames S.keeping LineFault.Store (IsBlamed S.keeping basis (store_of self)) result }
         ensures faults { (basis : Basis) (stage : AStage) → IsStage S.keeping basis self stage →
             LeavesAtFault S.keeping (scene_at basis stage (move_by instruction.entry))
             (store_of self) result }
@@ -326,8 +347,10 @@ fn declare<S: RowLog + Drop, R: Refuser<S>>(
     ensures counts { R.may ≡ false → IfOk result (λ now. S.keeping.faults (store_of now)
         ≡ S.keeping.faults declared.store) }
     ensures blames { R.may ≡ false → (basis : Basis) (declarations : List Declaration) →
-        IsDeclared S.keeping basis declared declarations → Blames S.keeping LineFault.Store
-        (IsBlamed S.keeping basis declared.store) (HadTooFew S.keeping basis) result }
+        IsDeclared S.keeping basis declared declarations →
+        wanted_by basis (Begins declarations) (Some (move_by instruction.entry))
+        ≤ length pool.old.items →
+        Blames S.keeping LineFault.Store (IsBlamed S.keeping basis declared.store) result }
     ensures faults { (basis : Basis) (declarations : List Declaration) →
         IsDeclared S.keeping basis declared declarations →
         LeavesAtFault S.keeping (scene_at basis (Begins declarations) (move_by instruction.entry))

@@ -1,17 +1,19 @@
 -- Lines that are read and played, one after another.
-use Rattle.std.proofs.Common.{◌∙◌, ◌++◌, ◌∷◌, [], ap, arith, inl, map, refl, subst, sym, Err, Ok}
+use Rattle.std.proofs.Common.{◌≡◌, ◌+◌, ◌∙◌, ◌++◌, ◌∷◌, [], ap, arith, if◌then◌else◌, inl, length, map, refl, subst, sym, Err, Ok}
 use Rattle.std.proofs.lemmas.Result.{err_from_is_err_and}
+use Rattle.tip_scene.specs.Blaming.{starting_from}
 use Rattle.tip_scene.specs.Stages.{IsStage, store_of}
 use Rattle.script_lines.specs.Lines.{Reads}
 use Rattle.tip_actor.specs.Acting.{boxes_of}
 use Rattle.tip_branch.specs.Lots.{AreIn, badges_of}
 use Rattle.tip_branch.specs.declared.branch.Phase.TheVariants.{Active}
 use Rattle.tip_scene.specs.Boxes.{AreWilling, willing_branch}
+use Rattle.tip_scene.specs.Wanting.{wanted_at_start, wanted_by}
 use Rattle.tip_script.specs.Scripts.{move_of, plans_of}
 use Rattle.tip_play.specs.Transcripts.{IsFront, IsReadTo, Transcribes, in_memory}
 use Rattle.tip_scene.proofs.Dealing.{join}
-use Rattle.tip_play.proofs.Making.{all_alike, all_made, fresh_active, fresh_known, fresh_of, no_other, one_alike, one_made, read_of, when_ok}
-use Rattle.tip_play.proofs.Leaving.{fault_coming, fault_end, fault_line}
+use Rattle.tip_play.proofs.Making.{all_alike, all_made, fresh_active, fresh_known, fresh_of, no_other, one_alike, one_longer, one_made, read_of, when_ok}
+use Rattle.tip_play.proofs.Leaving.{at_end, fault_beyond, fault_coming, fault_end, fault_line}
 use Rattle.tip_play.proofs.Reading.{Goes, HasEnded, HasRead, IsCoveredBy, LeavesFrom, a_line, closes_on, ended_at, goes_front, goes_on, gone, grows_last, leaves_end, leaves_more, leaves_none, leaves_still, line_covered, line_fails, no_line, no_number, not_come, reads_none, relying, stands_so, still_going, trusts_back}
 use Rattle.tip_play.proofs.Blaming.{blames_back, blames_back_err, is_err_of, refused_here}
 use Rattle.tip_play.proofs.player.play_lines.Goals as goal
@@ -68,9 +70,11 @@ pub loop-preserved : goal.loop-preserved
 loop-preserved g c =
     let old = c.loop.pool.items in
     let pushed = when_ok c.add_box-in-loop.result (sym c.is_err-in-loop.ensures.value ∙ c.if-is_err-2.false) c.add_box-in-loop.ensures in
+    let more = one_alike _ (λ s. s.standing) no_other (λ box value. refl) old c.add_box-in-loop.new.boxes.items willing_branch pushed in
     record {
       same = refl;
-      made = subst AreWilling (sym (one_alike _ (λ s. s.standing) no_other (λ box value. refl) old c.add_box-in-loop.new.boxes.items willing_branch pushed)) (join (map (read_of (λ s. s.standing)) old) willing_branch c.loop.invariant.made refl);
+      counted = one_longer (read_of (λ s. s.standing)) old c.add_box-in-loop.new.boxes.items willing_branch more ∙ ap (λ n. n + 1) c.loop.invariant.counted;
+      made = subst AreWilling (sym more) (join (map (read_of (λ s. s.standing)) old) willing_branch c.loop.invariant.made refl);
     }
 
 pub returns-in_default-new-clause-transcribes : goal.returns-in_default-new-clause-transcribes
@@ -121,7 +125,7 @@ act-requires-clause-active g c =
     subst (AreIn Active) (sym (all_alike _ (λ s. s.standing) no_other (λ box value. refl) c.loop-kind.boxes.items ∙ all_made letters c.loop-kind.kind-index _ c.loop-kind-test.false c.loop-kind.invariant.made)) (fresh_active (plans_of letters))
 
 pub loop-init : goal.loop-init
-loop-init g c = record { same = refl; made = subst (λ l. AreWilling (map (read_of (λ s. s.standing)) l)) (sym c.new-pool.ensures.items) tt }
+loop-init g c = record { same = refl; counted = ap length c.new-pool.ensures.items; made = subst (λ l. AreWilling (map (read_of (λ s. s.standing)) l)) (sym c.new-pool.ensures.items) tt }
 
 pub returns-then-is_over-clause-truth : goal.returns-then-is_over-clause-truth
 returns-then-is_over-clause-truth g c =
@@ -220,7 +224,7 @@ returns-in-Err-clause-blames g c = λ asks basis may on script whole covers is t
     let kept = g.S.RowLog.keeping in
     let left = subst kept.is_true c.shut-in-Err.ensures truth in
     let now = stands_so kept basis c.loop-number.is_over c.loop-number.stage c.loop-number.number (g.R.Read.remaining c.args.input.now) (g.R.Read.remaining c.loop-number.input) (g.W.Write.contents c.args.output.now) (g.W.Write.contents c.loop-number.output) (c.loop-number.invariant.goes basis may on (script, whole, covers) (c.next.ensures.truth left)) in
-    inl (inl (refused_here kept c.args.store (store_of c.loop-number.stage) (store_of c.next.new.stage) _ (c.loop-number.invariant.counts asks) c.shut-in-Err.ensures (c.next.ensures.blames basis now.0 now.1 (is_err_of c.next.result c.in-Err.fault _ c.in-Err.is is) left)))
+    inl (refused_here kept c.args.store (store_of c.loop-number.stage) (store_of c.next.new.stage) _ (c.loop-number.invariant.counts asks) c.shut-in-Err.ensures (c.next.ensures.blames basis now.0 now.1 (is_err_of c.next.result c.in-Err.fault _ c.in-Err.is is) left))
 
 pub returns-then-is_over-clause-blames : goal.returns-then-is_over-clause-blames
 returns-then-is_over-clause-blames g c = λ asks basis may on script whole covers.
@@ -228,7 +232,10 @@ returns-then-is_over-clause-blames g c = λ asks basis may on script whole cover
     let same = c.loop.invariant.same ∙ c.loop-kind.invariant.same in
     blames_back kept basis c.args.store _ (λ store. store) c.finish.result c.finish.ensures.truth (ap (λ s. kept.faults (store_of s)) (sym same) ∙ c.in-Ok-next.ensures.counts ∙ c.loop-number.invariant.counts asks) (λ left.
     let now = stands_so kept basis c.loop-number.is_over c.loop-number.stage c.loop-number.number (g.R.Read.remaining c.args.input.now) (g.R.Read.remaining c.loop-number.input) (g.W.Write.contents c.args.output.now) (g.W.Write.contents c.loop-number.output) (c.loop-number.invariant.goes basis may on (script, whole, covers) (c.next.ensures.truth (subst (λ s. kept.is_true (store_of s)) same left))) in
-    c.finish.ensures.blames basis now.0 (subst (λ s. IsStage kept basis s now.0) (sym same) (c.next.ensures.stands basis now.0 now.1)))
+    let wanted : c.in-Ok-next.coming.wanted.willing ≡ wanted_at_start basis now.0 = c.in-Ok-next.ensures.wanted basis now.0 now.1 (subst (λ s. kept.is_true (store_of s)) same left) ∙ ap (λ b. if b then wanted_at_start basis now.0 else wanted_by basis now.0 (move_of c.next.new.line.octets.items)) c.if-is_over.true in
+    let made = c.loop-test.false in
+    let counted = c.loop.invariant.counted in
+    c.finish.ensures.blames basis now.0 (subst (λ s. IsStage kept basis s now.0) (sym same) (c.next.ensures.stands basis now.0 now.1)) (omega (arith, wanted, made, counted)))
 
 pub returns-in_err-stage-clause-blames : goal.returns-in_err-stage-clause-blames
 returns-in_err-stage-clause-blames g c = λ asks basis may on script whole covers.
@@ -237,7 +244,10 @@ returns-in_err-stage-clause-blames g c = λ asks basis may on script whole cover
     let same = c.loop.invariant.same ∙ c.loop-kind.invariant.same in
     rw (e.1, e.2) (blames_back_err kept basis c.args.store _ c.in_err-stage.field-0.0 c.in_err-stage.ensures.truth (ap (λ s. kept.faults (store_of s)) (sym same) ∙ c.in-Ok-next.ensures.counts ∙ c.loop-number.invariant.counts asks) (λ left.
     let now = stands_so kept basis c.loop-number.is_over c.loop-number.stage c.loop-number.number (g.R.Read.remaining c.args.input.now) (g.R.Read.remaining c.loop-number.input) (g.W.Write.contents c.args.output.now) (g.W.Write.contents c.loop-number.output) (c.loop-number.invariant.goes basis may on (script, whole, covers) (c.next.ensures.truth (subst (λ s. kept.is_true (store_of s)) same left))) in
-    c.in_err-stage.ensures.blames asks basis now.0 (subst (λ s. IsStage kept basis s now.0) (sym same) (c.next.ensures.stands basis now.0 now.1))))
+    let wanted : c.in-Ok-next.coming.wanted.willing ≡ wanted_by basis now.0 (move_of c.as_slice-text.result.now) = c.in-Ok-next.ensures.wanted basis now.0 now.1 (subst (λ s. kept.is_true (store_of s)) same left) ∙ ap (λ b. if b then wanted_at_start basis now.0 else wanted_by basis now.0 (move_of c.next.new.line.octets.items)) c.if-is_over.false ∙ ap (λ l. wanted_by basis now.0 (move_of l)) (sym c.as_slice-text.ensures) in
+    let made = c.loop-test.false in
+    let counted = c.loop.invariant.counted in
+    c.in_err-stage.ensures.blames asks basis now.0 (subst (λ s. IsStage kept basis s now.0) (sym same) (c.next.ensures.stands basis now.0 now.1)) (omega (arith, wanted, made, counted))))
 
 -- What is left of the store
 
@@ -253,7 +263,7 @@ returns-then-is_over-clause-leaves g c = λ basis may on script whole covers.
     let so = gone kept basis c.loop-number.is_over stage c.loop-number.number (g.R.Read.remaining c.args.input.now) (g.R.Read.remaining c.loop-number.input) (g.W.Write.contents c.args.output.now) (g.W.Write.contents c.loop-number.output) c.if-is_over.true (c.loop-number.invariant.goes basis may on (script, whole, covers) (c.next.ensures.truth (subst (λ s. kept.is_true (store_of s)) same left))) in
     (so.played.now, subst (λ s. IsStage kept basis s so.played.now) (sym same) (c.next.ensures.stands basis so.played.now so.played.stands), ended_at kept basis stage (g.R.Read.remaining c.args.input.now) (g.R.Read.remaining c.loop-number.input) (g.W.Write.contents c.args.output.now) (g.W.Write.contents c.loop-number.output) script whole so, (from.starts, from.others)))
     (grows_last kept basis _)
-    (c.finish.ensures.leaves basis)
+    (λ now is. at_end kept basis (starting_from basis now) _ c.finish.result (c.finish.ensures.leaves basis now is))
 
 -- What is left of it where a line may not stand in its script
 
@@ -275,13 +285,21 @@ returns-in-Err-clause-faults g c = λ basis may on script is covers.
 pub returns-then-is_over-clause-faults : goal.returns-then-is_over-clause-faults
 returns-then-is_over-clause-faults g c = λ basis may on script is covers.
     let kept = g.S.RowLog.keeping in
-    let known : IsCoveredBy basis (g.R.Read.remaining c.args.input.now) = (script, is, covers) in
+    let whole = g.R.Read.remaining c.args.input.now in
+    let left = g.R.Read.remaining c.loop-number.input in
+    let old = g.W.Write.contents c.args.output.now in
+    let mid = g.W.Write.contents c.loop-number.output in
+    let stage = c.loop-number.stage in
+    let known : IsCoveredBy basis whole = (script, is, covers) in
     let same = c.loop.invariant.same ∙ c.loop-kind.invariant.same in
-    fault_end kept basis script c.args.store _ (g.W.Write.contents c.loop-number.output) (g.W.Write.contents c.finish.new.output) c.finish.result c.finish.ensures.truth
-    (λ left.
-    let now = stands_so kept basis c.loop-number.is_over c.loop-number.stage c.loop-number.number (g.R.Read.remaining c.args.input.now) (g.R.Read.remaining c.loop-number.input) (g.W.Write.contents c.args.output.now) (g.W.Write.contents c.loop-number.output) (c.loop-number.invariant.goes basis may on known (c.next.ensures.truth (subst (λ s. kept.is_true (store_of s)) same left))) in
-    (now.0, subst (λ s. IsStage kept basis s now.0) (sym same) (c.next.ensures.stands basis now.0 now.1)))
+    fault_end kept basis script c.args.store _ mid (g.W.Write.contents c.finish.new.output) c.finish.result c.finish.ensures.truth
+    (λ there.
+    let at = c.next.ensures.truth (subst (λ s. kept.is_true (store_of s)) same there) in
+    let from = subst (LeavesFrom kept basis c.args.store) (sym same) (leaves_still kept basis c.args.store stage c.next.new.stage c.next.ensures.names c.next.ensures.stood (c.loop-number.invariant.rest basis may on known at)) in
+    let so = gone kept basis c.loop-number.is_over stage c.loop-number.number whole left old mid c.if-is_over.true (c.loop-number.invariant.goes basis may on known at) in
+    (so.played.now, subst (λ s. IsStage kept basis s so.played.now) (sym same) (c.next.ensures.stands basis so.played.now so.played.stands), ended_at kept basis stage whole left old mid script is so, (from.starts, from.others)))
     (c.finish.ensures.closes basis)
+    (c.finish.ensures.leaves basis)
 
 pub returns-in_err-stage-clause-faults : goal.returns-in_err-stage-clause-faults
 returns-in_err-stage-clause-faults g c = λ basis may on script is covers.
@@ -310,4 +328,19 @@ returns-in_err-stage-clause-faults g c = λ basis may on script is covers.
     (λ now there. subst (λ s. IsStage kept basis s now) (sym same) (c.next.ensures.stands basis now there))
     (λ so now there. c.in_err-stage.ensures.acts basis now may there (λ move said. ap badges_of (all_alike _ (λ s. s.standing) no_other (λ box value. refl) c.loop-kind.boxes.items ∙ all_made letters c.loop-kind.kind-index _ c.loop-kind-test.false c.loop-kind.invariant.made) ∙ fresh_known (plans_of letters) ∙ ap (λ l. boxes_of (plans_of l)) c.deref-kind-items.ensures.value ∙ ap boxes_of (come.2 move (ap move_of (sym c.as_slice-text.ensures) ∙ said)))
     (line_covered kept basis stage number whole left left' old mid text c.in-Ok-next.coming.end (going so) known come.1 reads) so)
-    (λ now there. c.in_err-stage.ensures.faults basis now may there))
+    (λ so now there. c.in_err-stage.ensures.faults basis now may there (λ move said. ap badges_of (all_alike _ (λ s. s.standing) no_other (λ box value. refl) c.loop-kind.boxes.items ∙ all_made letters c.loop-kind.kind-index _ c.loop-kind-test.false c.loop-kind.invariant.made) ∙ fresh_known (plans_of letters) ∙ ap (λ l. boxes_of (plans_of l)) c.deref-kind-items.ensures.value ∙ ap boxes_of (come.2 move (ap move_of (sym c.as_slice-text.ensures) ∙ said)))
+    (line_covered kept basis stage number whole left left' old mid text c.in-Ok-next.coming.end (going so) known come.1 reads)))
+
+-- there are no more numbers
+pub returns-then-is_beyond-clause-faults : goal.returns-then-is_beyond-clause-faults
+returns-then-is_beyond-clause-faults g c = λ basis may on script is covers.
+    let kept = g.S.RowLog.keeping in
+    let left = g.R.Read.remaining c.loop-number.input in
+    let old = g.W.Write.contents c.args.output.now in
+    let new = g.W.Write.contents c.loop-number.output in
+    let stage = c.loop-number.stage in
+    let known : IsCoveredBy basis (g.R.Read.remaining c.args.input.now) = (script, is, covers) in
+    let back = λ (so : kept.is_true c.shut.result). subst kept.is_true c.shut.ensures so in
+    fault_beyond kept basis c.loop-number.is_over stage c.loop-number.number script left old new c.args.store c.shut.result c.shut.ensures (c.is_beyond.ensures.yes c.if-is_beyond.true)
+    (λ so. subst (λ w. Goes kept basis c.loop-number.is_over stage c.loop-number.number w left old new) is (c.loop-number.invariant.goes basis may on known (back so)))
+    (λ so. c.loop-number.invariant.rest basis may on known (back so))

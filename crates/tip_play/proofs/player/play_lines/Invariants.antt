@@ -1,4 +1,4 @@
-use Rattle.std.proofs.Common.{◌≡◌, ◌≤◌, false, map, take}
+use Rattle.std.proofs.Common.{◌≡◌, ◌≤◌, false, length, map, take}
 use Rattle.tip_scene.specs.Acts.{Basis}
 use Rattle.tip_scene.specs.Boxes.{AreWilling}
 use Rattle.tip_scene.specs.Stages.{IsBasis, IsSound, store_of}
@@ -28,5 +28,6 @@ invariant-loop-kind g l = record {
 abbrev pub invariant-loop : goal.invariant-loop
 invariant-loop g l = record {
   same : l.stage ≡ l.initial.stage;
+  counted : length l.pool.items ≡ l.counter;
   made : AreWilling (map (read_of (λ s. s.standing)) l.pool.items);
 }

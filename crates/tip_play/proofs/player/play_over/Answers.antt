@@ -2,7 +2,7 @@
 use Rattle.std.proofs.Common.{◌≡◌, subst, sym, true}
 use Rattle.std.specs.Prelude.{IfOk, IfSome}
 use Rattle.tip_play.specs.Transcripts.{TranscribesOn, covers_all}
-use Rattle.tip_scene.specs.Blaming.{Blames, HadTooFew, IsBlamed}
+use Rattle.tip_scene.specs.Blaming.{Blames, IsBlamed}
 use Rattle.tip_play.specs.declared.fault.PlayFault.TheVariants.{Store}
 use Rattle.tip_play.proofs.Blaming.{blames_unflushed}
 use Rattle.tip_play.specs.Leaving.{Leaves, LeavesAtFault}
@@ -24,12 +24,12 @@ returns-in-Err-clause-transcribes g c = λ basis may on.
 
 pub returns-in-Err-clause-blames : goal.returns-in-Err-clause-blames
 returns-in-Err-clause-blames g c = λ asks basis may on script whole covers.
-    subst (Blames g.S.RowLog.keeping Store (IsBlamed g.S.RowLog.keeping basis c.args.store) (HadTooFew g.S.RowLog.keeping basis)) (sym c.unflushed.ensures)
-    (blames_unflushed g.S.RowLog.keeping basis (IsBlamed g.S.RowLog.keeping basis c.args.store) (HadTooFew g.S.RowLog.keeping basis) c.play_lines-end.result (c.play_lines-end.ensures.blames asks basis may on script whole covers))
+    subst (Blames g.S.RowLog.keeping Store (IsBlamed g.S.RowLog.keeping basis c.args.store)) (sym c.unflushed.ensures)
+    (blames_unflushed g.S.RowLog.keeping basis (IsBlamed g.S.RowLog.keeping basis c.args.store) c.play_lines-end.result (c.play_lines-end.ensures.blames asks basis may on script whole covers))
 
 pub returns-in-Err-clause-leaves : goal.returns-in-Err-clause-leaves
 returns-in-Err-clause-leaves g c = λ basis may on script whole covers.
     subst (λ r. IfOk r (λ left. g.S.RowLog.keeping.is_true left → Leaves g.S.RowLog.keeping basis script c.args.store left)) (sym c.unflushed.ensures) (never_unflushed (λ left. g.S.RowLog.keeping.is_true left → Leaves g.S.RowLog.keeping basis script c.args.store left) c.play_lines-end.result)
 
 pub returns-in-Err-clause-faults : goal.returns-in-Err-clause-faults
-returns-in-Err-clause-faults g c = λ basis may on script is covers. subst (LeavesAtFault g.S.RowLog.keeping basis script c.args.store) (sym c.unflushed.ensures) (fault_unflushed g.S.RowLog.keeping basis script c.args.store c.play_lines-end.result)
+returns-in-Err-clause-faults g c = λ basis may on script is covers. subst (LeavesAtFault g.S.RowLog.keeping basis script c.args.store) (sym c.unflushed.ensures) (fault_unflushed g.S.RowLog.keeping basis script c.args.store c.play_lines-end.result (c.play_lines-end.ensures.leaves basis may on script is covers) (c.play_lines-end.ensures.faults basis may on script is covers))

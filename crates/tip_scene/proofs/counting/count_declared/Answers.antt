@@ -1,15 +1,17 @@
 -- What was read left the store as it was.
-use Rattle.std.proofs.Common.{◌≡◌, ◌∙◌, Some, ap, map, refl, sym}
+use Rattle.std.proofs.Common.{◌≡◌, ◌∙◌, ◌≤◌, Some, ap, arith, map, option_map, refl, subst, sym}
 use Rattle.std.specs.Prelude.{slice_get}
 use Rattle.std.proofs.lemmas.Option.{slice_get-get_or}
+use Rattle.std.proofs.lemmas.List.{length-map}
 use Rattle.std.proofs.lemmas.Result.{err_from_is_err_and}
 use Rattle.tip_scene.specs.declared.declared.Declaration.{Declaration}
 use Rattle.tip_scene.proofs.Again.{mapped_at}
 use Rattle.tip_scene.proofs.Blaming.{unread_in}
+use Rattle.tip_scene.proofs.Wanting.{counts_all, counts_one}
 use Rattle.tip_scene.proofs.counting.count_declared.Goals as goal
 
 pub loop-declaration-init : goal.loop-declaration-init
-loop-declaration-init g c = record { stands = λ log stood. stood; due = λ r. refl; counts = refl; truth = λ is. is }
+loop-declaration-init g c = record { stands = λ log stood. stood; due = λ r. refl; counts = refl; truth = λ is. is; wanted = λ scene named has truth. omega arith }
 
 pub returns-in_err-count-clause-stands : goal.returns-in_err-count-clause-stands
 returns-in_err-count-clause-stands g c = λ log stood. c.count_more.ensures.stands log (c.loop-declaration.invariant.stands log stood)
@@ -35,6 +37,13 @@ loop-declaration-preserved g c = record {
   due = λ r. c.count_more.ensures.due r ∙ c.loop-declaration.invariant.due r;
   counts = c.in_ok-count.ensures.counts ∙ c.loop-declaration.invariant.counts;
   truth = λ is. c.loop-declaration.invariant.truth (c.count_more.ensures.truth is);
+  wanted = λ scene named has truth.
+      let all = c.args.declarations.now in
+      let at = c.loop-declaration.declaration-index in
+      let one = c.declaration-item.result in
+      let here : slice_get all at ≡ Some one = slice_get-get_or all at one c.loop-declaration-test.true ∙ ap Some (sym c.declaration-item.is) in
+      counts_one g.S.RowLog.keeping (option_map (λ name. name.now) c.args.only) (map (λ (x : Declaration). x.name) all) c.args.store.now scene named has at one.name c.loop-declaration.count c.in_ok-count.count (mapped_at (λ (x : Declaration). x.name) all at one here) (c.loop-declaration.invariant.wanted scene named has (c.count_more.ensures.truth truth))
+      (λ log epoch rows stood part. c.in_ok-count.ensures.wanted log epoch rows (c.loop-declaration.invariant.stands log stood) part truth);
 }
 
 pub returns-clause-stands : goal.returns-clause-stands
@@ -45,3 +54,9 @@ returns-clause-due g c = c.loop-declaration.invariant.due
 
 pub returns-clause-truth : goal.returns-clause-truth
 returns-clause-truth g c = c.loop-declaration.invariant.truth
+
+pub returns-clause-wanted : goal.returns-clause-wanted
+returns-clause-wanted g c = λ scene named has truth.
+    let all = c.args.declarations.now in
+    let names = map (λ (x : Declaration). x.name) all in
+    counts_all g.S.RowLog.keeping (option_map (λ name. name.now) c.args.only) names c.args.store.now scene named has c.loop-declaration.declaration-index c.loop-declaration.count (subst (λ n. n ≤ c.loop-declaration.declaration-index) (sym (length-map all (λ (x : Declaration). x.name))) c.loop-declaration-test.false) (c.loop-declaration.invariant.wanted scene named has truth)

@@ -1,5 +1,5 @@
 -- A realm in its last epoch, and one that starts again by what is stored of it.
-use Rattle.std.proofs.Common.{◌≡◌, ◌<◌, ◌∙◌, ◌++◌, Err, List, true, ap, inr, sym, length, map, rules, string_bytes, subst}
+use Rattle.std.proofs.Common.{◌≡◌, ◌<◌, ◌∙◌, ◌++◌, Err, List, true, ap, arith, sym, length, map, rules, string_bytes, subst}
 use Rattle.std.specs.Prelude.{option_map, slice_get}
 use Rattle.std.proofs.lemmas.Bool.{false≢true}
 use Rattle.std.proofs.lemmas.Result.{err_from_is_err_and, on_ok_weaker}
@@ -10,8 +10,8 @@ use Rattle.tip_machine.specs.States.{State}
 use Rattle.tip_recovery.specs.Adopting.{Unfinished, are_for_all}
 use Rattle.tip_rows.specs.Logs.{Log}
 use Rattle.tip_transcript.specs.Printing.{refusal_text}
-use Rattle.tip_scene.specs.Boxes.{row_count}
-use Rattle.tip_scene.proofs.Blaming.{counts_all, err_same, fits_all, not_read, orelse, renews_since}
+use Rattle.tip_scene.specs.Boxes.{boxes_for, row_count}
+use Rattle.tip_scene.proofs.Blaming.{counts_all, err_same, fits_all, not_read, renews_since}
 use Rattle.tip_scene.proofs.Renewed.{acts_still, at_its_end, for_each, has_willing, leaves_still, not_last, read_rows, renews_all, was_last}
 use Rattle.tip_scene.proofs.renewing.renew.Goals as goal
 
@@ -44,28 +44,29 @@ returns-clause-acts g c = λ truth.
     (c.renew_by.ensures.done truth acting (acts_still g.S.RowLog.keeping stored_core mid c.doubts.ensures.core stood due c.args.place c.args.actor.now acting acts) willing next.0))
 
 pub returns-in_err-recovery-clause-blames : goal.returns-in_err-recovery-clause-blames
-returns-in_err-recovery-clause-blames g c = λ acting acts runs truth.
+returns-in_err-recovery-clause-blames g c = λ acting acts enough runs truth.
     let e = err_from_is_err_and c.from_residual-in_err-recovery.result c.from_residual-in_err-recovery.ensures.1 in
     let kept = g.S.RowLog.keeping in
     let log = acts.stored.log in
-    rw (e.1, e.2) (λ is. orelse kept (length c.args.pool.now.items) c.args.stored_core.now.store c.doubts.new.self.store acting
-    (not_read kept c.args.stored_core.now.store c.doubts.new.self.store acting c.in_err-recovery.field-0.0 c.in_err-recovery.ensures.store.counts (λ log stood now. c.in_err-recovery.ensures.reason log acting.world.state stood acts.served.state_is now) (err_same is) truth (acts.stored.log, acts.stored.stood)))
+    rw (e.1, e.2) (λ is. not_read kept c.args.stored_core.now.store c.doubts.new.self.store acting c.in_err-recovery.field-0.0 c.in_err-recovery.ensures.store.counts (λ log stood now. c.in_err-recovery.ensures.reason log acting.world.state stood acts.served.state_is now) (err_same is) truth (acts.stored.log, acts.stored.stood))
 
 pub returns-in_err-lots-clause-blames : goal.returns-in_err-lots-clause-blames
-returns-in_err-lots-clause-blames g c = λ acting acts runs truth.
+returns-in_err-lots-clause-blames g c = λ acting acts enough runs truth.
     let e = err_from_is_err_and c.from_residual-in_err-lots.result c.from_residual-in_err-lots.ensures.1 in
     let read = read_rows acts.stored.log acting.world.state.head.name acting.world.state.head.epoch acting.world.rows c.in_ok-recovery.recovery acts.stored.part (c.in_ok-recovery.ensures.read acts.stored.log acting.world.state acts.stored.stood acts.served.state_is truth) in
-    rw (e.1, e.2) (λ is. inr (inr (subst (λ n. length c.args.pool.now.items < n) (ap row_count c.rows.ensures.same ∙ counts_all acting.world.state.head.name c.in_ok-recovery.recovery.rows acting.world.rows read) (c.in_err-lots.ensures.few (ap Err (err_same is))))))
+    rw (e.1, e.2) (λ is.
+    let few : length c.args.pool.now.items < boxes_for acting.world.rows = subst (λ n. length c.args.pool.now.items < n) (ap row_count c.rows.ensures.same ∙ counts_all acting.world.state.head.name c.in_ok-recovery.recovery.rows acting.world.rows read) (c.in_err-lots.ensures.few (ap Err (err_same is))) in
+    absurd (omega (arith, enough, few)))
 
 pub returns-then-not-adopt_all-clause-blames : goal.returns-then-not-adopt_all-clause-blames
-returns-then-not-adopt_all-clause-blames g c = λ acting acts runs truth is.
+returns-then-not-adopt_all-clause-blames g c = λ acting acts enough runs truth is.
     let read = read_rows acts.stored.log acting.world.state.head.name acting.world.state.head.epoch acting.world.rows c.in_ok-recovery.recovery acts.stored.part (c.in_ok-recovery.ensures.read acts.stored.log acting.world.state acts.stored.stood acts.served.state_is truth) in
     let lots = c.in_ok-lots.ensures.dealt ∙ ap (map (λ (row : Unfinished). willing_boxes row.row)) c.rows.ensures.same in
     let fits : c.adopt_all.result ≡ true = c.adopt_all.ensures.fits ∙ ap (λ boxes. are_for_all boxes c.in_ok-recovery.recovery.rows) lots ∙ fits_all acting.world.state.head.name c.in_ok-recovery.recovery.rows acting.world.rows read in
     absurd (false≢true (sym c.if-not-adopt_all.true ∙ fits))
 
 pub returns-clause-blames : goal.returns-clause-blames
-returns-clause-blames g c = λ acting acts runs truth is.
+returns-clause-blames g c = λ acting acts enough runs truth is.
     let kept = g.S.RowLog.keeping in
     let stored_core = c.args.stored_core.now in
     let mid = c.doubts.new.self in
@@ -77,6 +78,5 @@ returns-clause-blames g c = λ acting acts runs truth is.
     let read = read_rows acts.stored.log acting.world.state.head.name acting.world.state.head.epoch acting.world.rows c.in_ok-recovery.recovery acts.stored.part (c.in_ok-recovery.ensures.read acts.stored.log acting.world.state acts.stored.stood acts.served.state_is mid_true) in
     let lots = c.in_ok-lots.ensures.dealt ∙ ap (map (λ (row : Unfinished). willing_boxes row.row)) c.rows.ensures.same in
     let willing = has_willing acting acting.world.state.head.name c.in_ok-recovery.recovery.rows c.adopt_all.new.self.rows c.in_ok-lots.lots.items acts.named read lots (c.adopt_all.ensures.adopted fits) in
-    orelse kept (length c.args.pool.now.items) stored_core.store c.renew_by.new.stored_core.store acting
-    (renews_since kept stored_core.store mid.store c.renew_by.new.stored_core.store acting c.in_ok-recovery.ensures.store.counts stood
-    (c.renew_by.ensures.blames acting (acts_still kept stored_core mid c.doubts.ensures.core stood due c.args.place c.args.actor.now acting acts) (c.doubts.ensures.stopped ∙ runs) willing truth is))
+    renews_since kept stored_core.store mid.store c.renew_by.new.stored_core.store acting c.in_ok-recovery.ensures.store.counts stood
+    (c.renew_by.ensures.blames acting (acts_still kept stored_core mid c.doubts.ensures.core stood due c.args.place c.args.actor.now acting acts) (c.doubts.ensures.stopped ∙ runs) willing truth is)

@@ -1,9 +1,10 @@
 -- Not where an epoch is the last one; else all start again.
-use Rattle.std.proofs.Common.{◌≡◌, ◌<◌, ◌∙◌, ap, false, inl, inr, length, string_bytes, subst, sym}
+use Rattle.std.proofs.Common.{◌≡◌, ◌<◌, ◌∙◌, None, ap, arith, false, length, string_bytes, subst, sym}
 use Rattle.std.specs.List.{list_any}
 use Rattle.tip_actor.specs.Acting.{is_at_end}
 use Rattle.tip_actor.specs.Faults.{of_load_fault}
 use Rattle.tip_scene.specs.Acts.{Playing}
+use Rattle.tip_scene.specs.Boxes.{box_count}
 use Rattle.tip_scene.specs.Standing.{IsScene}
 use Rattle.tip_scene.proofs.Again.{any_at_end, new_again, starts_again, stays_put, wait_again}
 use Rattle.tip_scene.specs.Leaving.{OthersStay}
@@ -28,14 +29,15 @@ returns-in-Ok-rise_again-clause-moves g c = λ scene is truth.
     (c.in-Ok.ensures.text scene (subst (λ l. IsScene g.S.RowLog.keeping stored_core l scene) (sym c.deref.ensures.value) is)) (c.in-Ok-rise_again.ensures.text _ again waiting) (c.in-Ok-rise_again.ensures.scene _ again waiting)
 
 pub returns-in-Err-rise_again-clause-blames : goal.returns-in-Err-rise_again-clause-blames
-returns-in-Err-rise_again-clause-blames g c = λ scene is same truth.
+returns-in-Err-rise_again-clause-blames g c = λ scene is enough same truth.
     let waiting = wait_again g.S.RowLog.keeping c.args.playing.stored_core c.args.playing.actors.items scene c.in-Ok.specs.items c.in-Ok-restart.recovering is c.in-Ok.ensures.specs c.in-Ok-restart.ensures (subst g.S.RowLog.keeping.is_true c.in-Err-rise_again.ensures.back truth) in
-    inr (subst (λ n. length c.args.pool.now.items < n) (boxes_again scene) (c.in-Err-rise_again.ensures.few _ waiting (act_store c.in-Err-rise_again.fault (sym c.from.ensures ∙ same))))
+    let few : length c.args.pool.now.items < box_count None scene = subst (λ n. length c.args.pool.now.items < n) (boxes_again scene) (c.in-Err-rise_again.ensures.few _ waiting (act_store c.in-Err-rise_again.fault (sym c.from.ensures ∙ same))) in
+    absurd (omega (arith, enough, few))
 
 pub returns-in-Err-restart-clause-blames : goal.returns-in-Err-restart-clause-blames
-returns-in-Err-restart-clause-blames g c = λ scene is same truth.
-    inl (start_blamed g.S.RowLog.keeping (length c.args.pool.now.items) c.args.playing.stored_core.store c.in-Err-restart.store (Playing scene) c.in-Ok.specs.items (specs_again g.S.RowLog.keeping c.args.playing.stored_core c.args.playing.actors.items scene c.in-Ok.specs.items is c.in-Ok.ensures.specs) c.in-Err-restart.fault c.in-Err-restart.ensures.err.counts c.in-Err-restart.ensures.reason
-    (ap of_load_fault (sym c.in-Err-restart.fault-is) ∙ sym c.from-in-Err-restart.ensures ∙ act_store c.from-in-Err-restart.result (sym c.from-in-Err-restart-2.ensures ∙ same)))
+returns-in-Err-restart-clause-blames g c = λ scene is enough same truth.
+    start_blamed g.S.RowLog.keeping c.args.playing.stored_core.store c.in-Err-restart.store (Playing scene) c.in-Ok.specs.items (specs_again g.S.RowLog.keeping c.args.playing.stored_core c.args.playing.actors.items scene c.in-Ok.specs.items is c.in-Ok.ensures.specs) c.in-Err-restart.fault c.in-Err-restart.ensures.err.counts c.in-Err-restart.ensures.reason
+    (ap of_load_fault (sym c.in-Err-restart.fault-is) ∙ sym c.from-in-Err-restart.ensures ∙ act_store c.from-in-Err-restart.result (sym c.from-in-Err-restart-2.ensures ∙ same))
 
 pub returns-in-Ok-rise_again-clause-leaves : goal.returns-in-Ok-rise_again-clause-leaves
 returns-in-Ok-rise_again-clause-leaves g c = λ scene is truth.

@@ -1,5 +1,5 @@
 -- The boxes are adopted, and the realms are at work.
-use Rattle.std.proofs.Common.{◌≡◌, ◌<◌, ◌∙◌, Err, List, ap, length, map, rules, subst, sym, true}
+use Rattle.std.proofs.Common.{◌≡◌, ◌<◌, ◌+◌, ◌∙◌, Err, List, ap, length, map, rules, subst, sym, true}
 use Rattle.std.proofs.lemmas.Bool.{false≢true}
 use Rattle.tip_branch.specs.declared.branch.Badge.{Badge}
 use Rattle.tip_stored.specs.Recovering.{adopted_each, all_adopted, are_for_each}
@@ -40,3 +40,8 @@ returns-then-not-adopt_all-clause-few g c = λ scene waiting is.
     let lots = c.in-Ok.ensures.dealt ∙ ap (map boxes_of_recovery) c.realms.ensures.same in
     let fits : c.adopt_all.result ≡ true = c.adopt_all.ensures.fits ∙ ap (λ boxes. are_for_each boxes c.args.recovering.realms) lots ∙ fit.1 in
     absurd (false≢true (sym c.if-not-adopt_all.true ∙ fits))
+
+pub returns-in-Ok-begin-clause-left : goal.returns-in-Ok-begin-clause-left
+returns-in-Ok-begin-clause-left g c = λ scene waiting.
+    let fit = waiting_fit g.S.RowLog.keeping c.args.recovering scene c.realms.ensures.begun waiting in
+    sym (ap (λ n. length c.dealt_to_all.new.pool.items + n) (ap branch_count c.realms.ensures.same ∙ fit.0)) ∙ c.in-Ok.ensures.left

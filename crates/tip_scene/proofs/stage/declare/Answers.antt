@@ -1,5 +1,5 @@
 -- A declaration, or the start of the realms.
-use Rattle.std.proofs.Common.{◌≡◌, ◌<◌, ◌∙◌, true, Err, Ok, Some, ap, length, refl, sym, string_bytes, subst}
+use Rattle.std.proofs.Common.{◌≡◌, ◌∙◌, true, Err, None, Ok, Some, ap, length, refl, sym, string_bytes, subst}
 use Rattle.std.proofs.lemmas.Result.{err_from_is_err_and}
 use Rattle.tip_line.specs.Fields.{fields_of}
 use Rattle.tip_scene.specs.Acts.{Declaring, acts, declared, is_covered, labelled, scene_of}
@@ -8,10 +8,12 @@ use Rattle.tip_scene.specs.declared.stage.Stage.TheVariants as stage
 use Rattle.tip_script.specs.Moves.{move_by}
 use Rattle.tip_scene.specs.Leaving.{LeavesAtFault, LeavesOthers, scene_at}
 use Rattle.tip_scene.proofs.Leaving.{declared_stays, fault_first, fault_stays, first_rest}
-use Rattle.tip_scene.proofs.Blaming.{at_fault, never_asked, play_accused_at, told_on, too_few}
-use Rattle.tip_scene.specs.Blaming.{HadTooFew, IsAtFault, IsBlamed}
+use Rattle.tip_scene.proofs.Blaming.{at_fault, never_asked, play_accused_at, told_on}
+use Rattle.tip_scene.specs.Blaming.{IsAtFault, IsBlamed}
 use Rattle.tip_scene.specs.Boxes.{box_count}
 use Rattle.tip_scene.specs.Faults.{of_act_fault}
+use Rattle.tip_scene.specs.Wanting.{wanted_again}
+use Rattle.tip_scene.proofs.Wanting.{enough_at_first, enough_first, enough_then}
 use Rattle.tip_scene.proofs.Staging.{declared_covered, declares_not, declares_so, fails_first, labelled_covered, plays_first, starts_declared}
 use Rattle.tip_scene.proofs.stage.declare.Goals.{in-Realm, in-Labels}
 use Rattle.tip_scene.proofs.stage.declare.Goals as goal
@@ -29,7 +31,11 @@ returns-in_err-playing-in_default g c =
       counts = λ may. tt;
       faults = λ basis declarations is. fault_first g.S.RowLog.keeping basis declarations c.args.declared c.in-Ok.playing (move_by c.args.instruction) c.in_err-playing-in_default.field-0.0
           (starts_declared basis declarations c.args.instruction c.in_default.not-Realm c.in_default.not-Labels) c.in_err-playing-in_default.ensures.truth (c.in-Ok.ensures.scene basis declarations is) c.in-Ok.ensures.leaves c.in_err-playing-in_default.ensures.stays;
-      blames = λ may basis declarations is. play_accused_at g.S.RowLog.keeping _ basis c.in-Ok.playing (scene_of basis declarations) c.args.declared.store _ c.in_err-playing-in_default.field-0.0 c.in_err-playing-in_default.ensures.truth c.in-Ok.ensures.counts (c.in-Ok.ensures.scene basis declarations is) (c.in_err-playing-in_default.ensures.blames may (scene_of basis declarations));
+      blames = λ may basis declarations is enough.
+          let scene = scene_of basis declarations in
+          let fits = enough_at_first basis declarations (length c.args.pool.now.items) c.args.instruction c.in_default.not-Realm c.in_default.not-Labels enough in
+          play_accused_at g.S.RowLog.keeping _ basis c.in-Ok.playing scene c.args.declared.store c.in_err-playing-in_default.field-0.0 c.in_err-playing-in_default.ensures.truth c.in-Ok.ensures.counts (c.in-Ok.ensures.scene basis declarations is)
+          (λ truth stands. c.in_err-playing-in_default.ensures.blames may scene stands (enough_then (box_count None scene) (wanted_again (move_by c.args.instruction) scene) (length c.args.pool.now.items) (length c.start.new.pool.items) fits (c.in-Ok.ensures.left basis declarations is truth)));
     })
 
 pub returns-in_default : goal.returns-in_default
@@ -41,7 +47,7 @@ returns-in_default g c = record {
   leaves = λ basis declarations is may boxes truth. (let before = c.in_ok-playing-in_default.ensures.truth truth in first_rest g.S.RowLog.keeping c.args.declared c.in-Ok.playing c.in_ok-playing-in_default.playing (c.in-Ok.ensures.leaves before) (c.in_ok-playing-in_default.ensures.leaves (scene_of basis declarations) (c.in-Ok.ensures.scene basis declarations is before) may boxes truth));
   counts = λ may. c.in_ok-playing-in_default.ensures.counts may ∙ c.in-Ok.ensures.counts;
   faults = λ basis declarations is. tt;
-  blames = λ may basis declarations is. tt;
+  blames = λ may basis declarations is enough. tt;
 }
 
 pub returns-in-Ok-noted-clause-acts : goal.returns-in-Ok-noted-clause-acts
@@ -67,14 +73,17 @@ returns-in-Err-noted-clause-acts g c = λ basis declarations is may boxes covers
     ]
 
 pub returns-in-Err-clause-blames : goal.returns-in-Err-clause-blames
-returns-in-Err-clause-blames g c = λ may basis declarations is.
-    told_on g.S.RowLog.keeping (IsAtFault g.S.RowLog.keeping (length c.args.pool.now.items) c.args.declared.store (Declaring declarations)) (IsBlamed g.S.RowLog.keeping basis c.args.declared.store) (length c.args.pool.now.items < box_count (scene_of basis declarations)) (HadTooFew g.S.RowLog.keeping basis) c.in-Err.fault c.in-Err.store c.from.result (c.from.ensures ∙ ap of_act_fault c.in-Err.fault-is)
-    (λ new. at_fault g.S.RowLog.keeping basis (stage.Declaring c.args.declared) (Declaring declarations) (length c.args.pool.now.items) c.args.declared.store new is refl)
-    (too_few g.S.RowLog.keeping basis (stage.Declaring c.args.declared) (Declaring declarations) (length c.args.pool.now.items) is)
-    (c.in-Err.ensures.blames basis declarations is)
+returns-in-Err-clause-blames g c = λ may basis declarations is enough.
+    let kept = g.S.RowLog.keeping in
+    let boxes = length c.args.pool.now.items in
+    let scene = scene_of basis declarations in
+    let fits = enough_at_first basis declarations boxes c.args.instruction c.in_default.not-Realm c.in_default.not-Labels enough in
+    told_on kept (IsAtFault kept c.args.declared.store (Declaring declarations)) (IsBlamed kept basis c.args.declared.store) c.in-Err.fault c.in-Err.store c.from.result (c.from.ensures ∙ ap of_act_fault c.in-Err.fault-is)
+    (λ new. at_fault kept basis (stage.Declaring c.args.declared) (Declaring declarations) c.args.declared.store new is refl)
+    (c.in-Err.ensures.blames basis declarations is (enough_first (box_count None scene) (wanted_again (move_by c.args.instruction) scene) boxes fits))
 
 pub returns-in-Err-noted-clause-blames : goal.returns-in-Err-noted-clause-blames
-returns-in-Err-noted-clause-blames g c = λ may basis declarations is bad truth.
+returns-in-Err-noted-clause-blames g c = λ may basis declarations is enough bad truth.
     elim c.match-instruction.branch [
       | in-Realm w ↦ absurd (never_asked (declared w.in-Realm.name.now w.in-Realm.address.now w.in-Realm.branches w.in-Realm.limits c.args.declared.declarations.items) w.add-noted.new.self.declarations.items w.add-noted.result c.in-Err-noted.fault w.add-noted.ensures.declares (sym w.noted-is ∙ c.in-Err-noted.is) bad)
       | in-Labels w ↦ absurd (never_asked (labelled w.in-Labels.realm.now (fields_of 32 w.in-Labels.labels.now) c.args.declared.declarations.items) w.label-noted.new.self.declarations.items w.label-noted.result c.in-Err-noted.fault w.label-noted.ensures.declares (sym w.noted-is ∙ c.in-Err-noted.is) bad)

@@ -1,14 +1,16 @@
 -- The realms start over what the store has.
-use Rattle.std.proofs.Common.{◌∙◌, ap, inl, length, map, subst, sym}
+use Rattle.std.proofs.Common.{◌∙◌, None, ap, length, map, subst, sym}
 use Rattle.std.proofs.lemmas.Result.{IfOk-weaker}
 use Rattle.tip_actor.specs.Faults.{of_load_fault}
 use Rattle.tip_scene.specs.Acts.{Declaring, scene_of}
+use Rattle.tip_scene.specs.Boxes.{box_count}
 use Rattle.tip_scene.specs.Rising.{AreNew}
 use Rattle.tip_scene.specs.Stages.{spec_of}
 use Rattle.tip_scene.proofs.Blaming.{risen_blamed, risen_so, risen_trusts, start_blamed}
 use Rattle.tip_scene.specs.Leaving.{OthersStay}
 use Rattle.tip_scene.proofs.Leaving.{start_leaves}
 use Rattle.tip_scene.proofs.Starting.{all_wait}
+use Rattle.tip_scene.proofs.Wanting.{if_ok}
 use Rattle.tip_scene.proofs.declared.Declared+S+Core.start.Goals as goal
 
 pub returns-in-Ok-load-clause-truth : goal.returns-in-Ok-load-clause-truth
@@ -27,8 +29,8 @@ returns-in-Ok-load-clause-scene g c = λ basis declarations is.
     (all_wait g.S.RowLog.keeping c.args.self.store c.in-Ok-load.recovering basis declarations c.in-Ok.specs.items is.founded is.covered (c.in-Ok.ensures.1 ∙ ap (map spec_of) is.declared) c.in-Ok-load.ensures truth))
 
 pub returns-in-Ok-load-clause-blames : goal.returns-in-Ok-load-clause-blames
-returns-in-Ok-load-clause-blames g c = λ basis declarations is.
-    risen_blamed g.S.RowLog.keeping (λ playing. playing.stored_core.store) c.in-Ok-load.recovering.store _ _ c.rise.result c.rise.ensures.back (λ truth.
+returns-in-Ok-load-clause-blames g c = λ basis declarations is enough.
+    risen_blamed g.S.RowLog.keeping (λ playing. playing.stored_core.store) c.in-Ok-load.recovering.store _ (length c.args.pool.now.items) (box_count None (scene_of basis declarations)) c.rise.result enough c.rise.ensures.back (λ truth.
     c.rise.ensures.few (scene_of basis declarations)
     (all_wait g.S.RowLog.keeping c.args.self.store c.in-Ok-load.recovering basis declarations c.in-Ok.specs.items is.founded is.covered (c.in-Ok.ensures.1 ∙ ap (map spec_of) is.declared) c.in-Ok-load.ensures truth))
 
@@ -38,6 +40,12 @@ returns-in-Ok-load-clause-leaves g c =
     (start_leaves g.S.RowLog.keeping c.in-Ok.specs.items c.args.self.store c.in-Ok-load.recovering names c.in-Ok-load.ensures (subst g.S.RowLog.keeping.is_true same truth))) c.rise.ensures.store
 
 pub returns-in-Err-clause-blames : goal.returns-in-Err-clause-blames
-returns-in-Err-clause-blames g c = λ basis declarations is same truth.
-    inl (start_blamed g.S.RowLog.keeping (length c.args.pool.now.items) c.args.self.store c.in-Err.store (Declaring declarations) c.in-Ok.specs.items (c.in-Ok.ensures.1 ∙ ap (map spec_of) is.declared) c.in-Err.fault c.in-Err.ensures.err.counts c.in-Err.ensures.reason
-    (ap of_load_fault (sym c.in-Err.fault-is) ∙ sym c.from.ensures ∙ same))
+returns-in-Err-clause-blames g c = λ basis declarations is enough same truth.
+    start_blamed g.S.RowLog.keeping c.args.self.store c.in-Err.store (Declaring declarations) c.in-Ok.specs.items (c.in-Ok.ensures.1 ∙ ap (map spec_of) is.declared) c.in-Err.fault c.in-Err.ensures.err.counts c.in-Err.ensures.reason
+    (ap of_load_fault (sym c.in-Err.fault-is) ∙ sym c.from.ensures ∙ same)
+
+pub returns-in-Ok-load-clause-left : goal.returns-in-Ok-load-clause-left
+returns-in-Ok-load-clause-left g c = λ basis declarations is.
+    risen_so g.S.RowLog.keeping (λ playing. playing.stored_core.store) c.in-Ok-load.recovering.store _ c.rise.result c.rise.ensures.store (λ truth.
+    if_ok _ c.rise.result (c.rise.ensures.left (scene_of basis declarations)
+    (all_wait g.S.RowLog.keeping c.args.self.store c.in-Ok-load.recovering basis declarations c.in-Ok.specs.items is.founded is.covered (c.in-Ok.ensures.1 ∙ ap (map spec_of) is.declared) c.in-Ok-load.ensures truth)))

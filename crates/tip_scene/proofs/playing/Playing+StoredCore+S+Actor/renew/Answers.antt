@@ -1,10 +1,11 @@
 -- A realm that is to start again, and one that is not there.
-use Rattle.std.proofs.Common.{◌∙◌, Err, Some, ap, inl, length, refl, string_bytes, subst, sym}
+use Rattle.std.proofs.Common.{◌≡◌, ◌∙◌, Err, Some, ap, arith, inl, refl, string_bytes, subst, sym, true}
 use Rattle.std.proofs.lemmas.Result.{err_from_is_err_and, on_ok_weaker}
 use Rattle.tip_actor.proofs.Lists.{none_at, partner, some_at}
 use Rattle.tip_script.specs.Scripts.{Renew}
 use Rattle.tip_transcript.specs.Printing.{nowhere_text}
 use Rattle.std.specs.Prelude.{Ok, OnOk}
+use Rattle.std.specs.Str.{bytes_eq}
 use Rattle.std.specs.Vec.{with_item}
 use Rattle.tip_actor.specs.Acting.{renews}
 use Rattle.tip_scene.specs.Leaving.{LeavesRest}
@@ -12,7 +13,10 @@ use Rattle.tip_scene.proofs.Leaving.{judged_on, rest_done, rest_stays}
 use Rattle.tip_scene.specs.Scenes.{moved_in}
 use Rattle.tip_scene.specs.Stages.{APlaying, Serves}
 use Rattle.tip_scene.proofs.Blaming.{act_known, act_store, err_same, judged_counts, judged_not, judged_refused, renew_blamed, serves_judged, serves_when}
+use Rattle.tip_scene.proofs.Places.{passes_at}
 use Rattle.tip_scene.proofs.Scening.{has_moved, moved_elsewhere}
+use Rattle.tip_scene.proofs.Wanting.{enough_for_one}
+use Rattle.tip_scene.specs.Standing.{has_name}
 use Rattle.tip_scene.proofs.playing.Playing+StoredCore+S+Actor.renew.Goals as goal
 
 pub returns-in_default-clause-serves : goal.returns-in_default-clause-serves
@@ -38,7 +42,7 @@ returns-clause-serves g c = λ scene is truth.
     settles)))
 
 pub returns-in_err-renew-clause-blames : goal.returns-in_err-renew-clause-blames
-returns-in_err-renew-clause-blames g c = λ may scene is truth.
+returns-in_err-renew-clause-blames g c = λ may scene is enough truth.
     let e = err_from_is_err_and c.from_residual-in_err-renew.result c.from_residual-in_err-renew.ensures.1 in
     let kept = g.S.RowLog.keeping in
     let actors = c.args.self.now.actors.items in
@@ -46,14 +50,17 @@ returns-in_err-renew-clause-blames g c = λ may scene is truth.
     let actor = c.in-Some.actor.now in
     let here = some_at actors place actor c.in-Some.ensures.item.3.0 c.in-Some.ensures.item.3.1 in
     let mate = partner actors scene place actor is.count here in
-    rw (e.1, e.2) (λ bad. renew_blamed kept (length c.args.pool.now.items) c.args.self.now.stored_core.store c.renew.new.stored_core.store scene place mate.0 mate.1
-    (c.in_err-renew.ensures.blames mate.0 (is.each place actor mate.0 here mate.1) c.requires.running truth (ap Err (act_store c.in_err-renew.field-0.0 (err_same bad)))))
+    let acts = is.each place actor mate.0 here mate.1 in
+    let named = subst (λ n. bytes_eq n c.args.name.now ≡ true) acts.own.name (passes_at (has_name c.args.name.now) actors place actor c.place_of-place.ensures here) in
+    let one = enough_for_one c.args.name.now scene place mate.0 mate.1 named in
+    rw (e.1, e.2) (λ bad. renew_blamed kept c.args.self.now.stored_core.store c.renew.new.stored_core.store scene place mate.0 mate.1
+    (c.in_err-renew.ensures.blames mate.0 acts (omega (arith, enough, one)) c.requires.running truth (ap Err (act_store c.in_err-renew.field-0.0 (err_same bad)))))
 
 pub returns-clause-counts : goal.returns-clause-counts
 returns-clause-counts g c = λ may. judged_counts g.S.RowLog.keeping c.args.self.now.stored_core.store c.settle-end.new.stored_core.store _ _ _ c.settle-end.result c.judge.result (c.may_refuse.ensures ∙ may) c.faults-before.ensures c.faults.ensures c.judge.ensures
 
 pub returns-clause-blames : goal.returns-clause-blames
-returns-clause-blames g c = λ may scene is truth bad. inl (judged_refused g.S.RowLog.keeping c.args.self.now.stored_core.store c.settle-end.new.stored_core.store _ _ _ c.settle-end.result (c.may_refuse.ensures ∙ may) c.faults-before.ensures c.faults.ensures (sym c.judge.ensures ∙ bad))
+returns-clause-blames g c = λ may scene is enough truth bad. inl (judged_refused g.S.RowLog.keeping c.args.self.now.stored_core.store c.settle-end.new.stored_core.store _ _ _ c.settle-end.result (c.may_refuse.ensures ∙ may) c.faults-before.ensures c.faults.ensures (sym c.judge.ensures ∙ bad))
 
 pub returns-in_default-clause-leaves : goal.returns-in_default-clause-leaves
 returns-in_default-clause-leaves g c = λ scene is truth. rest_stays g.S.RowLog.keeping c.args.self.now

@@ -1,18 +1,22 @@
 -- The realms could not start.
-use Rattle.std.proofs.Common.{subst, sym}
+use Rattle.std.proofs.Common.{◌≤◌, length, subst, sym}
 use Rattle.tip_actor.specs.declared.fault.ActFault.TheVariants.{Store}
-use Rattle.tip_scene.specs.Blaming.{Accuses, HadTooFew, IsBlamed, starting_from}
+use Rattle.tip_scene.specs.Blaming.{Accuses, IsBlamed, starting_from}
 use Rattle.tip_scene.specs.Leaving.{IsLeft}
 use Rattle.tip_scene.proofs.Leaving.{left_first, left_then}
 use Rattle.std.proofs.lemmas.Result.{err_from_is_err_and}
 use Rattle.tip_scene.specs.Stages.{IsStage, store_of}
+use Rattle.tip_scene.specs.Wanting.{wanted_at_start}
 use Rattle.tip_scene.proofs.Blaming.{start_accused}
 use Rattle.tip_scene.proofs.stage.Stage+Declared+S+Playing+StoredCore+S.finish.Goals as goal
 
 pub returns-in_err-playing-in-Declaring-clause-blames : goal.returns-in_err-playing-in-Declaring-clause-blames
-returns-in_err-playing-in-Declaring-clause-blames g c = λ basis stage is.
+returns-in_err-playing-in-Declaring-clause-blames g c = λ basis stage is enough.
     let e = err_from_is_err_and c.from_residual.result c.from_residual.ensures.1 in
-    rw (e.1, e.2) (subst (λ s. Accuses g.S.RowLog.keeping Store (IsBlamed g.S.RowLog.keeping basis (store_of s)) (HadTooFew g.S.RowLog.keeping basis) c.in_err-playing-in-Declaring.field-0.0) (sym c.in-Declaring.is) (start_accused g.S.RowLog.keeping Store basis c.in-Declaring.declared stage _ c.in_err-playing-in-Declaring.field-0.0 (subst (λ s. IsStage g.S.RowLog.keeping basis s stage) c.in-Declaring.is is) (λ declarations declared. c.in_err-playing-in-Declaring.ensures.blames basis declarations declared)))
+    let kept = g.S.RowLog.keeping in
+    rw (e.1, e.2) (subst (λ s. Accuses kept Store (IsBlamed kept basis (store_of s)) c.in_err-playing-in-Declaring.field-0.0) (sym c.in-Declaring.is)
+    (start_accused kept Store basis c.in-Declaring.declared stage (λ now. wanted_at_start basis now ≤ length c.args.pool.now.items) c.in_err-playing-in-Declaring.field-0.0 (subst (λ s. IsStage kept basis s stage) c.in-Declaring.is is) enough
+    (λ declarations declared fit. c.in_err-playing-in-Declaring.ensures.blames basis declarations declared fit)))
 
 pub returns-in_ok-playing-in-Declaring-clause-leaves : goal.returns-in_ok-playing-in-Declaring-clause-leaves
 returns-in_ok-playing-in-Declaring-clause-leaves g c = λ basis stage is truth.

@@ -1,6 +1,6 @@
 -- A line before and after the realms have started.
-use Rattle.std.proofs.Common.{subst, string_bytes, sym}
-use Rattle.tip_scene.specs.Blaming.{Accuses, Blames, HadTooFew, IsBlamed}
+use Rattle.std.proofs.Common.{◌≤◌, Some, length, subst, string_bytes, sym}
+use Rattle.tip_scene.specs.Blaming.{Accuses, Blames, IsBlamed}
 use Rattle.tip_scene.specs.declared.fault.LineFault.TheVariants.{Store}
 use Rattle.tip_script.specs.Moves.{move_by}
 use Rattle.tip_scene.specs.Stages.{IsStage, store_of}
@@ -11,6 +11,8 @@ use Rattle.tip_scene.specs.Leaving.{LeavesAtFault, LeavesOthers, scene_at}
 use Rattle.tip_scene.specs.declared.stage.Stage.TheVariants.{Playing as AtWork}
 use Rattle.tip_scene.proofs.Leaving.{fault_at_work, of_rest}
 use Rattle.tip_scene.proofs.Staging.{obeys_first, plays_on}
+use Rattle.tip_scene.proofs.Wanting.{enough_at_work}
+use Rattle.tip_scene.specs.Wanting.{wanted_by}
 use Rattle.tip_scene.proofs.stage.Stage+Declared+S+Playing+StoredCore+S.obey.Goals as goal
 
 pub returns-in-Declaring-clause-acts : goal.returns-in-Declaring-clause-acts
@@ -20,13 +22,23 @@ pub returns-in_ok-playing-in-Playing-clause-acts : goal.returns-in_ok-playing-in
 returns-in_ok-playing-in-Playing-clause-acts g c = λ basis now is may boxes covers. plays_on g.S.RowLog.keeping basis c.in-Playing.playing c.in_ok-playing-in-Playing.playing (string_bytes c.args.printed.now) (string_bytes c.act.new.printed) (move_by c.args.instruction) now (subst (λ s. IsStage g.S.RowLog.keeping basis s now) c.in-Playing.is is) (λ scene kept. c.in_ok-playing-in-Playing.ensures.moves scene kept may boxes)
 
 pub returns-in_err-playing-in-Playing-clause-blames : goal.returns-in_err-playing-in-Playing-clause-blames
-returns-in_err-playing-in-Playing-clause-blames g c = λ may basis stage is.
+returns-in_err-playing-in-Playing-clause-blames g c = λ may basis stage is enough.
     let e = err_from_is_err_and c.from_residual.result c.from_residual.ensures.1 in
-    rw (e.1, e.2) (subst (λ s. Accuses g.S.RowLog.keeping Store (IsBlamed g.S.RowLog.keeping basis (store_of s)) (HadTooFew g.S.RowLog.keeping basis) c.in_err-playing-in-Playing.field-0.0) (sym c.in-Playing.is) (play_accused g.S.RowLog.keeping Store basis c.in-Playing.playing stage _ c.in_err-playing-in-Playing.field-0.0 (subst (λ s. IsStage g.S.RowLog.keeping basis s stage) c.in-Playing.is is) (λ scene kept. c.in_err-playing-in-Playing.ensures.blames may scene kept)))
+    let kept = g.S.RowLog.keeping in
+    let boxes = length c.args.pool.now.items in
+    let move = move_by c.args.instruction in
+    rw (e.1, e.2) (subst (λ s. Accuses kept Store (IsBlamed kept basis (store_of s)) c.in_err-playing-in-Playing.field-0.0) (sym c.in-Playing.is)
+    (play_accused kept Store basis c.in-Playing.playing stage (λ now. wanted_by basis now (Some move) ≤ boxes) c.in_err-playing-in-Playing.field-0.0 (subst (λ s. IsStage kept basis s stage) c.in-Playing.is is) enough
+    (λ scene stands fit. c.in_err-playing-in-Playing.ensures.blames may scene stands (enough_at_work basis move scene boxes fit))))
 
 pub returns-in-Declaring-clause-blames : goal.returns-in-Declaring-clause-blames
 returns-in-Declaring-clause-blames g c = λ may basis stage is.
-    subst (λ s. Blames g.S.RowLog.keeping Store (IsBlamed g.S.RowLog.keeping basis (store_of s)) (HadTooFew g.S.RowLog.keeping basis) c.declare.result) (sym c.in-Declaring.is) (of_declared g.S.RowLog.keeping basis c.in-Declaring.declared stage (subst (λ s. IsStage g.S.RowLog.keeping basis s stage) c.in-Declaring.is is) (λ declarations declared. c.declare.ensures.blames may basis declarations declared))
+    let kept = g.S.RowLog.keeping in
+    let boxes = length c.args.pool.now.items in
+    let move = move_by c.args.instruction in
+    let declared = c.in-Declaring.declared in
+    subst (λ s. wanted_by basis stage (Some move) ≤ boxes → Blames kept Store (IsBlamed kept basis (store_of s)) c.declare.result) (sym c.in-Declaring.is)
+    (declared_at kept basis declared stage (λ now. wanted_by basis now (Some move) ≤ boxes → Blames kept Store (IsBlamed kept basis declared.store) c.declare.result) (subst (λ s. IsStage kept basis s stage) c.in-Declaring.is is) (λ declarations stands. c.declare.ensures.blames may basis declarations stands))
 
 pub returns-in-Declaring-clause-leaves : goal.returns-in-Declaring-clause-leaves
 returns-in-Declaring-clause-leaves g c = λ basis stage is may boxes.

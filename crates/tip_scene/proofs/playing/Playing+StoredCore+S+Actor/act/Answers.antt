@@ -1,0 +1,17 @@
+-- There are boxes for all realms, or for the one that the line names.
+use Rattle.std.proofs.Common.{◌∙◌, Err, ap, length, option_map, subst, sym}
+use Rattle.tip_script.specs.Moves.{move_by}
+use Rattle.tip_scene.specs.Acts.{Playing}
+use Rattle.tip_scene.specs.Blaming.{IsAtFault}
+use Rattle.tip_scene.proofs.Wanting.{enough_for_all}
+use Rattle.tip_scene.proofs.playing.Playing+StoredCore+S+Actor.act.Goals as goal
+
+pub returns-in_default-clause-blames : goal.returns-in_default-clause-blames
+returns-in_default-clause-blames g c = λ may scene is enough.
+    let all = sym c.realm.ensures ∙ ap (option_map (λ realm. realm.now)) c.in_default.is in
+    c.restart.ensures.blames scene is (enough_for_all (move_by c.args.instruction) scene (length c.args.pool.now.items) all enough)
+
+pub returns-in-Err-clause-blames : goal.returns-in-Err-clause-blames
+returns-in-Err-clause-blames g c = λ may scene is enough bad truth.
+    let kept = g.S.RowLog.keeping in
+    subst (IsAtFault kept c.args.self.stored_core.store (Playing scene)) (sym c.shut.ensures) (c.in-Err.ensures.blames may scene is enough (subst kept.is_true c.shut.ensures truth) (ap Err bad))
