@@ -1,4 +1,4 @@
-"""Copies of the repository in which a script may change files."""
+"""Copies of the repository in which a script may change files, or add a crate that the gate leaves out."""
 import contextlib
 import pathlib
 import shutil
@@ -19,3 +19,16 @@ def copied(prefix):
         for name in ("crates.txt", "HANDLES"):
             shutil.copy(TOP / name, copy / name)
         yield copy
+
+
+def placed(copy, texts, needs):
+    """One more crate of a copy. Its files stand in a folder with `.txt` behind their names, since the gate takes each file of the
+    language for one of a crate that it proves; `needs` is what its line of `crates.txt` has behind the name."""
+    crate = copy / "crates" / texts.name
+    for text in (it for it in texts.rglob("*") if it.is_file()):
+        file = crate / text.relative_to(texts).with_name(text.name.removesuffix(".txt"))
+        file.parent.mkdir(parents=True, exist_ok=True)
+        shutil.copy(text, file)
+    with (copy / "crates.txt").open("a") as crates:
+        crates.write(f"{texts.name}: {needs}\n")
+    return crate
