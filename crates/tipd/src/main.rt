@@ -1,25 +1,17 @@
 //! `tipd`: the command line, and the input and output of the process.
 #![tactic(auto)]
 
-mod asking;
-mod checking;
 mod serving;
-mod settings;
-mod store;
 
-use crate::asking::{ask_control, ping, query, send, settle};
-use crate::checking::check;
 use crate::serving::{Setting, serve, serve_in};
-use crate::store::{list_store, play_in_store};
 use clap::Error;
 use clap::error::ErrorKind;
-use std::env;
 use std::fmt::Display;
-use std::io::{self, BufReader, BufWriter};
 use std::process::ExitCode;
+use std::{env, io};
 use tip_duties::ServeFault;
-use tip_history::play;
 use tip_listing::RowsFault;
+use tip_orders::{ask_control, check, list_store, ping, play_all, query, send, settle};
 use tip_play::PlayFault;
 use tip_words::{Order, read_words};
 
@@ -63,17 +55,6 @@ fn end_words(rt: &HostRuntime, error: Error) -> ExitCode {
         Err(_) if status == 0 => end_play(rt, Err(PlayFault::Write)),
         _ => ExitCode::from(status),
     }
-}
-
-/// Plays standard input to standard output, over the store in this file, or over rows in memory.
-fn play_all(rt: &HostRuntime, store: Option<&str>) -> Result<(), PlayFault> {
-    if let Some(path) = store {
-        return play_in_store(rt, path);
-    }
-    let alloc = rt.alloc();
-    let mut input = BufReader::new(alloc, rt.stdin()).map_err(|_| PlayFault::Memory)?;
-    let mut output = BufWriter::new(alloc, io::writer(rt)).map_err(|_| PlayFault::Memory)?;
-    play(alloc, &mut input, &mut output)
 }
 
 /// The words of the command line.

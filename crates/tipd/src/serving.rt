@@ -1,5 +1,4 @@
 //! The server's configuration, and its store. As with scripts, what is done with the store is said of one of any kind.
-use crate::settings::{SettingFault, settings_in};
 use sqlite::{Alter, Connection, Error, ErrorCode, File, FileStore};
 use std::alloc::Global;
 use std::net::{Net, TcpListener, TcpStream};
@@ -8,6 +7,7 @@ use std::thread::Threads;
 use std::time::Clock;
 use std::{fs, io};
 use tip_duties::{Note, ServeFault};
+use tip_orders::{SettingFault, settings_in};
 use tip_rows::MemRows;
 use tip_serve::host_realms;
 use tip_settings::Config;
