@@ -21,14 +21,14 @@ def copied(prefix):
         yield copy
 
 
-def placed(copy, texts, needs):
+def placed(copy, texts):
     """One more crate of a copy. Its files stand in a folder with `.txt` behind their names, since the gate takes each file of the
-    language for one of a crate that it proves; `needs` is what its line of `crates.txt` has behind the name."""
+    language for one of a crate that it proves; the folder's file `line` is its line of `crates.txt`."""
     crate = copy / "crates" / texts.name
-    for text in (it for it in texts.rglob("*") if it.is_file()):
+    for text in (it for it in texts.rglob("*") if it.is_file() and it.name != "line"):
         file = crate / text.relative_to(texts).with_name(text.name.removesuffix(".txt"))
         file.parent.mkdir(parents=True, exist_ok=True)
         shutil.copy(text, file)
     with (copy / "crates.txt").open("a") as crates:
-        crates.write(f"{texts.name}: {needs}\n")
+        crates.write((texts / "line").read_text())
     return crate
