@@ -1,11 +1,9 @@
 -- From the shared tables to the realms that they stand for.
 use Rattle.std.proofs.Common.{◌≡◌, ℕ, ◌<◌, ◌≤◌, zero, suc, Bool, true, false, cond, List, [], ◌∷◌, length, map, Option, Some, None, refl, ap, arith, ◌∙◌, sym, subst, inl, inr}
-use Rattle.std.specs.Prelude.{nat_le, slice_get, slice_index_or, option_map}
+use Rattle.std.specs.Prelude.{slice_get, slice_index_or, option_map}
 use Rattle.std.specs.List.{All}
-use Rattle.std.specs.Option.{option_and_then}
 use Rattle.std.proofs.lemmas.Option.{slice_get_past, slice_get-get_or, slice_get-map, same_Some, none-some}
 use Rattle.std.proofs.lemmas.Bool.{cases_lt, cases_eq}
-use Rattle.std.proofs.lemmas.Bool.Decides.{nat_tests}
 use Rattle.tip_line.specs.declared.refusal.Refusal.{Refusal}
 use Rattle.tip_line.specs.declared.refusal.Refusal.TheVariants.{Frozen, NoRealm}
 use Rattle.std.proofs.lemmas.List.{length-map}
@@ -13,16 +11,15 @@ use Rattle.std.proofs.lemmas.List.Elements.{All-head, All-nil, All-tail}
 use Rattle.tip_machine.specs.Counts.{HasCounts, IsBelow}
 use Rattle.tip_machine.specs.Given.{are_numbered}
 use Rattle.tip_machine.specs.Heads.{starting}
-use Rattle.tip_machine.specs.Order.{AreFor, in_turn, ordered, put_in, turn, turn_of}
-use Rattle.tip_machine.specs.States.{State, connection_of, started}
+use Rattle.tip_machine.specs.Order.{concerned, in_turn, ordered, turn}
+use Rattle.tip_machine.specs.States.{State, started}
 use Rattle.tip_machine.specs.Steps.{attempt, chosen, entered, frozen, is_open, nowhere, returned, step}
 use Rattle.tip_machine.specs.Types.{Answer, Event, seen}
-use Rattle.tip_machine.specs.declared.answer.Sent.{Sent}
 use Rattle.tip_machine.specs.declared.event.Event.TheVariants.{AskPull, AskPush, Dial, Line, Lost, Open, Resume, Settled, Voted}
 use Rattle.tip_machine.specs.declared.event.Outcome.{Outcome}
 use Rattle.tip_machine.specs.declared.head.Head.{Head}
 use Rattle.tip_machine.specs.declared.head.Start.{Start}
-use Rattle.tip_machine.proofs.Alone.{is_told_alone}
+use Rattle.tip_machine.proofs.Concerning.{tells_those}
 use Rattle.tip_machine.proofs.Counting.{counts_stay}
 use Rattle.tip_machine.proofs.Identifiers.{none_numbered}
 use Rattle.tip_table.specs.Kept.{of}
@@ -31,7 +28,7 @@ use Rattle.tip_core.specs.Hosted.{HasEpoch, Hosted, IsRoomFor, Steps, realm}
 use Rattle.tip_core.specs.Ordering.{AreKnown}
 use Rattle.tip_rules.specs.Makings.{Made}
 use Rattle.tip_rules.specs.Needs.{Granted, HasNeeds, Suits, happened}
-use Rattle.tip_outlook.specs.Turns.{turn_at, turn_in}
+use Rattle.tip_outlook.specs.Turns.{turn_in}
 use Rattle.tip_outlook.specs.declared.turns.Turn.{Turn}
 use Rattle.tip_rules.specs.Works.{Does, HaveCounts, Realms, no_head, state_in, working}
 
@@ -64,17 +61,6 @@ inside realms turns place state is = elim (cases_lt place (length realms.heads.i
 abbrev pub in_order : List Turn → Answer → Answer
 in_order turns answer = record answer { sent = in_turn (turn_in turns) answer.sent }
 
--- what goes to one connection is in turn as it was said
-in_turn_alone : (turn : Sent → ℕ) → ((one other : Sent) → one.connection ≡ other.connection → turn one ≡ turn other) → (number : ℕ) (sent : List Sent) → AreFor number sent → in_turn turn sent ≡ sent
-in_turn_alone turn by number [] all = refl
-in_turn_alone turn by number (x ∷ xs) all = ap (put_in turn x) (in_turn_alone turn by number xs all.1) ∙ first xs all.1 where
-  first : (rest : List Sent) → AreFor number rest → put_in turn x rest ≡ x ∷ rest
-  first [] none = refl
-  first (y ∷ ys) them =
-      let same = by x y (all.0 ∙ sym them.0) in
-      let before : nat_le (turn x) (turn y) ≡ true = grind (arith, nat_tests, same) in
-      rw before refl
-
 -- what is turned down tells nobody
 returned_in_order : (turns : List Turn) (why : Refusal) (event : Event) → record (returned why event) { sent = in_turn (turn_in turns) (returned why event).sent } ≡ returned why event
 returned_in_order turns why (Open boxes) = refl
@@ -90,12 +76,9 @@ returned_in_order turns why (Resume id) = refl
 module _ (state : State) (event : Event) (outcome : Outcome) where
   -- what the event tells is in turn by what is known of turns
   told_in_order : (turns : List Turn) → are_numbered state ≡ true → AreKnown state event turns → let told = (chosen (attempt event (entered state)) outcome).answer.sent in in_turn (turn_in turns) told ≡ in_turn (turn state) told
-  told_in_order turns numbered (inl alone) =
+  told_in_order turns numbered known =
       let told = (chosen (attempt event (entered state)) outcome).answer.sent in
-      let is = is_told_alone state event outcome alone in
-      in_turn_alone (turn_in turns) (λ one other same. ap (turn_at turns) same) is.0 told is.1
-      ∙ sym (in_turn_alone (turn state) (λ one other same. ap (λ n. turn_of (option_and_then (λ connection. connection.role) (connection_of n state))) same) is.0 told is.1)
-  told_in_order turns numbered (inr all) = let told = (chosen (attempt event (entered state)) outcome).answer.sent in ap (λ (known : List Turn). in_turn (turn_in known) told) all ∙ in_turn_of_state state told numbered
+      ap (λ (notes : List Turn). in_turn (turn_in notes) told) known ∙ in_turn_of_state (concerned state event) state told numbered (tells_those state event outcome numbered)
 
   pub answers_in_order : (turns : List Turn) → are_numbered state ≡ true → AreKnown state event turns → in_order turns (happened state event outcome).answer ≡ (step state event outcome).answer
   unfolding ordered

@@ -303,7 +303,7 @@ fn heads_of(alloc: Global, starts: Vec<Start>) -> Result<Vec<Head>, AllocError>
     Ok(heads)
 }
 
-/// Notes the turns of a realm's connections, where an event may tell more than one of them.
+/// Notes the turns of the connections that are on the transactions which an event concerns.
 fn note_turns(turns: &mut Turns, realms: &Realms, realm: usize, event: &Event)
     requires here { realm < length realms.now.heads.items }
     requires counts { HasCounts (state_in realm realms.now) }
@@ -311,7 +311,6 @@ fn note_turns(turns: &mut Turns, realms: &Realms, realm: usize, event: &Event)
     ensures turns { AreKnown (state_in realm realms.now) event.now turns.new.turns }
     ensures room { turns.new.capacity ≡ turns.old.capacity }
 {
-    if !realms.is_alone(realm, event) {
-        turns.note(realm, &realms.connections);
-    }
+    let concerned = realms.concerned(realm, event);
+    turns.note(realm, &realms.connections, concerned);
 }

@@ -11,7 +11,7 @@ use Rattle.tip_line.specs.declared.refusal.Refusal.TheVariants.{Full, Stale, Bus
 use Rattle.tip_rows.specs.Keys.{Key}
 use Rattle.tip_txn.specs.Parts.{answered}
 use Rattle.tip_machine.specs.Types.{Connection, Event, PartyPlace, Transaction}
-use Rattle.tip_machine.specs.Connections.{is_free, may_take}
+use Rattle.tip_machine.specs.Connections.{is_free, key_of, may_take}
 use Rattle.tip_machine.specs.Transactions.{has_id, has_ready, is_active, is_committed, is_done, is_known, next_key, standing_at, party_answer}
 use Rattle.tip_machine.specs.States.{Attempt, State, Work, connection_of, has_room, identified_by, seated}
 use Rattle.tip_machine.specs.Changes.{alter, refuse}
@@ -24,7 +24,7 @@ use Rattle.tip_machine.specs.declared.event.Heard.{Heard}
 use Rattle.tip_machine.specs.declared.event.Seat.{Seat}
 use Rattle.tip_machine.specs.declared.transaction.PartyPlace.TheVariants.{Here, Out, Spent}
 use Rattle.tip_machine.specs.declared.transaction.Origin.TheVariants as origin
-use Rattle.tip_machine.proofs.Walks.{Closed, EndsAtOne, EndsOn, Is, at_one, either, either_attempt, found_passes, is_or_any, key_of, or_any, seated_there}
+use Rattle.tip_machine.proofs.Walks.{Closed, EndsAtOne, EndsOn, Is, at_one, either, either_attempt, found_passes, is_or_any, or_any, seated_there}
 use Rattle.tip_machine.proofs.RuleWalks.{dispatch-keeps, enlisting-keeps, fail-keeps, finish-keeps, noting-keeps, send-keeps, proceed-keeps, taking-keeps}
 use Rattle.tip_machine.proofs.EventWalks.{is_heard}
 

@@ -14,7 +14,7 @@ use Rattle.tip_conn.specs.declared.state.Side.TheVariants.{Primary, Secondary}
 use Rattle.tip_rows.specs.Keys.{Key}
 use Rattle.tip_txn.specs.declared.part.Participant.{Participant}
 use Rattle.tip_machine.specs.Types.{Connection, Transaction}
-use Rattle.tip_machine.specs.Connections.{advanced}
+use Rattle.tip_machine.specs.Connections.{advanced, key_of}
 use Rattle.tip_machine.specs.Transactions.{is_committed, is_decided_at, noting, subordinate_of}
 use Rattle.tip_machine.specs.States.{Work, connection_of, identified_by, transaction_of}
 use Rattle.tip_machine.specs.Changes.{alter, change}
@@ -31,7 +31,7 @@ use Rattle.tip_machine.specs.declared.event.Heard.{Heard}
 use Rattle.tip_machine.specs.declared.event.Heard.TheVariants.{Command as ACommand, Response as AResponse}
 use Rattle.tip_machine.specs.declared.transaction.Origin.{Origin}
 use Rattle.tip_machine.specs.declared.transaction.Origin.TheVariants as origin
-use Rattle.tip_machine.proofs.Walks.{AtOne, Closed, EndsAtOne, EndsOn, Is, at_one, attempt_on_each, either, either_attempt, is_or_any, key_of, or_any}
+use Rattle.tip_machine.proofs.Walks.{AtOne, Closed, EndsAtOne, EndsOn, Is, at_one, attempt_on_each, either, either_attempt, is_or_any, or_any}
 use Rattle.tip_machine.proofs.RuleWalks.{abort-keeps, closed-keeps, closes, goes_wrong, is_commanded, advanced-made, advanced-number, noting-keeps, send-keeps, proceed-keeps, taking-keeps, wrong-keeps}
 
 -- does a response say that a transaction is not there?
@@ -55,7 +55,7 @@ module _ (R : Work → Work → Type 0) (May : ℕ → Type 0) (On : Key → Typ
   abort_as-keeps (Some (Superior key)) w on = abort-keeps R May On k key w on
   abort_as-keeps (Some (Subordinate key part)) w on = abort-keeps R May On k key w on
 
-  go_on-keeps : (command : CommandName) (response : ResponseName) (c : Connection) (w : Work) → May c.number → R w (go_on command response c w)
+  pub go_on-keeps : (command : CommandName) (response : ResponseName) (c : Connection) (w : Work) → May c.number → R w (go_on command response c w)
   go_on-keeps command response c w may = k.changes c.number (advanced command response) w may (advanced-number command response) (advanced-made command response)
 
   module _ (c : Connection) (may : May c.number) (on : IfSome (key_of c.role) On) where

@@ -20,7 +20,7 @@ use Rattle.tip_rows.proofs.OrderLemmas.{same_key}
 use Rattle.tip_table.specs.Lists.{changed, without}
 use Rattle.tip_machine.specs.Types.{Answer, Connection, Event, PartyPlace, Transaction}
 use Rattle.tip_machine.specs.Answers.{key_asked, key_in, key_said, response_name}
-use Rattle.tip_machine.specs.Connections.{accepted, asks_for, awaiting, dialled, has_number, is_on, is_superior_of, advanced, names}
+use Rattle.tip_machine.specs.Connections.{accepted, awaiting, dialled, has_number, is_on, is_superior_of, advanced}
 use Rattle.tip_machine.specs.Transactions.{begun, has_key, next_key, standing_at}
 use Rattle.tip_machine.specs.States.{Attempt, State, Work, connection_of, has_place, seated, transaction_of}
 use Rattle.tip_machine.specs.Changes.{alter, change, end, refuse, tell}
@@ -45,7 +45,7 @@ use Rattle.tip_machine.specs.declared.event.Outcome.TheVariants.{NoChange, Store
 use Rattle.tip_machine.specs.declared.event.Seat.{Seat}
 use Rattle.tip_machine.specs.declared.transaction.Origin.{Origin}
 use Rattle.tip_machine.specs.declared.transaction.PartyPlace.TheVariants.{Here, Out, Spent}
-use Rattle.tip_machine.proofs.Walks.{Closed, EndsAtOne, Is, IsPlain, either, or_any, seated-number}
+use Rattle.tip_machine.proofs.Walks.{Closed, EndsAtOne, Is, IsPlain, either, or_any, seated-number, superior-on}
 use Rattle.tip_machine.proofs.Lists.{find-added, find-changed, find-without, none-changed, none-map, none-without}
 use Rattle.tip_machine.proofs.RuleWalks.{advanced-number}
 use Rattle.tip_machine.proofs.AttemptWalks.{attempt-goes, each_event, is_opening}
@@ -84,7 +84,7 @@ module _ (P : Connection → Type 0) (c : Connection) (same : P c) where
 pub number-reacted : (key : Key) (reaction : Reaction) (c : Connection) → (reacted reaction key c).connection.number ≡ c.number
 number-reacted key reaction c = reacted-keeps (λ d. d.number ≡ c.number) c refl reaction key (λ command response. advanced-number command response c) (λ awaited. refl)
 
-stays_off : (b : Bool) (this : Reacted) (c : Connection) → b ≡ false → (cond b this (stays c)).connection ≡ c
+pub stays_off : (b : Bool) (this : Reacted) (c : Connection) → b ≡ false → (cond b this (stays c)).connection ≡ c
 stays_off true this c off = absurd (cc)
 stays_off false this c off = refl
 
@@ -126,12 +126,7 @@ module _ (key : Key) (reaction : Reaction) (n : ℕ) where
       off-after (has_number n c) (is_on key (become c)) (has_number n (become c)) (number-become c)
       (λ is. ap (is_on key) (reacted_off key reaction n c off is) ∙ off_first (has_number n c) (is_on key c) off is)
 
--- The connection of a superior is on its transaction
-
-superior-on : (key : Key) (role : Option Role) → asks_for key role ≡ true → names key role ≡ true
-superior-on key None asks = absurd (cc)
-superior-on key (Some (Superior other)) asks = asks
-superior-on key (Some (Subordinate other part)) asks = absurd (cc)
+-- The connection of a superior
 
 there_absurd : (key : Key) (n : ℕ) (d : Connection) → n ≡ d.number → is_on key d ≡ true → is_there key n d ≡ false → ⊥
 there_absurd key n d same on off = grind (arith, nat_tests, same, on, off)

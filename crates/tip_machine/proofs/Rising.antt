@@ -103,7 +103,7 @@ changed_twice n f g (c ∷ cs) same = step (has_number n c) refl (changed_twice 
 
 -- Numbers tell connections apart
 
-own_number : (n : ℕ) → (n == n) ≡ true
+pub own_number : (n : ℕ) → (n == n) ≡ true
 own_number n = grind (arith, nat_tests)
 
 numbers_above : (least : ℕ) (test : Connection → Bool) (cs : List Connection) (more : List ℕ) (c : Connection) → find test cs ≡ Some c → list_all (nat_lt least) (numbers_of cs ++ more) ≡ true → nat_lt least c.number ≡ true

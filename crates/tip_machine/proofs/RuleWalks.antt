@@ -26,7 +26,7 @@ use Rattle.tip_txn.specs.declared.answer.Phase.TheVariants as phase
 use Rattle.tip_txn.specs.declared.part.Participant.{Participant}
 use Rattle.tip_machine.specs.Types.{Connection, PartyPlace, Transaction}
 use Rattle.tip_machine.specs.Answers.{key_asked, key_said, response_name}
-use Rattle.tip_machine.specs.Connections.{is_on, is_superior_of, advanced, advanced_to, identified, awaiting, owing, taking}
+use Rattle.tip_machine.specs.Connections.{is_on, is_superior_of, key_of, advanced, advanced_to, identified, awaiting, owing, taking}
 use Rattle.tip_machine.specs.Transactions.{decision_of, enlisting, entering, has_key, has_ready, is_active, is_done, is_known, is_prepared, is_spent, next_key, noting}
 use Rattle.tip_machine.specs.States.{Attempt, State, Work, connection_of, has_room, identified_by, transaction_of}
 use Rattle.tip_machine.specs.Changes.{alter, change, end, reply, send, tell}
@@ -44,7 +44,7 @@ use Rattle.tip_machine.specs.declared.connection.Role.TheVariants.{Superior, Sub
 use Rattle.tip_machine.specs.declared.transaction.Origin.{Origin}
 use Rattle.tip_machine.specs.declared.transaction.Origin.TheVariants as origin
 use Rattle.tip_machine.specs.declared.transaction.PartyPlace.TheVariants.{Here, Out, Spent}
-use Rattle.tip_machine.proofs.Walks.{AtOne, Closed, EndsAtOne, EndsOn, Is, IsHere, IsPlain, at_one, attempt_on_each, either, either_attempt, found_changed, found_passes, is_or_any, key_of, more_on, on_asked, on_each, on_found, or_any, there_by_key}
+use Rattle.tip_machine.proofs.Walks.{AtOne, Closed, EndsAtOne, EndsOn, Is, IsHere, IsPlain, at_one, attempt_on_each, either, either_attempt, found_changed, found_passes, is_or_any, more_on, on_asked, on_each, on_found, or_any, there_by_key}
 
 advanced_to-number : (place : Option (ConnectionState × Turn)) (c : Connection) → (advanced_to place c).number ≡ c.number
 advanced_to-number None c = refl
@@ -291,11 +291,11 @@ module _ (R : Work → Work → Type 0) (May : ℕ → Type 0) (On : Key → Typ
   take_over-keeps key n None w is may on = reconnected-keeps key n w may
   take_over-keeps key n (Some c) w is may on = closed_earlier key c w _ on is (reconnected-keeps key n w may)
 
-  reconnect_to-keeps : (found : Option Transaction) (n : ℕ) (w : Work) → May n → IfSome found (λ t. On t.key) → R w (reconnect_to found n w)
+  pub reconnect_to-keeps : (found : Option Transaction) (n : ℕ) (w : Work) → May n → IfSome found (λ t. On t.key) → R w (reconnect_to found n w)
   reconnect_to-keeps None n w may on = reply-keeps n _ _ w may tt
   reconnect_to-keeps (Some t) n w may on = either (R w) (is_prepared t.phase) (take_over t.key n (find (is_superior_of t.key) w.state.connections) w) _ (take_over-keeps t.key n _ w refl may on) (reply-keeps n _ _ w may tt)
 
-  prepare-keeps : (phase : Phase) (peer : Option (List ℕ)) (c : Connection) (t : Transaction) (w : Work) → On t.key → transaction_of t.key w.state ≡ Some t → EndsOn On (R w) (prepare phase peer c t w)
+  pub prepare-keeps : (phase : Phase) (peer : Option (List ℕ)) (c : Connection) (t : Transaction) (w : Work) → On t.key → transaction_of t.key w.state ≡ Some t → EndsOn On (R w) (prepare phase peer c t w)
   prepare-keeps phase.Active (Some address) c t w on is = ask-keeps t w on is
   prepare-keeps phase.Active None c t w on is = abort-keeps t.key w on
   prepare-keeps phase.Asking peer c t w on is = k.same w
@@ -303,14 +303,14 @@ module _ (R : Work → Work → Type 0) (May : ℕ → Type 0) (On : Key → Typ
   prepare-keeps phase.Committed peer c t w on is = k.same w
   prepare-keeps phase.Aborted peer c t w on is = abort-keeps t.key w on
 
-  decide_commit-keeps : (phase : Phase) (c : Connection) (t : Transaction) (w : Work) → May c.number → IfSome (key_of c.role) On → On t.key → transaction_of t.key w.state ≡ Some t → EndsOn On (R w) (decide_commit phase c t w)
+  pub decide_commit-keeps : (phase : Phase) (c : Connection) (t : Transaction) (w : Work) → May c.number → IfSome (key_of c.role) On → On t.key → transaction_of t.key w.state ≡ Some t → EndsOn On (R w) (decide_commit phase c t w)
   decide_commit-keeps phase.Active c t w may role on is = ask-keeps t w on is
   decide_commit-keeps phase.Asking c t w may role on is = k.same w
   decide_commit-keeps phase.Prepared c t w may role on is = (on, commit-keeps t.key w on, closed-keeps c w may role)
   decide_commit-keeps phase.Committed c t w may role on is = k.same w
   decide_commit-keeps phase.Aborted c t w may role on is = abort-keeps t.key w on
 
-  decide_abort-keeps : (phase : Phase) (c : Connection) (t : Transaction) (w : Work) → May c.number → IfSome (key_of c.role) On → On t.key → EndsOn On (R w) (decide_abort phase c t w)
+  pub decide_abort-keeps : (phase : Phase) (c : Connection) (t : Transaction) (w : Work) → May c.number → IfSome (key_of c.role) On → On t.key → EndsOn On (R w) (decide_abort phase c t w)
   decide_abort-keeps phase.Active c t w may role on = abort-keeps t.key w on
   decide_abort-keeps phase.Asking c t w may role on = k.same w
   decide_abort-keeps phase.Prepared c t w may role on = (on, abort-keeps t.key w on, closed-keeps c w may role)

@@ -10,7 +10,7 @@ use Rattle.tip_rows.specs.Keys.{Key}
 use Rattle.tip_rows.proofs.OrderLemmas.{same_key}
 use Rattle.tip_table.specs.Lists.{changed, without}
 use Rattle.tip_machine.specs.Types.{Connection, Transaction}
-use Rattle.tip_machine.specs.Connections.{asks_for, has_number, is_superior_of}
+use Rattle.tip_machine.specs.Connections.{asks_for, has_number, is_superior_of, key_of, names}
 use Rattle.tip_machine.specs.Transactions.{has_id, has_key, next_key, standing_at}
 use Rattle.tip_machine.specs.States.{Attempt, State, Work, connection_of, seated, transaction_of}
 use Rattle.tip_line.specs.declared.command.CommandName.{CommandName}
@@ -138,11 +138,11 @@ seated_there seat state c is = subst (λ n. find (has_number n) state.connection
 pub on_found : (On : Key → Type 0) (key : Key) (ts : List Transaction) (t : Transaction) → find (has_key key) ts ≡ Some t → On key → On t.key
 on_found On key ts t is on = subst On (same_key key t.key (found_passes (has_key key) ts t is)) on
 
--- the transaction of a role
-abbrev pub key_of : Option Role → Option Key
-key_of None = None
-key_of (Some (Superior key)) = Some key
-key_of (Some (Subordinate key part)) = Some key
+-- the connection of a superior is on its transaction
+pub superior-on : (key : Key) (role : Option Role) → asks_for key role ≡ true → names key role ≡ true
+superior-on key None asks = absurd (cc)
+superior-on key (Some (Superior other)) asks = asks
+superior-on key (Some (Subordinate other part)) asks = absurd (cc)
 
 pub on_asked : (On : Key → Type 0) (key : Key) (role : Option Role) → asks_for key role ≡ true → On key → IfSome (key_of role) On
 on_asked On key None asks on = absurd (cc)

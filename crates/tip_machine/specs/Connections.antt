@@ -97,6 +97,18 @@ is_free connection = connection.dialled && is_idle connection.state && is_none c
 abbrev pub awaiting : Awaited → Connection → Connection
 awaiting response connection = record connection { awaited = Some response }
 
+-- the transaction that a connection asks for
+abbrev pub key_queried : Option Awaited → Option Key
+key_queried None = None
+key_queried (Some (awaited.Identify purpose)) = None
+key_queried (Some awaited.Push) = None
+key_queried (Some awaited.Pull) = None
+key_queried (Some awaited.Prepare) = None
+key_queried (Some awaited.Commit) = None
+key_queried (Some awaited.Abort) = None
+key_queried (Some (awaited.Query key)) = Some key
+key_queried (Some awaited.Reconnect) = None
+
 -- a response is owed to this command
 abbrev pub owing : CommandName → Connection → Connection
 owing command connection = record connection { owed = Some command }
@@ -107,6 +119,12 @@ abbrev pub names : Key → Option Role → Bool
 names key None = false
 names key (Some (Superior other)) = is_same key other
 names key (Some (Subordinate other part)) = is_same key other
+
+-- the transaction that a connection of this role is on
+abbrev pub key_of : Option Role → Option Key
+key_of None = None
+key_of (Some (Superior key)) = Some key
+key_of (Some (Subordinate key part)) = Some key
 
 -- is the connection on the transaction of this key?
 abbrev pub is_on : Key → Connection → Bool

@@ -1,6 +1,6 @@
 //! A connection of a realm.
-ghost use Rattle.std.specs.Prelude.{◌≡◌, IfOk};
-ghost use Rattle.tip_machine.specs.Connections.{accepted, identified, may_take, advanced, turned};
+ghost use Rattle.std.specs.Prelude.{◌≡◌, IfOk, Some};
+ghost use Rattle.tip_machine.specs.Connections.{accepted, identified, key_of, may_take, advanced, turned};
 
 use std::alloc::AllocError;
 use tip_branch::HeldFresh;
@@ -16,6 +16,18 @@ pub enum Role {
     Superior(Key),
     /// We ask one of our subordinates on it.
     Subordinate { key: Key, part: Part },
+}
+
+impl Role {
+    /// The transaction.
+    pub fn key(self) -> Key
+        ensures { key_of (Some self) ≡ Some result }
+    {
+        match self {
+            Role::Superior(key) => key,
+            Role::Subordinate { key, part: _ } => key,
+        }
+    }
 }
 
 /// What a connection that we open is for, once it is identified.

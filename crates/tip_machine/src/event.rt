@@ -99,6 +99,15 @@ pub enum Event<B = HeldFresh, P = HeldParty> {
     },
 }
 
+/// The transactions that an event concerns: of the connections that are on a transaction, it tells those on these alone.
+#[derive(Clone, Copy, Debug, PartialEq, Eq)]
+pub struct Concerned {
+    /// The own one of the connection that the event comes on.
+    pub own: Option<Key>,
+    /// One that the event names.
+    pub named: Option<Key>,
+}
+
 /// A change of the realm's stored rows.
 #[derive(Debug, Drop)]
 pub enum Change {

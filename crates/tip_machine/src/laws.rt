@@ -14,7 +14,7 @@ ghost use Rattle.tip_machine.specs.Counts.{HasCounts};
 ghost use Rattle.tip_machine.specs.Failing.{closed};
 ghost use Rattle.tip_machine.specs.Given.{are_numbered, was_given};
 ghost use Rattle.tip_machine.specs.Moves.{Move, World, fresh, led_to};
-ghost use Rattle.tip_machine.specs.Order.{AreFor, is_alone};
+ghost use Rattle.tip_machine.specs.Order.{IsAmong, concerned};
 ghost use Rattle.tip_machine.specs.Requests.{push_part, resume};
 ghost use Rattle.tip_machine.specs.Responses.{pursue};
 ghost use Rattle.tip_machine.specs.Returns.{Back, back_of, can_answer, is_done};
@@ -25,6 +25,7 @@ ghost use Rattle.tip_machine.specs.Transactions.{decision};
 ghost use Rattle.tip_machine.specs.Types.{Connection, Event};
 ghost use Rattle.tip_machine.specs.declared.answer.Said.TheVariants as said;
 ghost use Rattle.tip_line.specs.declared.refusal.Refusal.TheVariants.{NotActive};
+ghost use Rattle.tip_machine.specs.declared.answer.Sent.{Sent};
 ghost use Rattle.tip_machine.specs.declared.connection.Purpose.TheVariants as purpose;
 ghost use Rattle.tip_machine.specs.declared.event.Outcome.{Outcome};
 ghost use Rattle.tip_machine.specs.declared.event.Seat.{Seat};
@@ -83,12 +84,13 @@ pub fn at_most_one_transaction_changes()
         × IsOfKey key (wants state event) outcome }
 {}
 
-/// An event on a connection without a transaction tells that connection alone, but for the two that may concern others. So its
-/// lines are in turn as they were said, and nobody's turn needs to be known.
-#[tactic(auto, using(crate::proofs::Alone::is_told_alone))]
-pub fn an_event_of_no_transaction_tells_one_connection()
-    ensures { (state : State) (event : Event) (outcome : Outcome) → is_alone state event ≡ true →
-        (number : ℕ) × AreFor number (chosen (attempt event (entered state)) outcome).answer.sent }
+/// Of the connections that are on a transaction, as they were when the event came, it tells those alone that are on one that it
+/// concerns. So nobody else's turn needs to be known.
+#[tactic(auto, using(crate::proofs::Concerning::tells_those))]
+pub fn an_event_tells_those_whom_it_concerns()
+    ensures { (state : State) (event : Event) (outcome : Outcome) → are_numbered state ≡ true →
+        All (λ (sent : Sent). IsAmong (concerned state event) state sent.connection)
+        (chosen (attempt event (entered state)) outcome).answer.sent }
 {}
 
 /// An identifier is never made twice: a new transaction has a key that was not given before, that is given then, and that

@@ -12,6 +12,6 @@ mod transaction;
 
 pub use answer::{Answer, Asked, Item, Said, Sent, SentLines};
 pub use connection::{Awaited, Connection, Purpose, Role};
-pub use event::{Change, Event, Heard, Outcome, Seat};
+pub use event::{Change, Concerned, Event, Heard, Outcome, Seat};
 pub use head::{Head, Limits, Start, next_epoch};
 pub use transaction::{Origin, PartyPlace, Transaction};

@@ -219,18 +219,7 @@ pub fn is_on(role: Option<Role>, key: Key) -> bool
     ensures { result ≡ names key role }
 {
     match role {
-        Some(role) => is_role_on(role, key),
+        Some(role) => role.key() == key,
         None => false,
     }
-}
-
-/// Whether a role is one on the transaction of that key.
-fn is_role_on(role: Role, key: Key) -> bool
-    ensures { result ≡ names key (Some role) }
-{
-    let of = match role {
-        Role::Superior(of) => of,
-        Role::Subordinate { key: of, part: _ } => of,
-    };
-    of == key
 }

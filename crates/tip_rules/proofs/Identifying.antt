@@ -1,6 +1,6 @@
 -- How the transaction of an identifier is found.
 use Rattle.std.proofs.Common.{◌≡◌, ◌≢◌, ◌<◌, length, get_or, Bool, true, false, cond, ℕ, zero, suc, List, [], ◌∷◌, Option, Some, None, refl, ap, arith, sym, subst, ◌∙◌, ◌↔◌}
-use Rattle.std.specs.Prelude.{◌==◌, find, option_map}
+use Rattle.std.specs.Prelude.{◌==◌, find, map, option_map}
 use Rattle.std.specs.Option.{option_map_or}
 use Rattle.std.specs.Str.{bytes_eq}
 use Rattle.std.proofs.lemmas.Bool.{false_from_ne_true}
@@ -9,12 +9,13 @@ use Rattle.std.proofs.lemmas.Option.{same_Some}
 use Rattle.tip_branch.specs.Notes.{PartyNotes}
 use Rattle.tip_rows.specs.Keys.{Key, is_same}
 use Rattle.tip_rows.proofs.OrderLemmas.{same_key}
-use Rattle.tip_table.specs.Kept.{StandsAt, item_at, of}
+use Rattle.tip_table.specs.Kept.{Kept, StandsAt, item_at, of}
 use Rattle.tip_table.specs.Lists.{IsFirst}
 use Rattle.tip_table.proofs.Standing.{found as found_first}
 use Rattle.tip_machine.proofs.Walks.{found_passes}
 use Rattle.tip_machine.specs.Answers.{identifier}
 use Rattle.tip_machine.specs.Commands.{exists}
+use Rattle.tip_machine.specs.Order.{key_found}
 use Rattle.tip_machine.specs.Requests.{owner}
 use Rattle.tip_machine.specs.States.{identified_by, transaction_of}
 use Rattle.tip_machine.specs.declared.head.Head.{Head}
@@ -69,6 +70,19 @@ module _ (held : Held) (id : List ℕ) (place : ℕ) (item : HeldTransaction) (h
       ∙ sym (find-seen seen (has_key item.key) (of held.transactions held.realm) ∙ ap (option_map seen) (found_first held.transactions held.realm (is_keyed item.key) place named_key ∙ is))
 
 pub ruleset identifying = (named_key, named_same, sought_here, sought_none)
+
+-- its key alone
+module _ (transactions : Kept HeldTransaction) (realm : ℕ) (name id : List ℕ) where
+  key_so : (found : Option HeldTransaction) → find (is_named name id) (of transactions realm) ≡ found → key_found (find (has_id name id) (map seen (of transactions realm))) ≡ key_found (option_map seen found)
+  key_so found is = ap key_found (find-seen seen (has_id name id) (of transactions realm) ∙ ap (option_map seen) is)
+
+  pub key_none : find (is_named name id) (of transactions realm) ≡ None → None ≡ key_found (find (has_id name id) (map seen (of transactions realm)))
+  key_none none = sym (key_so None none)
+
+  pub key_there : (place : ℕ) (item : HeldTransaction) → StandsAt transactions realm (is_named name id) place → item_at transactions place ≡ Some item → Some item.key ≡ key_found (find (has_id name id) (map seen (of transactions realm)))
+  key_there place item here is = sym (key_so (Some item) (found_first transactions realm (is_named name id) place here ∙ is))
+
+pub ruleset keying = (key_none, key_there)
 
 -- By the superior that pushed it, or that it was pulled from
 

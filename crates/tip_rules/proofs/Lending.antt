@@ -1,14 +1,19 @@
 -- The tables between two events.
-use Rattle.std.proofs.Common.{◌≡◌, ℕ, ◌<◌, Bool, true, false, not, Option, Some, None, length, refl, ap, sym, ◌∙◌}
-use Rattle.std.specs.Prelude.{is_none, slice_index_or}
+use Rattle.std.proofs.Common.{◌≡◌, ◌≢◌, ℕ, ◌<◌, Bool, true, false, cond, not, List, Option, Some, None, length, ap, arith, sym, ◌∙◌}
+use Rattle.std.specs.Prelude.{◌==◌, find, map, slice_index_or}
+use Rattle.std.specs.Option.{option_and_then}
+use Rattle.std.proofs.lemmas.Bool.Decides.{nat_tests}
 use Rattle.std.proofs.lemmas.Option.{same_Some, slice_get-get_or}
-use Rattle.tip_table.specs.Kept.{StandsAt, item_at}
+use Rattle.tip_branch.specs.Notes.{PartyNotes}
+use Rattle.tip_rows.specs.Keys.{Key}
+use Rattle.tip_table.specs.Kept.{StandsAt, item_at, of}
 use Rattle.tip_table.proofs.Standing.{found as found_first}
-use Rattle.tip_machine.specs.Connections.{has_number, may_take}
-use Rattle.tip_machine.specs.Order.{is_on_none}
-use Rattle.tip_machine.specs.Requests.{may_take_on, must_wait_on}
-use Rattle.tip_machine.specs.States.{connection_of, seated}
-use Rattle.tip_machine.specs.Types.{Connection}
+use Rattle.tip_machine.specs.Connections.{has_number, key_of, key_queried, may_take}
+use Rattle.tip_machine.specs.Order.{key_found, key_on}
+use Rattle.tip_machine.specs.Requests.{may_take_on, must_wait_on, owner}
+use Rattle.tip_machine.specs.States.{connection_of, identified_by, seated}
+use Rattle.tip_machine.specs.Transactions.{has_id}
+use Rattle.tip_machine.specs.Types.{Connection, seen}
 use Rattle.tip_machine.specs.declared.event.Seat.{Seat}
 use Rattle.tip_machine.specs.declared.head.Head.{Head}
 use Rattle.tip_rules.specs.Standing.{standing_of, standing_on}
@@ -16,14 +21,34 @@ use Rattle.tip_rules.specs.Works.{Realms, connected, no_head, state_in}
 use Rattle.tip_rules.specs.declared.standing.Standing.{Standing}
 use Rattle.tip_rules.specs.declared.standing.Standing.TheVariants.{Gone}
 
-pub twice : (b : Bool) → b ≡ not (not b)
-twice true = refl
-twice false = refl
+-- the head of a realm
+head_of : (realms : Realms) (realm : ℕ) (head : Head) → realm < length realms.heads.items → head ≡ slice_index_or realms.heads.items realm head → head ≡ (state_in realm realms).head
+head_of realms realm head inside is = is ∙ same_Some (slice_index_or realms.heads.items realm head) (slice_index_or realms.heads.items realm no_head) (sym (slice_get-get_or realms.heads.items realm head inside) ∙ slice_get-get_or realms.heads.items realm no_head inside)
+
+module _ (realms : Realms) (realm : ℕ) (head : Head) (inside : realm < length realms.heads.items) (is : head ≡ slice_index_or realms.heads.items realm head) where
+  pub identified_there : (id : List ℕ) (key : Option Key) → key ≡ key_found (find (has_id head.name id) (map seen (of realms.transactions realm))) → key ≡ key_found (identified_by id (state_in realm realms))
+  identified_there id key so = so ∙ ap (λ (h : Head). key_found (find (has_id h.name id) (map seen (of realms.transactions realm)))) (head_of realms realm head inside is)
+
+  pub owned_there : (party : PartyNotes) (key : Option Key) → party.epoch ≡ head.epoch → key ≡ key_found (identified_by party.id (state_in realm realms)) → key ≡ key_found (owner party (state_in realm realms))
+  owned_there party key equal so =
+      let same : head.epoch ≡ (state_in realm realms).head.epoch = ap (λ (h : Head). h.epoch) (head_of realms realm head inside is) in
+      let own : (party.epoch == (state_in realm realms).head.epoch) ≡ true = grind (arith, nat_tests, same, equal) in
+      so ∙ sym (ap (λ b. key_found (cond b (identified_by party.id (state_in realm realms)) None)) own)
+
+  pub owned_nowhere : (party : PartyNotes) → party.epoch ≢ head.epoch → None ≡ key_found (owner party (state_in realm realms))
+  owned_nowhere party differ =
+      let same : head.epoch ≡ (state_in realm realms).head.epoch = ap (λ (h : Head). h.epoch) (head_of realms realm head inside is) in
+      let not_own : (party.epoch == (state_in realm realms).head.epoch) ≡ false = grind (arith, nat_tests, same, differ) in
+      sym (ap (λ b. key_found (cond b (identified_by party.id (state_in realm realms)) None)) not_own)
+
+pub ruleset identifying = (identified_there)
+
+pub ruleset owning = (owned_there, owned_nowhere)
 
 module _ (realms : Realms) (realm : ℕ) (head : Head) (inside : realm < length realms.heads.items) (is : head ≡ slice_index_or realms.heads.items realm head) (seat : Seat) where
   -- a realm's seats are those of its head and its connections
   seats : seated seat (state_in realm realms) ≡ seated seat (connected head realms.connections realm)
-  seats = ap (λ h. seated seat (connected h realms.connections realm)) (sym (is ∙ same_Some (slice_index_or realms.heads.items realm head) (slice_index_or realms.heads.items realm no_head) (sym (slice_get-get_or realms.heads.items realm head inside) ∙ slice_get-get_or realms.heads.items realm no_head inside)))
+  seats = ap (λ h. seated seat (connected h realms.connections realm)) (sym (head_of realms realm head inside is))
 
   -- whatever is said of the connection of a seat
   there : {A : Type 0} (say : Option Connection → A) (place : ℕ) (item : Connection) → StandsAt realms.connections realm (has_number seat.number) place → item_at realms.connections place ≡ Some item → seated seat (connected head realms.connections realm) ≡ connection_of seat.number (connected head realms.connections realm) → say (seated seat (state_in realm realms)) ≡ say (Some item)
@@ -47,13 +72,21 @@ module _ (realms : Realms) (realm : ℕ) (head : Head) (inside : realm < length 
   pub stands_nowhere : seated seat (connected head realms.connections realm) ≡ None → Gone ≡ standing_on (seated seat (state_in realm realms))
   stands_nowhere none = sym (ap standing_on (seats ∙ none))
 
-  pub apart_there : (place : ℕ) (item : Connection) → StandsAt realms.connections realm (has_number seat.number) place → item_at realms.connections place ≡ Some item → seated seat (connected head realms.connections realm) ≡ connection_of seat.number (connected head realms.connections realm) → is_none item.role ≡ is_on_none (seated seat (state_in realm realms))
-  apart_there place item here is_item same = sym (there is_on_none place item here is_item same)
+  pub key_there : (place : ℕ) (item : Connection) → StandsAt realms.connections realm (has_number seat.number) place → item_at realms.connections place ≡ Some item → seated seat (connected head realms.connections realm) ≡ connection_of seat.number (connected head realms.connections realm) → (key : Option Key) → key ≡ key_of item.role → key ≡ key_on (seated seat (state_in realm realms))
+  key_there place item here is_item same key so = so ∙ sym (there key_on place item here is_item same)
 
-  pub apart_nowhere : seated seat (connected head realms.connections realm) ≡ None → true ≡ is_on_none (seated seat (state_in realm realms))
-  apart_nowhere none = sym (ap is_on_none (seats ∙ none))
+  pub key_nowhere : seated seat (connected head realms.connections realm) ≡ None → None ≡ key_on (seated seat (state_in realm realms))
+  key_nowhere none = sym (ap key_on (seats ∙ none))
 
-pub ruleset standing_apart = (apart_there, apart_nowhere)
+  pub asked_there : (place : ℕ) (item : Connection) → StandsAt realms.connections realm (has_number seat.number) place → item_at realms.connections place ≡ Some item → seated seat (connected head realms.connections realm) ≡ connection_of seat.number (connected head realms.connections realm) → (key : Option Key) → key ≡ key_queried item.awaited → key ≡ option_and_then (λ connection. key_queried connection.awaited) (seated seat (state_in realm realms))
+  asked_there place item here is_item same key so = so ∙ sym (there (option_and_then (λ connection. key_queried connection.awaited)) place item here is_item same)
+
+  pub asked_nowhere : seated seat (connected head realms.connections realm) ≡ None → None ≡ option_and_then (λ connection. key_queried connection.awaited) (seated seat (state_in realm realms))
+  asked_nowhere none = sym (ap (option_and_then (λ (connection : Connection). key_queried connection.awaited)) (seats ∙ none))
+
+pub ruleset being_on = (key_there, key_nowhere)
+
+pub ruleset asking = (asked_there, asked_nowhere)
 
 pub ruleset standing = (stands_there, stands_nowhere)
 

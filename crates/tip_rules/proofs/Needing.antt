@@ -11,7 +11,7 @@ use Rattle.tip_table.specs.Kept.{StandsAt, item_at, of, with_item_at}
 use Rattle.tip_table.specs.Lists.{changed}
 use Rattle.tip_table.proofs.Standing.{write, write_others}
 use Rattle.tip_table.proofs.Standing.{found as found_first}
-use Rattle.tip_machine.specs.Connections.{has_number}
+use Rattle.tip_machine.specs.Connections.{has_number, key_queried}
 use Rattle.tip_machine.specs.Counts.{HasCounts}
 use Rattle.tip_machine.specs.Requests.{owner}
 use Rattle.tip_machine.specs.States.{connection_of, has_room, transaction_of}
@@ -28,7 +28,7 @@ use Rattle.tip_rules.specs.Growing.{CanGrow}
 use Rattle.tip_rules.specs.Needs.{MayJoin, begins_on, joined_by, room_needed, room_on}
 use Rattle.tip_rules.specs.Rooms.{TransactionRoom, room_for}
 use Rattle.tip_outlook.specs.Searches.{HeldTransaction, is_keyed, is_named}
-use Rattle.tip_rules.specs.Works.{Held, key_queried, lines_as, lines_at, lines_for, lines_of, peer_of, work_of}
+use Rattle.tip_rules.specs.Works.{Held, lines_as, lines_at, lines_for, lines_of, peer_of, work_of}
 
 pub lines_there : (held : Held) (number place : ℕ) (item : Connection) → StandsAt held.connections held.realm (has_number number) place → item_at held.connections place ≡ Some item → (lines : ℕ) → lines ≡ lines_as item.role (work_of held).state → lines ≡ lines_at number (work_of held).state
 lines_there held number place item here is lines same = same ∙ sym (ap (λ o. option_map_or (λ c. lines_as c.role (work_of held).state) o 0) (standing_number held number place item here is))

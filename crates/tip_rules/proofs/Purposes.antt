@@ -32,13 +32,11 @@ use Rattle.tip_rules.proofs.Asking.{closed_alike}
 use Rattle.tip_rules.proofs.Beginnings.{standing_number}
 use Rattle.tip_rules.proofs.Dials.{took_words}
 use Rattle.tip_rules.proofs.Foreseeing.{by_id}
-use Rattle.tip_rules.proofs.Needing.{keyed_there}
 use Rattle.tip_rules.proofs.Outcomes.{key_is}
 use Rattle.tip_rules.proofs.Responses.{goes_on}
 use Rattle.tip_rules.proofs.Works.{then}
 use Rattle.tip_rules.specs.Makings.{Made}
 use Rattle.tip_rules.specs.Pursuing.{asked_for, key_of, superior_in, superior_of, word_at, word_for}
-use Rattle.tip_outlook.specs.Searches.{is_keyed}
 use Rattle.tip_rules.specs.Works.{Does, Held, work_of}
 use Rattle.tip_outlook.specs.declared.noting.Note.TheVariants as note
 
@@ -165,17 +163,6 @@ word_keyed a b number c key word found some first is =
       by : (asks : Option (List ℕ)) → asked_for c.awaited ≡ asks → Some key ≡ option_and_then (key_of (work_of a).state) asks → word_for c.awaited (work_of a).state ≡ superior_of (transaction_of key (work_of b).state)
       by None at so = absurd (none-some key (sym so))
       by (Some id) at so = worded_to_ask (work_of a).state c.awaited id at ∙ said_keyed superior_of a b number id key so first
-
--- the key that was found
-pub key_none : (held : Held) (id : List ℕ) → identified_by id (work_of held).state ≡ None → None ≡ key_of (work_of held).state id
-key_none held id none = sym (ap (option_map (λ (t : Transaction). t.key)) none)
-
-pub key_some : (held : Held) (id : List ℕ) (key : Key) (place : ℕ) → StandsAt held.transactions held.realm (is_keyed key) place → identified_by id (work_of held).state ≡ transaction_of key (work_of held).state → Some key ≡ key_of (work_of held).state id
-key_some held id key place here same =
-    let found = keyed_there held key place here in
-    ap Some (key_is held key found.0 found.1) ∙ sym (ap (option_map (λ (t : Transaction). t.key)) (same ∙ found.1))
-
-pub ruleset keying = (key_none, key_some)
 
 -- IDENTIFIED
 

@@ -21,7 +21,7 @@ use Rattle.tip_txn.specs.Parts.{changed_at}
 use Rattle.tip_txn.specs.declared.part.Participant.{Participant}
 use Rattle.tip_machine.proofs.Walks.{found-number}
 use Rattle.tip_machine.specs.Changes.{alter, change}
-use Rattle.tip_machine.specs.Connections.{advanced, advanced_to, has_number, is_on, role_in}
+use Rattle.tip_machine.specs.Connections.{advanced, advanced_to, has_number, is_on, key_queried, role_in}
 use Rattle.tip_machine.specs.Connections.{names as is_named_in}
 use Rattle.tip_machine.specs.Failing.{wrong}
 use Rattle.tip_machine.specs.Proceeding.{proceed}
@@ -45,7 +45,7 @@ use Rattle.tip_outlook.specs.Noting.{awaits_of, exists_of, identifying, note_of,
 use Rattle.tip_outlook.specs.declared.noting.Awaits.{Awaits}
 use Rattle.tip_outlook.specs.declared.noting.Awaits.TheVariants as awaits
 use Rattle.tip_rules.specs.Pursuing.{aimed_at, asked_for}
-use Rattle.tip_rules.specs.Works.{Does, Held, IsIdle, key_queried, lines_as, lines_at, lines_for, lines_queried, work_of}
+use Rattle.tip_rules.specs.Works.{Does, Held, IsIdle, lines_as, lines_at, lines_for, lines_queried, work_of}
 use Rattle.tip_outlook.specs.declared.noting.Note.{Note}
 use Rattle.tip_outlook.specs.declared.noting.Note.TheVariants as note
 

@@ -6,14 +6,12 @@ use Rattle.tip_branch.specs.declared.member.Errand.TheVariants as errand
 use Rattle.tip_rows.specs.Keys.{Key}
 use Rattle.tip_table.specs.Kept.{Kept, capacity, item_at, of}
 use Rattle.tip_machine.specs.Commands.{make}
-use Rattle.tip_machine.specs.Connections.{is_on}
+use Rattle.tip_machine.specs.Connections.{is_on, key_queried}
 use Rattle.tip_machine.specs.Counts.{HasCounts}
 use Rattle.tip_machine.specs.States.{State, Work, connection_of, has_room, transaction_of}
 use Rattle.tip_machine.specs.Transactions.{next_key}
 use Rattle.tip_machine.specs.Types.{Answer, Connection, PartyPlace, Transaction, seen}
 use Rattle.tip_machine.specs.declared.head.Head.{Head}
-use Rattle.tip_machine.specs.declared.connection.Awaited.{Awaited}
-use Rattle.tip_machine.specs.declared.connection.Awaited.TheVariants as awaited
 use Rattle.tip_machine.specs.declared.connection.Role.{Role}
 use Rattle.tip_machine.specs.declared.connection.Role.TheVariants.{Superior, Subordinate}
 use Rattle.tip_machine.specs.declared.transaction.Origin.{Origin}
@@ -98,18 +96,6 @@ lines_as (Some (Subordinate key part)) state = lines_for key state
 -- the same, of the transaction that the connection of a number is on
 abbrev pub lines_at : ℕ → State → ℕ
 lines_at number state = option_map_or (λ connection. lines_as connection.role state) (connection_of number state) 0
-
--- the transaction that a connection asks for
-abbrev pub key_queried : Option Awaited → Option Key
-key_queried None = None
-key_queried (Some (awaited.Identify purpose)) = None
-key_queried (Some awaited.Push) = None
-key_queried (Some awaited.Pull) = None
-key_queried (Some awaited.Prepare) = None
-key_queried (Some awaited.Commit) = None
-key_queried (Some awaited.Abort) = None
-key_queried (Some (awaited.Query key)) = Some key
-key_queried (Some awaited.Reconnect) = None
 
 -- the same, of the transaction that the connection of a number asks for
 abbrev pub lines_queried : ℕ → State → ℕ

@@ -1,11 +1,13 @@
 //! Transactions by their identifiers, and by the parties that they gave out.
-ghost use Rattle.std.specs.Prelude.{◌≡◌, ◌↔◌, ◌<◌, false, find, length, None, IfSome, option_map};
+ghost use Rattle.std.specs.Prelude.{◌≡◌, ◌↔◌, ◌<◌, false, find, length, map, None, IfSome, option_map};
 ghost use Rattle.std.specs.Option.{option_map_or};
 ghost use Rattle.tip_table.specs.Kept.{StandsAt, of};
 ghost use Rattle.tip_machine.specs.Commands.{exists};
+ghost use Rattle.tip_machine.specs.Order.{key_found};
 ghost use Rattle.tip_machine.specs.Requests.{owner};
 ghost use Rattle.tip_machine.specs.States.{identified_by, transaction_of};
-ghost use Rattle.tip_machine.specs.Transactions.{is_known};
+ghost use Rattle.tip_machine.specs.Transactions.{has_id, is_known};
+ghost use Rattle.tip_machine.specs.Types.{seen};
 ghost use Rattle.tip_outlook.specs.Searches.{is_keyed, is_named};
 ghost use Rattle.tip_rules.specs.Works.{work_of};
 
@@ -16,6 +18,7 @@ use tip_line::{Address, Id, Realm};
 use tip_machine::{Connection, Transaction};
 use tip_outlook::{Known, Named};
 use tip_rows::Key;
+use tip_table::Table;
 
 impl Work<Connection, Transaction, Making> {
     /// The key of the transaction of an identifier, and where it stands, if it is open here.
@@ -41,7 +44,7 @@ impl Work<Connection, Transaction, Making> {
     }
 
     /// The name of the realm at hand.
-    fn name(&self) -> &Realm
+    pub(crate) fn name(&self) -> &Realm
         requires { self.now.realm < length self.now.heads.items }
         ensures { result.now ≡ (work_of self.now).state.head.name }
     {
@@ -90,4 +93,20 @@ impl Work<Connection, Transaction, Making> {
             None => false,
         }
     }
+}
+
+/// The key of the transaction of an identifier, in a realm of this name.
+#[tactic(auto, using(crate::proofs::Identifying::keying))]
+pub(crate) fn key_named(
+    name: &Realm,
+    transactions: &Table<Transaction>,
+    realm: usize,
+    id: &Id,
+) -> Option<Key>
+    ensures { result ≡ key_found
+        (find (has_id name.now id.now) (map seen (of transactions.now realm))) }
+{
+    let query = Named::of(name, id);
+    let place = transactions.find(realm, &query)?;
+    Some(transactions.item(place).key)
 }

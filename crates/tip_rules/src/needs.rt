@@ -2,6 +2,7 @@
 ghost use Rattle.std.specs.Prelude.{if◌then◌else◌, ◌≡◌, ◌+◌, ◌<◌, ◌≤◌, ℕ, length, map, true, IfOk, OnOk};
 ghost use Rattle.std.specs.Option.{option_and_then, option_copied};
 ghost use Rattle.tip_table.specs.Kept.{of};
+ghost use Rattle.tip_machine.specs.Connections.{key_queried};
 ghost use Rattle.tip_machine.specs.Counts.{HasCounts};
 ghost use Rattle.tip_machine.specs.Given.{are_numbered};
 ghost use Rattle.tip_machine.specs.Steps.{is_open, wants};
@@ -10,7 +11,7 @@ ghost use Rattle.tip_machine.specs.States.{connection_of, identified_by};
 ghost use Rattle.tip_machine.specs.Types.{seen};
 ghost use Rattle.tip_rules.specs.Needs.{MayJoin, Suits, begins_on, connections_for, joined_by, lines_needed, ours_needed, peer_needed, room_needed, transactions_for, word_needed};
 ghost use Rattle.tip_rules.specs.Pursuing.{named_in, named_of, superior_in, superior_of, word_at, word_for};
-ghost use Rattle.tip_rules.specs.Works.{key_queried, lines_as, lines_at, lines_for, lines_of, lines_queried, peer_of, work_of};
+ghost use Rattle.tip_rules.specs.Works.{lines_as, lines_at, lines_for, lines_of, lines_queried, peer_of, work_of};
 
 use crate::making::{Making, Words};
 use crate::reaching::subordinate_of;
@@ -376,7 +377,7 @@ impl Work<Connection, Transaction, Making> {
 }
 
 /// The transaction that a connection asks for on which this is awaited.
-fn key_queried(awaited: &Option<Awaited>) -> Option<Key>
+pub(crate) fn key_queried(awaited: &Option<Awaited>) -> Option<Key>
     ensures { result ≡ key_queried awaited.now }
 {
     match awaited {

@@ -15,6 +15,7 @@ ghost use Rattle.tip_outlook.specs.Noting.{identifying, version_of};
 ghost use Rattle.tip_rules.specs.Pursuing.{asked_for, key_of, superior_of, word_at};
 ghost use Rattle.tip_rules.specs.Works.{Does, IsIdle, lines_as, lines_at, work_of};
 
+use crate::finding::key_named;
 use crate::making::Making;
 use crate::work::Work;
 use tip_line::{Address, CommandName, Id, Response, ResponseName};
@@ -103,13 +104,11 @@ impl Work<Connection, Transaction, Making> {
     }
 
     /// The key of the transaction of an identifier.
-    #[tactic(auto, using(crate::proofs::Purposes::keying))]
     pub(crate) fn key_of(&self, id: &Id) -> Option<Key>
         requires { self.now.realm < length self.now.heads.items }
         ensures { result ≡ key_of (work_of self.now).state id.now }
     {
-        let (key, _) = self.identified(id)?;
-        Some(key)
+        key_named(self.name(), &self.transactions, self.realm, id)
     }
 
     /// A transaction in doubt is asked for, if its superior is there; else we hang up.

@@ -1,24 +1,30 @@
 //! The tables of all realms, which are lent to the work of one event.
 ghost use Rattle.std.specs.Prelude.{◌≡◌, ◌<◌, ℕ, length, IfOk};
+ghost use Rattle.std.specs.Option.{option_and_then};
 ghost use Rattle.tip_table.specs.Kept.{of};
 ghost use Rattle.tip_machine.specs.Answers.{silence};
+ghost use Rattle.tip_machine.specs.Connections.{key_of, key_queried};
 ghost use Rattle.tip_machine.specs.Counts.{HasCounts};
-ghost use Rattle.tip_machine.specs.Order.{concerns_others, is_alone, is_on_none};
-ghost use Rattle.tip_machine.specs.Requests.{may_take_on, must_wait_on};
-ghost use Rattle.tip_machine.specs.States.{seated};
+ghost use Rattle.tip_machine.specs.Order.{concerned, key_found, key_on, named_by};
+ghost use Rattle.tip_machine.specs.Requests.{may_take_on, must_wait_on, owner};
+ghost use Rattle.tip_machine.specs.States.{identified_by, seated};
 ghost use Rattle.tip_rules.specs.Needs.{HasNeeds, Suits, happened};
 ghost use Rattle.tip_rules.specs.Standing.{standing_on};
 ghost use Rattle.tip_rules.specs.Works.{Does, state_in, working};
 
+use crate::finding::key_named;
 use crate::making::Making;
+use crate::needs::key_queried;
 use crate::opening::seat_place;
 use crate::room::Room;
 use crate::standing::{Standing, standing_of};
 use crate::work::Work;
 use std::alloc::{AllocError, Global};
 use std::mem;
-use tip_line::{Command, Response};
-use tip_machine::{Connection, Event, Head, Heard, Outcome, Seat, Transaction};
+use tip_branch::HeldParty;
+use tip_line::{Command, Id, Response};
+use tip_machine::{Concerned, Connection, Event, Head, Heard, Outcome, Role, Seat, Transaction};
+use tip_rows::Key;
 use tip_table::Table;
 
 /// What is declared and counted of each realm, and the tables of all connections and transactions.
@@ -100,34 +106,93 @@ impl Realms<Connection, Transaction> {
         }
     }
 
-    /// Whether an event tells one connection alone, so that nobody's turn needs to be known.
-    pub fn is_alone(&self, realm: usize, event: &Event) -> bool
+    /// The transactions that an event concerns.
+    pub fn concerned(&self, realm: usize, event: &Event) -> Concerned
         requires here { realm < length self.now.heads.items }
         requires counts { HasCounts (state_in realm self.now) }
-        ensures { result ≡ is_alone (state_in realm self.now) event.now }
+        ensures { result ≡ concerned (state_in realm self.now) event.now }
     {
         match event {
-            Event::Open { .. }
-            | Event::Dial { .. }
-            | Event::AskPush { .. }
-            | Event::AskPull { .. } => true,
-            Event::Line { seat, heard } => !concerns_others(heard) && self.is_on_none(realm, *seat),
-            Event::Lost { seat } => self.is_on_none(realm, *seat),
-            Event::Voted(_) | Event::Settled(_) | Event::Resume { .. } => false,
+            Event::Line { seat, heard } => Concerned {
+                own: self.key_on(realm, *seat),
+                named: self.named_by(realm, *seat, heard),
+            },
+            Event::Lost { seat } | Event::AskPush { seat, .. } | Event::AskPull { seat, .. } => {
+                Concerned {
+                    own: self.key_on(realm, *seat),
+                    named: None,
+                }
+            }
+            Event::Voted(party) | Event::Settled(party) => Concerned {
+                own: None,
+                named: self.owner(realm, party),
+            },
+            Event::Open { .. } | Event::Dial { .. } | Event::Resume { .. } => Concerned {
+                own: None,
+                named: None,
+            },
         }
     }
 
-    /// Whether no connection has this seat, or it is on no transaction.
-    #[tactic(auto, using(crate::proofs::Lending::standing_apart))]
-    fn is_on_none(&self, realm: usize, seat: Seat) -> bool
+    /// The transaction that the connection of a seat is on.
+    #[tactic(auto, using(crate::proofs::Lending::being_on))]
+    fn key_on(&self, realm: usize, seat: Seat) -> Option<Key>
         requires here { realm < length self.now.heads.items }
         requires counts { HasCounts (state_in realm self.now) }
-        ensures { result ≡ is_on_none (seated seat (state_in realm self.now)) }
+        ensures { result ≡ key_on (seated seat (state_in realm self.now)) }
     {
-        match seat_place(&self.heads[realm], &self.connections, realm, seat) {
-            Some(place) => self.connections.item(place).role.is_none(),
-            None => true,
+        let place = seat_place(&self.heads[realm], &self.connections, realm, seat)?;
+        key_of(self.connections.item(place).role)
+    }
+
+    /// The transaction that a line on the connection of a seat concerns beside that connection's own.
+    fn named_by(&self, realm: usize, seat: Seat, heard: &Heard) -> Option<Key>
+        requires here { realm < length self.now.heads.items }
+        requires counts { HasCounts (state_in realm self.now) }
+        ensures { result
+            ≡ named_by heard.now (seated seat (state_in realm self.now)) (state_in realm self.now) }
+    {
+        match heard {
+            Heard::Command(Command::Reconnect { subordinate }) => {
+                self.identified(realm, subordinate)
+            }
+            Heard::Response(Response::QueriedNotFound) => self.queried(realm, seat),
+            _ => None,
         }
+    }
+
+    /// The transaction that the connection of a seat asks for.
+    #[tactic(auto, using(crate::proofs::Lending::asking))]
+    fn queried(&self, realm: usize, seat: Seat) -> Option<Key>
+        requires here { realm < length self.now.heads.items }
+        requires counts { HasCounts (state_in realm self.now) }
+        ensures { result ≡ option_and_then (λ connection. key_queried connection.awaited)
+            (seated seat (state_in realm self.now)) }
+    {
+        let place = seat_place(&self.heads[realm], &self.connections, realm, seat)?;
+        key_queried(&self.connections.item(place).awaited)
+    }
+
+    /// The transaction of an identifier.
+    #[tactic(auto, using(crate::proofs::Lending::identifying))]
+    fn identified(&self, realm: usize, id: &Id) -> Option<Key>
+        requires here { realm < length self.now.heads.items }
+        ensures { result ≡ key_found (identified_by id.now (state_in realm self.now)) }
+    {
+        key_named(&self.heads[realm].name, &self.transactions, realm, id)
+    }
+
+    /// The transaction that gave a party out in this start.
+    #[tactic(auto, using(crate::proofs::Lending::owning))]
+    fn owner(&self, realm: usize, party: &HeldParty) -> Option<Key>
+        requires here { realm < length self.now.heads.items }
+        ensures { result ≡ key_found (owner party.now (state_in realm self.now)) }
+    {
+        let party = party.party();
+        if party.epoch() != self.heads[realm].epoch {
+            return None;
+        }
+        self.identified(realm, party.id())
     }
 
     /// Lends the tables to the work of an event, with an answer to be made.
@@ -167,12 +232,9 @@ impl Realms<Connection, Transaction> {
     }
 }
 
-/// Whether what is heard on a connection without a transaction may concern another.
-fn concerns_others(heard: &Heard) -> bool
-    ensures { result ≡ concerns_others heard.now }
+/// The transaction that a connection of this role is on.
+fn key_of(role: Option<Role>) -> Option<Key>
+    ensures { result ≡ key_of role }
 {
-    matches!(
-        heard,
-        Heard::Command(Command::Reconnect { .. }) | Heard::Response(Response::QueriedNotFound)
-    )
+    Some(role?.key())
 }
