@@ -17,7 +17,7 @@ use std::mem;
 use tip_machine::{Connection, Transaction};
 use tip_recovery::Recovery;
 use tip_rules::Realms;
-use tip_table::Table;
+use tip_table::{Linked, Table};
 
 /// What a realm had before it started again. Whoever drops it drops boxes.
 #[derive(Drop)]
@@ -30,7 +30,7 @@ pub struct Left<C = Connection, T = Transaction> {
 
 /// All the memory that a realm needs to start again. It belongs to the realms that it was made for.
 #[derive(Drop)]
-pub struct Parting<C = Connection, T = Transaction> {
+pub struct Parting<C: Linked = Connection, T: Linked = Transaction> {
     pub(crate) connections: Table<C>,
     pub(crate) transactions: Table<T>,
     pub(crate) left: Left<C, T>,

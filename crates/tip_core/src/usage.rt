@@ -5,10 +5,11 @@ ghost use Rattle.tip_machine.specs.Connections.{is_superior_of};
 ghost use Rattle.tip_machine.specs.Transactions.{is_committed, is_prepared};
 ghost use Rattle.tip_machine.specs.Types.{seen};
 ghost use Rattle.tip_table.specs.Kept.{of};
+ghost use Rattle.tip_outlook.specs.Searches.{AimsAt};
 ghost use Rattle.tip_core.specs.Usages.{is_held_at, owes};
 
 use tip_line::{Address, Id};
-use tip_machine::{Connection, Transaction};
+use tip_machine::{Connection, Transaction, link_of};
 use tip_outlook::SuperiorOf;
 use tip_rows::Key;
 use tip_table::{Table, Test};
@@ -35,8 +36,16 @@ struct InDoubt;
 impl Test<Transaction> for InDoubt {
     ghost passes = { λ _ transaction. is_held_at is_prepared transaction };
 
-    fn passes(&self, transaction: &Transaction) -> bool {
+    fn passes(&self, transaction: &Transaction) -> bool
+        ensures { result ≡ is_held_at is_prepared transaction.now }
+    {
         matches!(transaction.txn.phase(), Phase::Prepared)
+    }
+
+    fn aim(&self) -> Option<u128>
+        ensures { AimsAt (is_held_at is_prepared) result }
+    {
+        None
     }
 }
 
@@ -46,8 +55,16 @@ struct IsCommitted;
 impl Test<Transaction> for IsCommitted {
     ghost passes = { λ _ transaction. is_held_at is_committed transaction };
 
-    fn passes(&self, transaction: &Transaction) -> bool {
+    fn passes(&self, transaction: &Transaction) -> bool
+        ensures { result ≡ is_held_at is_committed transaction.now }
+    {
         matches!(transaction.txn.phase(), Phase::Committed)
+    }
+
+    fn aim(&self) -> Option<u128>
+        ensures { AimsAt (is_held_at is_committed) result }
+    {
+        None
     }
 }
 
@@ -63,10 +80,20 @@ impl Test<Transaction> for Owing<'_> {
     ghost passes = { λ owing transaction.
         owes owing.key owing.address.now owing.id.now (seen transaction) };
 
-    fn passes(&self, transaction: &Transaction) -> bool {
+    fn passes(&self, transaction: &Transaction) -> bool
+        ensures { result ≡ owes self.now.key self.now.address.now self.now.id.now (seen transaction.now) }
+    {
         transaction.key == self.key
             && matches!(transaction.txn.phase(), Phase::Committed)
             && transaction.txn.owes(self.address, self.id)
+    }
+
+    #[tactic(auto, using(crate::proofs::Usages::owing))]
+    fn aim(&self) -> Option<u128>
+        ensures { AimsAt (λ transaction. owes self.now.key self.now.address.now self.now.id.now
+            (seen transaction)) result }
+    {
+        Some(link_of(self.key))
     }
 }
 

@@ -1,6 +1,7 @@
 //! What a host keeps of its realms beside its stored core.
 
 use crate::opening::Opening;
+use crate::unlinked::Unlinked;
 use std::marker::Model;
 use tip_branch::PartyNote;
 use tip_honest::Entry;
@@ -21,9 +22,9 @@ pub(crate) struct Books {
     /// The stored rows, as the store has answered.
     pub(crate) rows: KeptRows,
     /// Parties that wait to be taken out for their errand.
-    pub(crate) work: Table<PartyOut>,
+    pub(crate) work: Table<Unlinked<PartyOut>>,
     /// How those were sent that were taken out.
-    pub(crate) out: Table<PartyNote>,
+    pub(crate) out: Table<Unlinked<PartyNote>>,
 }
 
 impl Model for Books {

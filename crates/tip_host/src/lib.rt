@@ -19,6 +19,7 @@ mod returning;
 mod seat;
 mod serving;
 mod spoken;
+mod unlinked;
 mod work;
 
 pub use closing::CloseFault;

@@ -1,6 +1,7 @@
 //! Parties that are taken out of a host for their errand, and that come back.
-ghost use Rattle.std.specs.Prelude.{◌≡◌, ◌≢◌, ◌↔◌, ◌++◌, ℕ, true, false, Some, find, option_map, IfErr, IfOk, IfNone, IfSome, OnErr, OnOk};
+ghost use Rattle.std.specs.Prelude.{◌≡◌, ◌≢◌, ◌↔◌, ◌++◌, ℕ, ⊤, true, false, None, Some, find, option_map, IfErr, IfOk, IfNone, IfSome, OnErr, OnOk};
 ghost use Rattle.tip_branch.specs.Always.{Always};
+ghost use Rattle.tip_branch.specs.Notes.{PartyNotes};
 ghost use Rattle.tip_table.specs.Kept.{of};
 ghost use Rattle.tip_host.specs.Books.{left_in, out_of};
 ghost use Rattle.tip_host.specs.Hosts.{IsOut, Serves, Stays};
@@ -10,6 +11,7 @@ ghost use Rattle.tip_host.specs.declared.host.HostFault.TheVariants.{NotOut, Pas
 use crate::books::Books;
 use crate::host::{Host, HostFault};
 use crate::reply::Reply;
+use crate::unlinked::Unlinked;
 use crate::work::{Returned, Work};
 use std::alloc::{AllocError, Global};
 use tip_branch::PartyNote;
@@ -22,13 +24,21 @@ use tip_table::{Table, Test};
 /// Any party.
 struct Any;
 
-impl Test<PartyOut> for Any {
+impl Test<Unlinked<PartyOut>> for Any {
     ghost use Rattle.std.specs.Prelude.{true};
 
     ghost passes = { λ _ party. true };
 
-    fn passes(&self, _: &PartyOut) -> bool {
+    fn passes(&self, _: &Unlinked<PartyOut>) -> bool
+        ensures { result ≡ true }
+    {
         true
+    }
+
+    fn aim(&self) -> Option<u128>
+        ensures { IfSome result (λ aim. (party : PartyNotes) → ⊤ → true ≡ true → None ≡ Some aim) }
+    {
+        None
     }
 }
 
@@ -38,13 +48,23 @@ struct IsErrandOf<'a> {
     sent: &'a PartyNote,
 }
 
-impl Test<PartyNote> for IsErrandOf<'_> {
+impl Test<Unlinked<PartyNote>> for IsErrandOf<'_> {
     ghost use Rattle.tip_host.specs.Works.{is_errand_of};
 
     ghost passes = { λ query party. is_errand_of query.sent.now party };
 
-    fn passes(&self, party: &PartyNote) -> bool {
+    fn passes(&self, party: &Unlinked<PartyNote>) -> bool
+        ensures { result ≡ is_errand_of self.now.sent.now party.now }
+    {
+        let party = party.item();
         party.id() == self.sent.id() && party.epoch() == self.sent.epoch()
+    }
+
+    fn aim(&self) -> Option<u128>
+        ensures { IfSome result (λ aim. (party : PartyNotes) → ⊤ →
+            is_errand_of self.now.sent.now party ≡ true → None ≡ Some aim) }
+    {
+        None
     }
 }
 
@@ -169,8 +189,8 @@ fn take_from(alloc: Global, books: &mut Books, realm: usize) -> Result<Option<Wo
 /// The oldest party of a realm that waits for its errand goes out, and how it was sent is noted.
 fn take_oldest(
     alloc: Global,
-    work: &mut Table<PartyOut>,
-    out: &mut Table<PartyNote>,
+    work: &mut Table<Unlinked<PartyOut>>,
+    out: &mut Table<Unlinked<PartyNote>>,
     realm: usize,
 ) -> Result<Option<Work>, AllocError>
     requires { Always }
@@ -185,23 +205,23 @@ fn take_oldest(
     let Some(place) = work.find(realm, &Any) else {
         return Ok(None);
     };
-    let party = work.item(place).party();
+    let party = work.item(place).item().party();
     let noted = PartyNote::of(alloc, party)?;
     let sent = PartyNote::of(alloc, party)?;
     out.reserve()?;
-    out.add(realm, noted);
-    Ok(Some(Work::new(realm, work.remove(place), sent)))
+    out.add(realm, Unlinked::from_item(noted));
+    Ok(Some(Work::new(realm, work.remove(place).into_item(), sent)))
 }
 
 /// At which place a party stands that was taken out and was sent so.
-fn place_of(out: &Table<PartyNote>, realm: usize, sent: &PartyNote) -> Option<usize>
+fn place_of(out: &Table<Unlinked<PartyNote>>, realm: usize, sent: &PartyNote) -> Option<usize>
     ensures some { IfSome result (λ place. (at : ℕ) × WasSent out.now realm sent.now place at) }
     ensures found { IfSome result (λ place.
         find (is_errand_of sent.now) (of out.now realm) ≡ Some sent.now) }
     ensures none { IfNone result (find (is_errand_of sent.now) (of out.now realm) ≢ Some sent.now) }
 {
     let place = out.find(realm, &IsErrandOf { sent })?;
-    if !out.item(place).is(sent) {
+    if !out.item(place).item().is(sent) {
         return None;
     }
     Some(place)

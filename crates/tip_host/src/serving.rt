@@ -19,6 +19,7 @@ ghost use Rattle.tip_host.specs.Notings.{AreOf, IsReadyFor};
 use crate::books::Books;
 use crate::noting::{Noting, enter, prepare};
 use crate::reply::Reply;
+use crate::unlinked::Unlinked;
 use std::alloc::{AllocError, Global};
 use tip_branch::PartyNote;
 use tip_core::{Core, Happened, Room};
@@ -132,7 +133,7 @@ fn keep(rows: &mut KeptRows, realm: usize, change: Option<Change>, outcome: Outc
 }
 
 /// Who was taken out and stands at a place has come back.
-fn take_back(out: &mut Table<PartyNote>, back: Option<usize>)
+fn take_back(out: &mut Table<Unlinked<PartyNote>>, back: Option<usize>)
     requires { IfSome back (λ place. IsSome (places out.old place)) }
     ensures { (realm : ℕ) → of out.new realm ≡ left_in back out.old realm }
 {
@@ -142,13 +143,13 @@ fn take_back(out: &mut Table<PartyNote>, back: Option<usize>)
 }
 
 /// Who goes out, if anybody does, waits to be taken. It takes room that is there.
-fn go_out(work: &mut Table<PartyOut>, realm: usize, party: Option<PartyOut>)
+fn go_out(work: &mut Table<Unlinked<PartyOut>>, realm: usize, party: Option<PartyOut>)
     requires always { Always }
     requires room { 0 < work.old.free }
     ensures own { of work.new realm ≡ of work.old realm ++ option_to_list party }
     ensures others { (other : ℕ) → other ≢ realm → of work.new other ≡ of work.old other }
 {
     if let Some(party) = party {
-        work.add(realm, party);
+        work.add(realm, Unlinked::from_item(party));
     }
 }

@@ -1,5 +1,5 @@
 -- One connection, and how it goes by the connection table (RFC 2371, sections 4, 9 and 13).
-use Rattle.std.specs.Prelude.{ℕ, ◌==◌, ◌&&◌, ◌||◌, List, Bool, true, false, Option, Some, None, is_some, is_none}
+use Rattle.std.specs.Prelude.{ℕ, ◌+◌, ◌*◌, ◌<◌, ◌^◌, ◌==◌, ◌&&◌, ◌||◌, List, Bool, true, false, Option, Some, None, is_some, is_none}
 use Rattle.tip_line.specs.declared.command.CommandName.{CommandName}
 use Rattle.tip_line.specs.declared.command.CommandName.TheVariants as command
 use Rattle.tip_line.specs.declared.response.ResponseName.{ResponseName}
@@ -12,7 +12,7 @@ use Rattle.tip_conn.specs.declared.state.Side.{Side}
 use Rattle.tip_conn.specs.declared.state.Side.TheVariants.{Primary, Secondary}
 use Rattle.tip_conn.specs.declared.state.Turn.{Turn}
 use Rattle.tip_conn.specs.declared.state.Turn.TheVariants.{Keep, Reverse, Original}
-use Rattle.tip_rows.specs.Keys.{Key, is_same}
+use Rattle.tip_rows.specs.Keys.{IsKey, Key, is_same}
 use Rattle.tip_machine.specs.Types.{Connection}
 use Rattle.tip_machine.specs.declared.connection.Awaited.{Awaited}
 use Rattle.tip_machine.specs.declared.connection.Awaited.TheVariants as awaited
@@ -31,6 +31,16 @@ accepted boxes number = record { number = number; dialled = false; state = Initi
 -- a connection that we have just opened: we are its primary, and have said IDENTIFY (section 4)
 abbrev pub dialled : List ℕ → Purpose → List Badge → ℕ → Connection
 dialled address purpose boxes number = record (accepted boxes number) { dialled = true; side = Primary; peer = Some address; awaited = Some (awaited.Identify purpose) }
+
+-- Whose transaction
+
+-- the number by which a transaction is found, and what is on it: its key as one number (ours)
+abbrev pub link_of : Key → ℕ
+link_of key = (key.epoch * 2 ^ 32 + key.connection) * 2 ^ 32 + key.number
+
+-- the numbers of a key that there is are in their ranges
+abbrev pub IsInRange : Key → Type 0
+IsInRange key = IsKey key × (key.epoch < 2 ^ 32) × (key.connection < 2 ^ 32) × (key.number < 2 ^ 32)
 
 -- The connection table
 

@@ -1,12 +1,13 @@
 //! A connection of a realm.
 ghost use Rattle.std.specs.Prelude.{◌≡◌, IfOk, Some};
-ghost use Rattle.tip_machine.specs.Connections.{accepted, identified, key_of, may_take, advanced, turned};
+ghost use Rattle.tip_machine.specs.Connections.{IsInRange, accepted, advanced, identified, key_of, link_of, may_take, turned};
 
 use std::alloc::AllocError;
 use tip_branch::HeldFresh;
 use tip_conn::{Side, State, Turn, after_named};
 use tip_line::{Address, CommandName, Id, ResponseName};
 use tip_rows::Key;
+use tip_table::Linked;
 use tip_txn::Part;
 
 /// What a connection is on a transaction.
@@ -90,6 +91,28 @@ pub struct Connection<B = HeldFresh> {
     pub role: Option<Role>,
     /// How many transactions were made on it.
     pub made: u32,
+}
+
+/// It is found by the transaction that it is on.
+impl<B> Linked for Connection<B> {
+    ghost use Rattle.std.specs.Prelude.{option_map, ⊤};
+
+    ghost link = { λ connection. option_map link_of (key_of connection.role) };
+
+    ghost fits = { λ _. ⊤ };
+
+    fn link(&self) -> Option<u128> {
+        Some(link_of(self.role?.key()))
+    }
+}
+
+/// The number by which a transaction is found, and what is on it: its key as one number.
+pub fn link_of(key: Key) -> u128
+    ensures link { result ≡ link_of key }
+    ensures range { IsInRange key }
+{
+    const NUMBERS: u128 = 1 << 32;
+    (key.epoch() as u128 * NUMBERS + key.connection() as u128) * NUMBERS + key.number() as u128
 }
 
 impl Connection<HeldFresh> {

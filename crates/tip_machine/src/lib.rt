@@ -11,7 +11,7 @@ pub mod laws;
 mod transaction;
 
 pub use answer::{Answer, Asked, Item, Said, Sent, SentLines};
-pub use connection::{Awaited, Connection, Purpose, Role};
+pub use connection::{Awaited, Connection, Purpose, Role, link_of};
 pub use event::{Change, Concerned, Event, Heard, Outcome, Seat};
 pub use head::{Head, Limits, Start, next_epoch};
 pub use transaction::{Origin, PartyPlace, Transaction};

@@ -1,7 +1,11 @@
 //! An open transaction of a realm.
+ghost use Rattle.tip_machine.specs.Connections.{IsInRange, link_of};
+
+use crate::connection::link_of;
 use tip_branch::{Errand, HeldParty};
 use tip_line::{Address, Id};
 use tip_rows::{Branches, Key};
+use tip_table::Linked;
 use tip_txn::Txn;
 
 /// Where a transaction comes from.
@@ -37,4 +41,17 @@ pub struct Transaction<P = HeldParty> {
     pub branches: Branches,
     /// Its identifier, its phase, and its parts with their answers.
     pub txn: Txn,
+}
+
+/// It is found by its own number.
+impl<P> Linked for Transaction<P> {
+    ghost use Rattle.std.specs.Prelude.{Some};
+
+    ghost link = { λ transaction. Some (link_of transaction.key) };
+
+    ghost fits = { λ transaction. IsInRange transaction.key };
+
+    fn link(&self) -> Option<u128> {
+        Some(link_of(self.key))
+    }
 }

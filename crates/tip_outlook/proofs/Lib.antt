@@ -1,3 +1,4 @@
+pub mod Aims
 pub mod Turning
 pub mod Outlooks
 pub mod Subordinates

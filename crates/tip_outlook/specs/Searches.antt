@@ -1,12 +1,13 @@
 -- What is looked for in the tables.
-use Rattle.std.specs.Prelude.{◌≡◌, ◌<◌, ◌^◌, ℕ, Bool, false, List, Option}
+use Rattle.std.specs.Prelude.{◌≡◌, ◌<◌, ◌^◌, ℕ, Bool, false, true, IfSome, List, Option, Some, ⊤, option_map}
 use Rattle.std.specs.Option.{option_map_or}
 use Rattle.std.specs.Str.{bytes_eq}
 use Rattle.tip_branch.specs.Notes.{PartyNotes}
 use Rattle.tip_machine.specs.Answers.{identifier}
 use Rattle.tip_rows.specs.Keys.{IsKey, Key, is_same}
+use Rattle.tip_machine.specs.Connections.{IsInRange, key_of, link_of}
 use Rattle.tip_machine.specs.Transactions.{has_id, has_key, is_known}
-use Rattle.tip_machine.specs.Types.{seen}
+use Rattle.tip_machine.specs.Types.{Connection, seen}
 use Rattle.tip_machine.specs.declared.transaction.Transaction as transaction
 
 abbrev pub HeldTransaction : Type 0
@@ -15,6 +16,14 @@ HeldTransaction = transaction.Transaction PartyNotes
 -- is this the transaction of that key?
 abbrev pub is_keyed : Key → HeldTransaction → Bool
 is_keyed key transaction = has_key key (seen transaction)
+
+-- all connections that pass are on transactions of this link
+abbrev pub AimsOn : (Connection → Bool) → Option ℕ → Type 0
+AimsOn passes aim = IfSome aim (λ link. (connection : Connection) → ⊤ → passes connection ≡ true → option_map link_of (key_of connection.role) ≡ Some link)
+
+-- all transactions that pass have this link
+abbrev pub AimsAt : (HeldTransaction → Bool) → Option ℕ → Type 0
+AimsAt passes aim = IfSome aim (λ link. (transaction : HeldTransaction) → IsInRange transaction.key → passes transaction ≡ true → Some (link_of transaction.key) ≡ Some link)
 
 -- is this the transaction of that identifier, in a realm of that name?
 abbrev pub is_named : List ℕ → List ℕ → HeldTransaction → Bool

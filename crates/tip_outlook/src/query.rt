@@ -1,14 +1,14 @@
 //! What is looked for in the tables.
-ghost use Rattle.std.specs.Prelude.{◌≡◌, List, ℕ};
+ghost use Rattle.std.specs.Prelude.{◌≡◌, List, None, ℕ};
 ghost use Rattle.std.specs.Str.{bytes_eq};
 ghost use Rattle.tip_machine.specs.Answers.{identifier};
 ghost use Rattle.tip_machine.specs.Connections.{asks_for, has_number, is_on, is_part_of, is_superior_of, names, reaches};
 ghost use Rattle.tip_machine.specs.Transactions.{comes_from, is_undecided};
-ghost use Rattle.tip_outlook.specs.Searches.{IsKeyOf, is_keyed, is_named, is_pushed};
+ghost use Rattle.tip_outlook.specs.Searches.{AimsAt, AimsOn, IsKeyOf, is_keyed, is_named, is_pushed};
 
 use std::marker::Model;
 use tip_line::{Address, Id, Realm};
-use tip_machine::{Connection, Origin, Role, Transaction};
+use tip_machine::{Connection, Origin, Role, Transaction, link_of};
 use tip_rows::Key;
 use tip_table::{Rank, Test};
 use tip_txn::{Part, Phase};
@@ -22,8 +22,16 @@ pub struct Numbered {
 impl Test<Connection> for Numbered {
     ghost passes = { λ query connection. has_number query.number connection };
 
-    fn passes(&self, connection: &Connection) -> bool {
+    fn passes(&self, connection: &Connection) -> bool
+        ensures { result ≡ has_number self.now.number connection.now }
+    {
         connection.number == self.number
+    }
+
+    fn aim(&self) -> Option<u128>
+        ensures { AimsOn (has_number self.now.number) result }
+    {
+        None
     }
 }
 
@@ -48,8 +56,17 @@ pub struct Keyed {
 impl Test<Transaction> for Keyed {
     ghost passes = { λ query transaction. is_keyed query.key transaction };
 
-    fn passes(&self, transaction: &Transaction) -> bool {
+    fn passes(&self, transaction: &Transaction) -> bool
+        ensures { result ≡ is_keyed self.now.key transaction.now }
+    {
         transaction.key == self.key
+    }
+
+    #[tactic(auto, using(crate::proofs::Aims::keyed))]
+    fn aim(&self) -> Option<u128>
+        ensures { AimsAt (is_keyed self.now.key) result }
+    {
+        Some(link_of(self.key))
     }
 }
 
@@ -62,8 +79,17 @@ pub struct OnKey {
 impl Test<Connection> for OnKey {
     ghost passes = { λ query connection. is_on query.key connection };
 
-    fn passes(&self, connection: &Connection) -> bool {
+    fn passes(&self, connection: &Connection) -> bool
+        ensures { result ≡ is_on self.now.key connection.now }
+    {
         is_on(connection.role, self.key)
+    }
+
+    #[tactic(auto, using(crate::proofs::Aims::on))]
+    fn aim(&self) -> Option<u128>
+        ensures { AimsOn (is_on self.now.key) result }
+    {
+        Some(link_of(self.key))
     }
 }
 
@@ -76,8 +102,17 @@ pub struct SuperiorOf {
 impl Test<Connection> for SuperiorOf {
     ghost passes = { λ query connection. is_superior_of query.key connection };
 
-    fn passes(&self, connection: &Connection) -> bool {
+    fn passes(&self, connection: &Connection) -> bool
+        ensures { result ≡ is_superior_of self.now.key connection.now }
+    {
         asks_for(connection.role, self.key)
+    }
+
+    #[tactic(auto, using(crate::proofs::Aims::superior))]
+    fn aim(&self) -> Option<u128>
+        ensures { AimsOn (is_superior_of self.now.key) result }
+    {
+        Some(link_of(self.key))
     }
 }
 
@@ -98,8 +133,17 @@ pub struct PartOf {
 impl Test<Connection> for PartOf {
     ghost passes = { λ query connection. is_part_of query.key query.part connection };
 
-    fn passes(&self, connection: &Connection) -> bool {
+    fn passes(&self, connection: &Connection) -> bool
+        ensures { result ≡ is_part_of self.now.key self.now.part connection.now }
+    {
         reaches(connection.role, self.key, self.part)
+    }
+
+    #[tactic(auto, using(crate::proofs::Aims::part))]
+    fn aim(&self) -> Option<u128>
+        ensures { AimsOn (is_part_of self.now.key self.now.part) result }
+    {
+        Some(link_of(self.key))
     }
 }
 
@@ -145,8 +189,17 @@ impl<'a> Named<'a> {
 impl Test<Transaction> for Named<'_> {
     ghost passes = { λ query transaction. is_named query.realm query.id transaction };
 
-    fn passes(&self, transaction: &Transaction) -> bool {
+    fn passes(&self, transaction: &Transaction) -> bool
+        ensures { result ≡ is_named self.now.realm self.now.id transaction.now }
+    {
         is_key(self.key, transaction.key)
+    }
+
+    #[tactic(auto, using(crate::proofs::Aims::named))]
+    fn aim(&self) -> Option<u128>
+        ensures { AimsAt (is_named self.now.realm self.now.id) result }
+    {
+        Some(link_of(self.key?))
     }
 }
 
@@ -160,9 +213,17 @@ pub struct Known<'a> {
 impl Test<Transaction> for Known<'_> {
     ghost passes = { λ query transaction. is_pushed query.peer.now query.superior.now transaction };
 
-    fn passes(&self, transaction: &Transaction) -> bool {
+    fn passes(&self, transaction: &Transaction) -> bool
+        ensures { result ≡ is_pushed self.now.peer.now self.now.superior.now transaction.now }
+    {
         is_undecided(transaction.txn.phase())
             && comes_from(&transaction.origin, self.peer, self.superior)
+    }
+
+    fn aim(&self) -> Option<u128>
+        ensures { AimsAt (is_pushed self.now.peer.now self.now.superior.now) result }
+    {
+        None
     }
 }
 

@@ -1,3 +1,4 @@
+pub mod Progressing
 pub mod Rooms
 pub mod Works
 pub mod Proceeding

@@ -22,6 +22,10 @@ pub record Made : Type 0 where
 abbrev pub items_on : ℕ → List Item → List Sent
 items_on number items = map (λ item. record { connection = number; item = item }) items
 
+-- with these lines and closings more
+abbrev pub telling : Made → List Sent → Made
+telling made said = record made { answer = record made.answer { sent = made.answer.sent ++ said }; free = made.free - length said }
+
 -- these lines and closings more go out
 abbrev pub GoOut : Made → Made → List Sent → Type 0
-GoOut old new said = new ≡ record old { answer = record old.answer { sent = old.answer.sent ++ said }; free = old.free - length said }
+GoOut old new said = new ≡ telling old said

@@ -1,14 +1,15 @@
 //! What a transaction's progress means for each connection that is on it (RFC 2371, section 13).
-ghost use Rattle.std.specs.Prelude.{◌≡◌, ◌-◌, ◌++◌, ◌<◌, true, length, None, Some, option_map};
-ghost use Rattle.tip_machine.specs.Connections.{is_on, names};
+ghost use Rattle.std.specs.Prelude.{◌≡◌, ◌≢◌, ◌-◌, ◌++◌, ◌<◌, ℕ, true, length, IfSome, None, Some, option_map, ⊤};
+ghost use Rattle.tip_machine.specs.Connections.{is_on, key_of, link_of, names};
 ghost use Rattle.tip_machine.specs.Reactions.{demanded, demanded_as, reacted, reacts, sent_by};
-ghost use Rattle.tip_rules.specs.Makings.{GoOut, items_on};
+ghost use Rattle.tip_machine.specs.Types.{Connection as AConnection};
+ghost use Rattle.tip_rules.specs.Makings.{GoOut, Made, items_on, telling};
 ghost use Rattle.tip_rules.specs.Reacting.{demand_of, reaction_of};
 
 use crate::making::Making;
 use tip_conn::State;
 use tip_line::CommandName;
-use tip_machine::{Asked, Awaited, Connection, Item, Role, Said};
+use tip_machine::{Asked, Awaited, Connection, Item, Role, Said, link_of};
 use tip_outlook::is_on;
 use tip_rows::Key;
 use tip_table::Visit;
@@ -113,16 +114,19 @@ impl Visit<Connection, Making> for Progress {
     ghost left = { λ progress connection.
         (reacted (reaction_of progress.reaction) progress.key connection).connection };
 
-    ghost noted = { λ progress making connection. let said = sent_by (reaction_of progress.reaction)
-        progress.key connection in record making {
-          answer = record making.answer { sent = making.answer.sent ++ said };
-          free = making.free - length said;
-        } };
+    ghost noted = { λ progress making connection.
+        telling making (sent_by (reaction_of progress.reaction) progress.key connection) };
 
     ghost may = { λ progress making connection. is_on progress.key connection ≡ true →
         0 < making.free };
 
-    fn visit(&self, connection: &mut Connection, making: &mut Making) {
+    fn visit(&self, connection: &mut Connection, making: &mut Making)
+        requires { is_on self.now.key connection.old ≡ true → 0 < making.old.free }
+        ensures item { connection.new
+            ≡ (reacted (reaction_of self.now.reaction) self.now.key connection.old).connection }
+        ensures notes { making.new ≡ telling making.old
+            (sent_by (reaction_of self.now.reaction) self.now.key connection.old) }
+    {
         if !is_on(connection.role, self.key) {
             return;
         }
@@ -130,6 +134,23 @@ impl Visit<Connection, Making> for Progress {
             Some(command) => self.answer(connection, command, making),
             None => self.demand(connection, making),
         }
+    }
+
+    #[tactic(auto, using(crate::proofs::Progressing::progressing))]
+    fn aim(&self) -> Option<u128>
+        ensures items { IfSome result (λ aim. (connection : AConnection) →
+            option_map link_of (key_of connection.role) ≢ Some aim →
+            (reacted (reaction_of self.now.reaction) self.now.key connection).connection
+            ≡ connection) }
+        ensures notes { IfSome result (λ aim. (connection : AConnection) (making : Made) →
+            option_map link_of (key_of connection.role) ≢ Some aim → telling making
+            (sent_by (reaction_of self.now.reaction) self.now.key connection) ≡ making) }
+        ensures links { (connection : AConnection) (link : ℕ) → option_map link_of (key_of
+            (reacted (reaction_of self.now.reaction) self.now.key connection).connection.role)
+            ≡ Some link → option_map link_of (key_of connection.role) ≡ Some link }
+        ensures fits { (connection : AConnection) → ⊤ → ⊤ }
+    {
+        Some(link_of(self.key))
     }
 }
 

@@ -25,11 +25,11 @@ use tip_branch::HeldParty;
 use tip_line::{Command, Id, Response};
 use tip_machine::{Concerned, Connection, Event, Head, Heard, Outcome, Role, Seat, Transaction};
 use tip_rows::Key;
-use tip_table::Table;
+use tip_table::{Linked, Table};
 
 /// What is declared and counted of each realm, and the tables of all connections and transactions.
 #[derive(Drop)]
-pub struct Realms<C = Connection, T = Transaction> {
+pub struct Realms<C: Linked = Connection, T: Linked = Transaction> {
     pub heads: Vec<Head>,
     pub connections: Table<C>,
     pub transactions: Table<T>,
@@ -228,6 +228,8 @@ impl Realms<Connection, Transaction> {
         self.heads = heads;
         self.connections = connections;
         self.transactions = transactions;
+        self.connections.relink();
+        self.transactions.relink();
         making
     }
 }

@@ -23,12 +23,12 @@ use tip_line::Id;
 use tip_machine::{Connection, Head, Item, Outcome, PartyPlace, Transaction};
 use tip_outlook::{Keyed, OnKey, is_spent};
 use tip_rows::Key;
-use tip_table::Table;
+use tip_table::{Linked, Table};
 use tip_txn::{Ballot, Part, Phase, Txn};
 
 /// The tables of all realms, and the answer in the making.
 #[derive(Drop)]
-pub struct Work<C = Connection, T = Transaction, M = Making> {
+pub struct Work<C: Linked = Connection, T: Linked = Transaction, M = Making> {
     pub heads: Vec<Head>,
     pub connections: Table<C>,
     pub transactions: Table<T>,

@@ -1,8 +1,14 @@
+pub mod Aiming
 pub mod EntryLemmas
+pub mod Keeping
 pub mod KeyLemmas
+pub mod Linking
 pub mod OwnLemmas
+pub mod Pairs
+pub mod Relisting
 pub mod Halving
 pub mod Shelving
 pub mod SlotLemmas
+pub mod Sparing
 pub mod Standing
 pub mod Visiting

@@ -19,7 +19,7 @@ module _ {T : Type 0} (left : T → T) where
   abbrev pub left_entry : Entry T → Entry T
   left_entry entry = record entry { item = left entry.item }
 
-  get-changed : (slots : Slab (Entry T)) (key other : ℕ) → get (changed_at left slots key (get slots key)) other ≡ cond (key == other) (option_map left_entry (get slots other)) (get slots other)
+  pub get-changed : (slots : Slab (Entry T)) (key other : ℕ) → get (changed_at left slots key (get slots key)) other ≡ cond (key == other) (option_map left_entry (get slots other)) (get slots other)
   get-changed slots key other = step (get slots key) refl where
     step : (o : Option (Entry T)) → get slots key ≡ o → get (changed_at left slots key o) other ≡ cond (key == other) (option_map left_entry (get slots other)) (get slots other)
     step None none = elim (cases_Bool (key == other)) [

@@ -1,5 +1,5 @@
 -- How a table lies: entries in slots, and the keys of the slots in order, by realm and in a realm as made. No contract speaks of it but by what `Kept` makes of it.
-use Rattle.std.specs.Prelude.{ℕ, suc, ◌≡◌, ◌≢◌, ◌≤◌, ◌&&◌, ◌||◌, Bool, false, length, ◌==◌, if◌then◌else◌, List, [], ◌∷◌, Option, Some, None, IsSome, option_map, map, nat_lt, slice_get}
+use Rattle.std.specs.Prelude.{ℕ, suc, ◌≡◌, ◌≢◌, ◌≤◌, ◌&&◌, ◌||◌, Bool, true, false, length, ◌==◌, if◌then◌else◌, List, [], ◌∷◌, Option, Some, None, IsSome, option_map, map, nat_lt, slice_get}
 use Rattle.std.specs.List.{list_any}
 use Rattle.slab.specs.Slab.{Slab, get, with_value}
 use Rattle.tip_table.specs.Lists.{IsFirst}
@@ -63,6 +63,11 @@ AreThere slots (key ∷ keys) = IsSome (get slots key) × AreThere slots keys
 abbrev pub AreApart : List ℕ → Type 0
 AreApart [] = Unit {0}
 AreApart (key ∷ keys) = (is_among keys key ≡ false) × AreApart keys
+
+-- each key stands so to each that is behind it
+abbrev pub Pairwise : (ℕ → ℕ → Type 0) → List ℕ → Type 0
+Pairwise R [] = Unit {0}
+Pairwise R (key ∷ keys) = ((other : ℕ) → is_among keys other ≡ true → R key other) × Pairwise R keys
 
 -- all are of this realm or a later one
 abbrev pub AreFrom : {T : Type 0} → ℕ → List (Placed T) → Type 0

@@ -3,6 +3,8 @@
 
 mod items;
 pub mod laws;
+mod link;
+mod links;
 mod order;
 mod rank;
 mod table;
@@ -10,6 +12,7 @@ mod test;
 mod visit;
 
 pub use items::Items;
+pub use link::Linked;
 pub use rank::Rank;
 pub use table::Table;
 pub use test::Test;

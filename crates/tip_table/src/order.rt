@@ -6,6 +6,7 @@ ghost use Rattle.tip_table.specs.Entries.{AreApart, AreByRealm, AreThere, IsFirs
 ghost use Rattle.tip_table.specs.Lists.{are_rising};
 ghost use Rattle.tip_table.specs.Visits.{MayVisit, notes_of};
 
+use crate::link::Linked;
 use crate::rank::Rank;
 use crate::table::Entry;
 use crate::test::Test;
@@ -121,7 +122,11 @@ fn realm_at<T, A: Allocator>(slots: &Slab<Entry<T>, A>, key: usize) -> usize
 }
 
 /// Whether the item under a key passes.
-fn passes_at<T, A: Allocator, Q: Test<T>>(slots: &Slab<Entry<T>, A>, key: usize, query: &Q) -> bool
+fn passes_at<T: Linked, A: Allocator, Q: Test<T>>(
+    slots: &Slab<Entry<T>, A>,
+    key: usize,
+    query: &Q,
+) -> bool
     ensures { result ≡ passes_in (Q.passes query.now) (get slots.now key) }
 {
     match slots.get(key) {
@@ -190,7 +195,7 @@ fn is_ranked<T, A: Allocator, R: Rank<T>>(
 }
 
 /// Where the first of these keys stands whose item passes.
-pub(crate) fn first_passing<T, A: Allocator, Q: Test<T>>(
+pub(crate) fn first_passing<T: Linked, A: Allocator, Q: Test<T>>(
     slots: &Slab<Entry<T>, A>,
     keys: &[usize],
     query: &Q,
@@ -202,7 +207,7 @@ pub(crate) fn first_passing<T, A: Allocator, Q: Test<T>>(
 }
 
 /// How many of the items at these keys pass.
-pub(crate) fn count_passing<T, A: Allocator, Q: Test<T>>(
+pub(crate) fn count_passing<T: Linked, A: Allocator, Q: Test<T>>(
     slots: &Slab<Entry<T>, A>,
     keys: &[usize],
     query: &Q,
@@ -216,7 +221,7 @@ pub(crate) fn count_passing<T, A: Allocator, Q: Test<T>>(
 }
 
 /// Visits the items at these keys.
-pub(crate) fn visit_at<T, A: Allocator, N, V: Visit<T, N>>(
+pub(crate) fn visit_at<T: Linked, A: Allocator, N, V: Visit<T, N>>(
     slots: &mut Slab<Entry<T>, A>,
     keys: &[usize],
     visitor: &V,

@@ -1,5 +1,5 @@
 //! One table for the items of many realms.
-ghost use Rattle.std.specs.Prelude.{◌≡◌, ◌≢◌, ◌↔◌, ◌==◌, ℕ, ◌+◌, ◌-◌, ◌<◌, ◌≤◌, [], ◌∷◌, ◌++◌, Some, None, true, filter, length, map, vec_len, vec_capacity, IsSome, IsOk, IfOk, IfSome, OnOk};
+ghost use Rattle.std.specs.Prelude.{◌≡◌, ◌≢◌, ◌↔◌, ◌==◌, ℕ, Bool, ◌+◌, ◌-◌, ◌<◌, ◌≤◌, [], ◌∷◌, ◌++◌, Some, None, true, filter, length, map, vec_len, vec_capacity, IsSome, IsOk, IfOk, IfSome, OnOk};
 ghost use Rattle.std.specs.List.{find};
 ghost use Rattle.tip_table.specs.Entries.{AreApart, AreThere, Item, items_in, placed_at};
 ghost use Rattle.tip_table.specs.Kept.{StandsAt, capacity, of, places, item_at, taken_out};
@@ -7,7 +7,9 @@ ghost use Rattle.tip_table.specs.Lists.{are_rising};
 ghost use Rattle.tip_table.specs.Visits.{MayVisit, notes_of};
 
 use crate::items::Items;
-use crate::order::{count_passing, first_passing, index_of, key_ranked, own, through, visit_at};
+use crate::link::Linked;
+use crate::links::{Unlisted, aimed, count, leave, lent, reserve, settle, visit};
+use crate::order::{count_passing, first_passing, index_of, key_ranked, own, through};
 use crate::rank::Rank;
 use crate::test::Test;
 use crate::visit::Visit;
@@ -19,34 +21,48 @@ use std::marker::Model;
 #[derive(Drop)]
 pub(crate) struct Entry<T> {
     pub(crate) realm: usize,
+    /// How many items were made before it.
+    pub(crate) made: u64,
+    /// The link under which it is listed.
+    pub(crate) listed: Option<u128>,
     pub(crate) item: T,
 }
 
 /// Items, each of a realm. A place is a name of one item that holds until that item is removed; then it is used again.
 #[derive(Drop)]
-pub struct Table<T, A: Allocator = Global> {
+pub struct Table<T: Linked, A: Allocator = Global> {
     slots: Slab<Entry<T>, A>,
     /// The keys of the slots: by realm, and in a realm in the order made.
     order: Vec<usize, A>,
+    /// The keys of those whose items are listed by their links: by realm, by link, and in the order made.
+    links: Vec<usize, A>,
+    unlisted: Unlisted,
+    /// How many items were made.
+    made: u64,
 }
 
-impl<T, A: Allocator> Model for Table<T, A> {
-    ghost use Rattle.std.specs.Prelude.{◌-◌, min, vec_len, vec_capacity};
+impl<T: Linked, A: Allocator> Model for Table<T, A> {
+    ghost use Rattle.std.specs.Prelude.{◌-◌, ◌≤◌, length, min, vec_len, vec_capacity};
     ghost use Rattle.slab.specs.Slab.{slab_len};
     ghost use Rattle.tip_table.specs.Entries.{IsOrder, placed_at};
     ghost use Rattle.tip_table.specs.Kept.{Kept};
+    ghost use Rattle.tip_table.specs.Links.{AreCounted, IsKnown};
 
     ghost Value = { Kept T };
 
     ghost view = { λ t. record {
       entries = placed_at t.slots t.order.items;
-      free = min (t.slots.capacity - slab_len t.slots) (vec_capacity t.order - vec_len t.order);
+      free = min (t.slots.capacity - slab_len t.slots)
+          (min (vec_capacity t.order - vec_len t.order) (vec_capacity t.links - length t.order.items));
     } };
 
-    ghost invariant = { λ t. IsOrder t.slots t.order.items };
+    ghost invariant = { λ t. IsOrder t.slots t.order.items
+        × IsKnown T.Linked t.slots t.order.items t.links.items t.unlisted
+        × AreCounted t.slots t.order.items t.made t.unlisted
+        × (length t.order.items ≤ vec_capacity t.links) };
 }
 
-impl<T: Drop, A: Allocator + Copy> Table<T, A> {
+impl<T: Linked + Drop, A: Allocator + Copy> Table<T, A> {
     /// A table without items. It takes no memory.
     #[tactic(auto, unfolding(crate::specs::Kept::of))]
     pub fn new(alloc: A) -> Self
@@ -55,6 +71,9 @@ impl<T: Drop, A: Allocator + Copy> Table<T, A> {
         Table {
             slots: Slab::new(alloc),
             order: Vec::new(alloc),
+            links: Vec::new(alloc),
+            unlisted: Unlisted::Nothing,
+            made: 0,
         }
     }
 
@@ -69,11 +88,14 @@ impl<T: Drop, A: Allocator + Copy> Table<T, A> {
         Ok(Table {
             slots: Slab::with_capacity(alloc, count)?,
             order: Vec::with_capacity(alloc, count)?,
+            links: Vec::with_capacity(alloc, count)?,
+            unlisted: Unlisted::Nothing,
+            made: 0,
         })
     }
 }
 
-impl<T: Drop, A: Allocator> Table<T, A> {
+impl<T: Linked + Drop, A: Allocator> Table<T, A> {
     ghost use Rattle.std.specs.Borrow.{sem};
     ghost use Rattle.tip_table.specs.Lending.{LendsItem};
 
@@ -94,7 +116,8 @@ impl<T: Drop, A: Allocator> Table<T, A> {
         ensures places { (place : ℕ) → places self.new place ≡ places self.old place }
     {
         self.slots.reserve(1)?;
-        self.order.reserve(1)
+        self.order.reserve(1)?;
+        reserve(&mut self.links, self.order.len(), 1)
     }
 
     /// Makes room for so many items more.
@@ -105,7 +128,8 @@ impl<T: Drop, A: Allocator> Table<T, A> {
         ensures places { (place : ℕ) → places self.new place ≡ places self.old place }
     {
         self.slots.reserve(count)?;
-        self.order.reserve(count)
+        self.order.reserve(count)?;
+        reserve(&mut self.links, self.order.len(), count)
     }
 
     /// Makes an item the last of its realm. It takes room that `reserve` made.
@@ -118,9 +142,16 @@ impl<T: Drop, A: Allocator> Table<T, A> {
         ensures free { self.new.free + 1 ≡ self.old.free }
         ensures room { capacity self.new ≡ capacity self.old }
     {
+        self.unlisted = settle(&mut self.slots, &mut self.links, self.unlisted);
         let end = through(&self.slots, &self.order, realm);
-        let key = self.slots.insert_reserved(Entry { realm, item });
+        let key = self.slots.insert_reserved(Entry {
+            realm,
+            made: self.made,
+            listed: None,
+            item,
+        });
         self.order.insert(end, key).unwrap();
+        (self.made, self.unlisted) = count(self.made, lent(self.unlisted, key));
     }
 
     /// The place of a realm's first item that passes.
@@ -128,9 +159,16 @@ impl<T: Drop, A: Allocator> Table<T, A> {
         ensures none { (result ≡ None) ↔ (find (Q.passes query.now) (of self.now realm) ≡ None) }
         ensures some { IfSome result (λ place. StandsAt self.now realm (Q.passes query.now) place) }
     {
-        let own = own(&self.slots, &self.order, realm);
-        let at = first_passing(&self.slots, own, query)?;
-        Some(own[at])
+        let some = aimed(
+            &self.slots,
+            &self.order,
+            &self.links,
+            self.unlisted,
+            realm,
+            query.aim(),
+        );
+        let at = first_passing(&self.slots, some, query)?;
+        Some(some[at])
     }
 
     /// The place of a realm's item of this rank, by halves: the ranks of its items rise.
@@ -155,7 +193,15 @@ impl<T: Drop, A: Allocator> Table<T, A> {
     pub fn count_passing<Q: Test<T>>(&self, realm: usize, query: &Q) -> usize
         ensures { result ≡ length (filter (Q.passes query.now) (of self.now realm)) }
     {
-        count_passing(&self.slots, own(&self.slots, &self.order, realm), query)
+        let some = aimed(
+            &self.slots,
+            &self.order,
+            &self.links,
+            self.unlisted,
+            realm,
+            query.aim(),
+        );
+        count_passing(&self.slots, some, query)
     }
 
     /// The item at a place.
@@ -169,9 +215,11 @@ impl<T: Drop, A: Allocator> Table<T, A> {
     /// The item at a place, to be written.
     pub fn item_mut(&mut self, place: usize) -> &mut T
         requires { IsSome (places self.old place) }
-        ensures* writes_back { sem 𝓛 (LendsItem T.row A.row A.Allocator self.entry place result) }
+        ensures* writes_back { sem 𝓛 (LendsItem T.row A.row T.Linked A.Allocator self.entry place result) }
         ensures value { item_at self.old place ≡ Some result.now }
     {
+        let unlisted = settle(&mut self.slots, &mut self.links, self.unlisted);
+        self.unlisted = lent(unlisted, place);
         let entry = &mut self.slots[place];
         &mut entry.item
     }
@@ -187,8 +235,40 @@ impl<T: Drop, A: Allocator> Table<T, A> {
         ensures free { self.new.free ≡ self.old.free }
         ensures room { capacity self.new ≡ capacity self.old }
     {
-        let own = own(&self.slots, &self.order, realm);
-        visit_at(&mut self.slots, own, visitor, notes);
+        visit(
+            &mut self.slots,
+            &self.order,
+            &self.links,
+            self.unlisted,
+            realm,
+            visitor,
+            notes,
+        );
+    }
+
+    /// The items of a realm, or where a link is given those alone that may have it, in the order made.
+    pub fn linked(&self, realm: usize, aim: Option<u128>) -> Items<'_, T, A>
+        ensures all { (test : T → Bool) → IfSome aim (λ link.
+            (item : T) → T.fits item → test item ≡ true → T.link item ≡ Some link) →
+            filter test result ≡ filter test (of self.now realm) }
+        ensures fewer { length result ≤ length (of self.now realm) }
+    {
+        let some = aimed(
+            &self.slots,
+            &self.order,
+            &self.links,
+            self.unlisted,
+            realm,
+            aim,
+        );
+        Items::new(&self.slots, some)
+    }
+
+    /// What was written last is found by the link that it has by now. To be called once all is written: until then more is looked at.
+    pub fn relink(&mut self)
+        ensures { self.new ≡ self.old }
+    {
+        self.unlisted = settle(&mut self.slots, &mut self.links, self.unlisted);
     }
 
     /// Takes the item at a place out. All other items keep their places.
@@ -202,6 +282,7 @@ impl<T: Drop, A: Allocator> Table<T, A> {
     {
         let index = index_of(&self.slots, &self.order, place);
         let _key = self.order.remove(index);
+        self.unlisted = leave(&mut self.slots, &mut self.links, self.unlisted, place);
         self.slots.remove(place).item
     }
 
@@ -217,13 +298,13 @@ impl<T: Drop, A: Allocator> Table<T, A> {
         ensures free { result.free + capacity self ≡ spare.free + self.free
             + length (of self realm) }
     {
-        let Table { slots, order } = self;
+        let Table { slots, order, .. } = self;
         part(slots, order, realm, spare, left)
     }
 }
 
 /// The items of a realm leave, and all other entries move behind those of `spare`.
-fn part<T: Drop, A: Allocator>(
+fn part<T: Linked + Drop, A: Allocator>(
     mut slots: Slab<Entry<T>, A>,
     order: Vec<usize, A>,
     realm: usize,

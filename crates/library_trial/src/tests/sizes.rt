@@ -1,9 +1,11 @@
 //! Values of the greatest lengths, and many of them.
+ghost use Rattle.std.specs.Prelude.{◌%◌, ◌/◌, ◌==◌, None, Some, if◌then◌else◌, ⊤};
+
 use std::alloc::{AllocError, Global};
 use std::test::Fail;
 use tip_line::{Address, Command, Id, Realm, Word};
 use tip_rows::{Key, MemRows, Refused, Row, RowLog};
-use tip_table::Table;
+use tip_table::{Linked, Table};
 use tip_txn::{Part, Txn};
 
 /// How many octets a word may have.
@@ -77,14 +79,34 @@ fn many_long_rows_are_kept(rt: HostRuntime) -> Result<(), Fail> {
     Ok(())
 }
 
+/// An item, and how many were made before it. Those that are even are linked to half of it.
+#[derive(Drop)]
+struct Counted(usize);
+
+impl Linked for Counted {
+    ghost link = { λ item. if (item.0 % 2) == 0 then Some (item.0 / 2) else None };
+
+    ghost fits = { λ _. ⊤ };
+
+    fn link(&self) -> Option<u128> {
+        if self.0 % 2 == 0 {
+            Some(self.0 as u128 / 2)
+        } else {
+            None
+        }
+    }
+}
+
 #[test]
 fn tables_grow(rt: HostRuntime) -> Result<(), Fail> {
     let mut table = Table::new(rt.alloc());
     for number in 0..MANY {
         table.reserve()?;
-        table.add(number % 2, number);
+        table.add(number % 2, Counted(number));
+        table.relink();
     }
     assert_eq!(rt; (table.count(0), table.count(1)), (MANY / 2, MANY / 2));
+    assert_eq!(rt; table.linked(0, Some(7)).count(), 1);
     Ok(())
 }
 

@@ -14,16 +14,16 @@ returns-in_default-clause-takes g c = record {
 
 pub returns-clause-takes : goal.returns-clause-takes
 returns-clause-takes g c =
-    let sent = c.new.ensures.sent ∙ c.in_ok-sent.ensures ∙ c.party-party.ensures in
+    let sent = c.new.ensures.sent ∙ c.in_ok-sent.ensures ∙ c.party-party.ensures ∙ c.item-2.ensures in
     let first = taken_first c.args.work.now c.args.realm c.in-Some.place c.item.result.now c.in-Some.ensures.some c.item.ensures in
     record {
       waited = first ∙ ap (λ xs. c.item.result.now ∷ xs) (sym (c.remove.ensures.left c.args.realm)) ∙ ap (λ p. p ∷ of c.remove.new.self c.args.realm) (sym sent);
       none = λ is. absurd (none-some _ (sym is));
-      goes = c.add.ensures.added ∙ ap (λ xs. xs ++ c.in_ok-noted.noted ∷ []) (c.in_ok-reserve.ensures.items c.args.realm) ∙ ap (λ p. of c.args.out.now c.args.realm ++ p ∷ []) (c.in_ok-noted.ensures ∙ c.party-party.ensures ∙ sym sent);
+      goes = c.add.ensures.added ∙ ap (λ xs. xs ++ c.from_item.result ∷ []) (c.in_ok-reserve.ensures.items c.args.realm) ∙ ap (λ p. of c.args.out.now c.args.realm ++ p ∷ []) (c.from_item.ensures ∙ c.in_ok-noted.ensures ∙ c.party-party.ensures ∙ c.item-2.ensures ∙ sym sent);
       others = λ other differ. (c.remove.ensures.left other ∙ taken_others c.args.work.now c.args.realm c.in-Some.place c.item.result.now c.in-Some.ensures.some c.item.ensures other differ, c.add.ensures.others other differ ∙ c.in_ok-reserve.ensures.items other);
     }
 
 pub returns-clause-out : goal.returns-clause-out
 returns-clause-out g c =
-    taken_over c.args.work.now c.args.realm c.in-Some.place c.in_ok-noted.noted c.in-Some.ensures.some (c.item.ensures ∙ ap Some (sym (c.in_ok-noted.ensures ∙ c.party-party.ensures)))
+    taken_over c.args.work.now c.args.realm c.in-Some.place c.from_item.result c.in-Some.ensures.some (c.item.ensures ∙ ap Some (sym (c.from_item.ensures ∙ c.in_ok-noted.ensures ∙ c.party-party.ensures ∙ c.item-2.ensures)))
     c.remove.new.self c.args.out.now c.reserve.new.self c.add.new.self c.remove.ensures.left c.in_ok-reserve.ensures.items c.add.ensures.added c.add.ensures.others

@@ -13,10 +13,10 @@ use Rattle.tip_table.proofs.Standing.{found-first}
 use Rattle.tip_table.proofs.table.Table.find_ranked.Goals as goal
 
 pub key_ranked-requires-clause-there : goal.key_ranked-requires-clause-there
-key_ranked-requires-clause-there g c = subst (AreThere c.self.inside.slots) (sym c.deref.ensures.value) c.self.invariant.there
+key_ranked-requires-clause-there g c = subst (AreThere c.self.inside.slots) (sym c.deref.ensures.value) c.self.invariant.0.there
 
 pub key_ranked-requires-clause-by_realm : goal.key_ranked-requires-clause-by_realm
-key_ranked-requires-clause-by_realm g c = subst (λ keys. AreByRealm (placed_at c.self.inside.slots keys)) (sym c.deref.ensures.value) c.self.invariant.by_realm
+key_ranked-requires-clause-by_realm g c = subst (λ keys. AreByRealm (placed_at c.self.inside.slots keys)) (sym c.deref.ensures.value) c.self.invariant.0.by_realm
 
 pub key_ranked-requires-clause-rising : goal.key_ranked-requires-clause-rising
 unfolding of
@@ -53,6 +53,6 @@ returns-clause-some g c =
     let at : slice_get (own_keys slots keys c.args.realm) first.at ≡ Some key = ap (λ ks. slice_get (own_keys slots ks c.args.realm) first.at) (sym c.deref.ensures.value) ∙ first.here in
     rw (← c.self.view_is) (record {
       at = first.at;
-      there = (standing-own slots keys c.args.realm first.at key c.self.invariant.there c.self.invariant.apart at).0;
+      there = (standing-own slots keys c.args.realm first.at key c.self.invariant.0.there c.self.invariant.0.apart at).0;
       first = subst (λ items. IsFirst test items first.at) same first.first;
     }))
