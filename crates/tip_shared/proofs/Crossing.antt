@@ -38,7 +38,9 @@ use Rattle.tip_branch.specs.contracts.party_note.PartyNote
 use Rattle.tip_machine.proofs.connection.Connection.TheSendSync as connection
 use Rattle.tip_machine.proofs.transaction.Transaction.TheSendSync as transaction
 use Rattle.tip_machine.specs.contracts.connection.Connection
+use Rattle.tip_machine.specs.contracts.connection.ConnectionLinked.TheImpl as connection_linked
 use Rattle.tip_machine.specs.contracts.transaction.Transaction
+use Rattle.tip_machine.specs.contracts.transaction.TransactionLinked.TheImpl as transaction_linked
 use Rattle.tip_outlook.proofs.turns.Turns.TheSendSync as turns
 use Rattle.tip_rules.proofs.realms.Realms.TheSendSync as realms
 use Rattle.tip_rules.specs.contracts.realms.Realms
@@ -62,6 +64,9 @@ use Rattle.tip_host.specs.contracts.books.Books.TheInside as InBooks
 use Rattle.tip_host.specs.contracts.books.Books
 use Rattle.tip_host.specs.contracts.host.Host
 use Rattle.tip_host.specs.contracts.host.Host.TheInside as InHost
+use Rattle.tip_host.proofs.unlinked.Unlinked.TheSendSync as unlinked
+use Rattle.tip_host.specs.contracts.unlinked.Unlinked
+use Rattle.tip_host.specs.contracts.unlinked.UnlinkedLinked.TheImpl as unlinked_linked
 use Rattle.tip_shared.proofs.conditions.Conditions.TheSendSync as conditions
 use Rattle.tip_shared.specs.contracts.shared.Shared
 
@@ -105,8 +110,8 @@ module _ (D : RattleType) (g : Ghosts D.Denot) (boxed : IsSend (DynBox.the_row D
   pub held_fresh_send : IsSend (HeldFresh.the_row D g)
   held_fresh_send = view_send (InFresh.the_row D g) _ _ _ _ (recorded_send (InFresh.the_field D g).row _ _ (InFresh.the_type D g).to_one (struct_send (Declared.shape (InFresh.the_type D g)) (lot_send, tt)))
 
-  realms_send : IsSend (Realms.the_field (Connection.the_row (HeldFresh.the_row D g)) (Transaction.the_row (HeldParty.the_row D g))).row
-  realms_send = realms.the_field_send (Connection.the_row (HeldFresh.the_row D g)) (Transaction.the_row (HeldParty.the_row D g)) (connection.the_send (HeldFresh.the_row D g) held_fresh_send) (transaction.the_send (HeldParty.the_row D g) held_party_send)
+  realms_send : IsSend (Realms.the_field (Connection.the_row (HeldFresh.the_row D g)) (Transaction.the_row (HeldParty.the_row D g)) (connection_linked.ghosts (HeldFresh.the_row D g)) (transaction_linked.ghosts (HeldParty.the_row D g))).row
+  realms_send = realms.the_field_send (Connection.the_row (HeldFresh.the_row D g)) (Transaction.the_row (HeldParty.the_row D g)) (connection_linked.ghosts (HeldFresh.the_row D g)) (transaction_linked.ghosts (HeldParty.the_row D g)) (connection.the_send (HeldFresh.the_row D g) held_fresh_send) (transaction.the_send (HeldParty.the_row D g) held_party_send)
 
   pub core_send : IsSend (Core.the_row D g)
   core_send = view_send (InCore.the_row D g) _ _ _ _ (recorded_send (InCore.the_field D g).row _ _ (InCore.the_type D g).to_one (struct_send (Declared.shape (InCore.the_type D g)) (realms_send, (turns.the_send, tt))))
@@ -114,11 +119,11 @@ module _ (D : RattleType) (g : Ghosts D.Denot) (boxed : IsSend (DynBox.the_row D
   party_out_send : IsSend (PartyOut.the_row D g)
   party_out_send = view_send (InOut.the_row D g) _ _ _ _ (recorded_send (InOut.the_field D g).row _ _ (InOut.the_type D g).to_one (struct_send (Declared.shape (InOut.the_type D g)) (held_party_send, tt)))
 
-  work_send : IsSend (Table.the_row (PartyOut.the_row D g) Global.the_row TheImpl.ghosts)
-  work_send = table.the_send (PartyOut.the_row D g) Global.the_row TheImpl.ghosts party_out_send global.the_send heap.the_frees
+  work_send : IsSend (Table.the_row (Unlinked.the_row (PartyOut.the_row D g)) Global.the_row (unlinked_linked.ghosts (PartyOut.the_row D g)) TheImpl.ghosts)
+  work_send = table.the_send (Unlinked.the_row (PartyOut.the_row D g)) Global.the_row (unlinked_linked.ghosts (PartyOut.the_row D g)) TheImpl.ghosts (unlinked.the_send (PartyOut.the_row D g) party_out_send) global.the_send heap.the_frees
 
-  out_send : IsSend (Table.the_row PartyNote.the_row Global.the_row TheImpl.ghosts)
-  out_send = table.the_send PartyNote.the_row Global.the_row TheImpl.ghosts note.the_send global.the_send heap.the_frees
+  out_send : IsSend (Table.the_row (Unlinked.the_row PartyNote.the_row) Global.the_row (unlinked_linked.ghosts PartyNote.the_row) TheImpl.ghosts)
+  out_send = table.the_send (Unlinked.the_row PartyNote.the_row) Global.the_row (unlinked_linked.ghosts PartyNote.the_row) TheImpl.ghosts (unlinked.the_send PartyNote.the_row note.the_send) global.the_send heap.the_frees
 
   retired_send : IsSend (Vec.the_row Retired.the_row Global.the_row TheImpl.ghosts)
   retired_send = vec.the_send Retired.the_row Global.the_row TheImpl.ghosts retired.the_send global.the_send heap.the_frees
