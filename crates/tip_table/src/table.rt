@@ -107,7 +107,6 @@ impl<T: Linked + Drop, A: Allocator> Table<T, A> {
     }
 
     /// Makes room for one item more.
-    #[tactic(auto, unfolding(crate::specs::Kept::of, crate::specs::Kept::places))]
     pub fn reserve(&mut self) -> Result<(), AllocError>
         ensures ok { OnOk result (0 < self.new.free) }
         ensures room_is_kept { self.old.free ≤ self.new.free }
@@ -115,15 +114,15 @@ impl<T: Linked + Drop, A: Allocator> Table<T, A> {
         ensures items { (realm : ℕ) → of self.new realm ≡ of self.old realm }
         ensures places { (place : ℕ) → places self.new place ≡ places self.old place }
     {
-        self.slots.reserve(1)?;
-        self.order.reserve(1)?;
-        reserve(&mut self.links, self.order.len(), 1)
+        self.reserve_for(1)
     }
 
     /// Makes room for so many items more.
     #[tactic(auto, unfolding(crate::specs::Kept::of, crate::specs::Kept::places))]
     pub fn reserve_for(&mut self, count: usize) -> Result<(), AllocError>
         ensures ok { OnOk result (count ≤ self.new.free) }
+        ensures room_is_kept { self.old.free ≤ self.new.free }
+        ensures has_room { 0 < count → count ≤ self.old.free → IsOk result }
         ensures items { (realm : ℕ) → of self.new realm ≡ of self.old realm }
         ensures places { (place : ℕ) → places self.new place ≡ places self.old place }
     {
