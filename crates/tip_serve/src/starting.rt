@@ -12,7 +12,6 @@ use std::time::Clock;
 use tip_branch::Branch;
 use tip_core::Core;
 use tip_duties::{Duties, Heading, ServeFault, declarations, has_row_ahead, plans_for};
-use tip_honest::Entry;
 use tip_host::Host;
 use tip_journal::Pass;
 use tip_line::Realm;
@@ -96,39 +95,23 @@ pub struct Started<'a, S> {
 /// The realms start, with these boxes for their rows.
 pub fn start<'a, S: RowLog + Drop + Send + 'static>(
     alloc: Global,
-    mut recovering: Recovering<S>,
+    recovering: Recovering<S>,
     config: &'a Config,
     sessions: Option<u32>,
-    mut pool: Vec<Box<dyn Branch + Send>>,
+    pool: Vec<Box<dyn Branch + Send>>,
     shelves: Shelves,
 ) -> Result<Started<'a, S>, ServeFault> {
-    let mut duties = Vec::new(alloc);
-    let mut epochs = Vec::new(alloc);
-    for recovery in recovering.realms() {
-        duties.push(Duties::of(alloc, recovery.rows())?)?;
-        epochs.push(recovery.epoch())?;
-    }
-    let boxes = dealt_to_all(alloc, &mut pool, recovering.realms())?;
-    if !recovering.adopt_all(boxes) {
-        return Err(ServeFault::Memory);
-    }
-    let Ok(host) = Host::open(alloc, recovering) else {
-        return Err(ServeFault::Memory);
-    };
-    let Ok(shared) = Shared::new(alloc, host) else {
-        return Err(ServeFault::Memory);
-    };
-    let mut realms = Vec::new(alloc);
-    for (realm, epoch) in config.realms.iter().zip(epochs) {
-        realms.push(served(alloc, realm, epoch, shared.pass(alloc))?)?;
-    }
+    let duties = duties_of(alloc, recovering.realms())?;
+    let realms = served_all(alloc, &config.realms, recovering.realms())?;
+    let shared = open_shared(alloc, recovering, pool)?;
+    let log = Arc::new(alloc, Log::new())?;
     let Shelves { inbox, doubts } = shelves;
     let server = Server {
         alloc,
         realms,
-        shared: Arc::new(alloc, shared)?,
+        shared,
         inbox,
-        log: Arc::new(alloc, Log::new())?,
+        log,
         doubts,
         live: Vec::new(alloc),
         free: Vec::new(alloc),
@@ -142,19 +125,55 @@ pub fn start<'a, S: RowLog + Drop + Send + 'static>(
     Ok(Started { server, duties })
 }
 
-/// A realm that starts in this epoch.
-fn served(
+/// What is to be done for the rows of each realm.
+fn duties_of(alloc: Global, realms: &[Recovery]) -> Result<Vec<Duties>, AllocError> {
+    let mut duties = Vec::with_capacity(alloc, realms.len())?;
+    for recovery in realms {
+        duties.push(Duties::of(alloc, recovery.rows())?)?;
+    }
+    Ok(duties)
+}
+
+/// A host over these realms, with these boxes for their rows, behind its lock.
+fn open_shared<S: RowLog + Drop>(
     alloc: Global,
-    config: &RealmConfig,
-    epoch: u32,
-    own: Pass<Entry>,
-) -> Result<Served<'_>, ServeFault> {
+    mut recovering: Recovering<S>,
+    mut pool: Vec<Box<dyn Branch + Send>>,
+) -> Result<Arc<Shared<S>>, ServeFault> {
+    let boxes = dealt_to_all(alloc, &mut pool, recovering.realms())?;
+    if !recovering.adopt_all(boxes) {
+        return Err(ServeFault::Memory);
+    }
+    let Ok(host) = Host::open(alloc, recovering) else {
+        return Err(ServeFault::Memory);
+    };
+    match Shared::new(alloc, host) {
+        Ok(shared) => Ok(Arc::new(alloc, shared)?),
+        Err(_) => Err(ServeFault::Memory),
+    }
+}
+
+/// The realms, each as it starts.
+fn served_all<'a>(
+    alloc: Global,
+    configs: &'a [RealmConfig],
+    realms: &[Recovery],
+) -> Result<Vec<Served<'a>>, ServeFault> {
+    let mut all = Vec::with_capacity(alloc, realms.len())?;
+    for (config, recovery) in configs.iter().zip(realms) {
+        all.push(served(alloc, config, recovery.epoch())?)?;
+    }
+    Ok(all)
+}
+
+/// A realm that starts in this epoch.
+fn served(alloc: Global, config: &RealmConfig, epoch: u32) -> Result<Served<'_>, ServeFault> {
     let mut starts = Vec::new(alloc);
     starts.push(Start { epoch, sessions: 0 })?;
     Ok(Served {
         config,
         plans: plans_for(alloc, &config.plans, config.limits.boxes)?,
-        own,
+        own: Pass::new(alloc),
         passes: Vec::new(alloc),
         starts,
         stuck: None,
