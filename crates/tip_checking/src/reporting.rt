@@ -41,7 +41,8 @@ fn report_realm(realm: &Known, told: &mut String) -> Result<bool, AllocError>
 }
 
 fn report_rows(alloc: Global, contents: &Contents, told: &mut String) -> Result<bool, AllocError>
-    ensures { IfOk result (λ right. right ≡ are_right_rows contents.now.realms.items contents.now.rows.items) }
+    ensures { IfOk result (λ right.
+        right ≡ are_right_rows contents.now.realms.items contents.now.rows.items) }
 {
     let realms = contents.realms.as_slice();
     let mut right = true;

@@ -81,7 +81,8 @@ impl Test<Transaction> for Owing<'_> {
         owes owing.key owing.address.now owing.id.now (seen transaction) };
 
     fn passes(&self, transaction: &Transaction) -> bool
-        ensures { result ≡ owes self.now.key self.now.address.now self.now.id.now (seen transaction.now) }
+        ensures { result
+            ≡ owes self.now.key self.now.address.now self.now.id.now (seen transaction.now) }
     {
         transaction.key == self.key
             && matches!(transaction.txn.phase(), Phase::Committed)

@@ -26,7 +26,8 @@ impl RealmOutboxes {
     /// Something waits for a connection behind what waits there. Without memory it is handed back.
     pub(crate) fn push(&mut self, alloc: Global, number: u32, item: Item) -> Result<(), Item>
         ensures own { OnOk result (queued self.new number ≡ queued self.old number ++ item ∷ []) }
-        ensures others { (other : ℕ) → other ≢ number → queued self.new other ≡ queued self.old other }
+        ensures others { (other : ℕ) → other ≢ number →
+            queued self.new other ≡ queued self.old other }
         ensures same { OnErr result (queued self.new number ≡ queued self.old number) }
         ensures back { IfErr result (λ back. back ≡ item) }
     {
@@ -50,7 +51,8 @@ impl RealmOutboxes {
     pub(crate) fn take(&mut self, number: u32) -> Option<Item>
         ensures taken { result ≡ slice_get (queued self.old number) 0 }
         ensures left { queued self.new number ≡ drop 1 (queued self.old number) }
-        ensures others { (other : ℕ) → other ≢ number → queued self.new other ≡ queued self.old other }
+        ensures others { (other : ℕ) → other ≢ number →
+            queued self.new other ≡ queued self.old other }
     {
         let queue = self.queues.get_mut(&number)?;
         let item = queue.pop_front();

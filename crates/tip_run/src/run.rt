@@ -57,7 +57,8 @@ impl<S: RowLog + Drop> Running<S> {
         shown: &mut Vec<Shown>,
     ) -> Result<Running<S>, (Stuck<S>, Pass<Entry>)>
         requires { Always }
-        ensures made { IfOk result (λ after. (one : _) × (shown.new.items ≡ shown.old.items ++ one ∷ [])
+        ensures made { IfOk result (λ after. (one : _)
+            × (shown.new.items ≡ shown.old.items ++ one ∷ [])
             × IsMade S.keeping self next one after) }
         ensures why { IfErr result
             (λ halt. IsWhyNotMade S.keeping self next halt.0.store halt.0.fault) }
