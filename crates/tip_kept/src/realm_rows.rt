@@ -27,7 +27,10 @@ impl Model for RealmRows {
 
     ghost Value = { RealmRows };
 
-    ghost view = { λ r. record { rows = r.rows.items; free = vec_capacity r.rows - vec_len r.rows } };
+    ghost view = { λ r. record {
+      rows = r.rows.items;
+      free = vec_capacity r.rows - vec_len r.rows;
+    } };
 
     ghost invariant = { λ r. is_rising r.rows.items ≡ true };
 }

@@ -153,7 +153,9 @@ fn enlist<T, A: Allocator>(
 )
     requires may { MayList slots.old links.old.items (vec_capacity links.old) key }
     requires apart { listed_in (get slots.old key) ≡ None }
-    ensures listed { IsRelisted key (Some link) slots.old links.old.items slots.new links.new.items }
+    ensures listed { IsRelisted key (Some link)
+        slots.old links.old.items
+        slots.new links.new.items }
     ensures room { vec_capacity links.new ≡ vec_capacity links.old }
 {
     let Some(entry) = slots.get(key) else {
@@ -206,7 +208,9 @@ pub(crate) fn settle<T: Linked, A: Allocator>(
     unlisted: Unlisted,
 ) -> Unlisted
     requires { MaySettle slots.old links.old.items (vec_capacity links.old) unlisted }
-    ensures settled { Settles T.Linked unlisted slots.old links.old.items result slots.new links.new.items }
+    ensures settled { Settles T.Linked unlisted
+        slots.old links.old.items
+        result slots.new links.new.items }
     ensures room { vec_capacity links.new ≡ vec_capacity links.old }
 {
     match unlisted {

@@ -53,7 +53,8 @@ impl<T: Linked, A: Allocator> Model for Table<T, A> {
     ghost view = { λ t. record {
       entries = placed_at t.slots t.order.items;
       free = min (t.slots.capacity - slab_len t.slots)
-          (min (vec_capacity t.order - vec_len t.order) (vec_capacity t.links - length t.order.items));
+          (min (vec_capacity t.order - vec_len t.order)
+          (vec_capacity t.links - length t.order.items));
     } };
 
     ghost invariant = { λ t. IsOrder t.slots t.order.items
@@ -214,7 +215,8 @@ impl<T: Linked + Drop, A: Allocator> Table<T, A> {
     /// The item at a place, to be written.
     pub fn item_mut(&mut self, place: usize) -> &mut T
         requires { IsSome (places self.old place) }
-        ensures* writes_back { sem 𝓛 (LendsItem T.row A.row T.Linked A.Allocator self.entry place result) }
+        ensures* writes_back { sem 𝓛 (LendsItem T.row A.row T.Linked A.Allocator
+            self.entry place result) }
         ensures value { item_at self.old place ≡ Some result.now }
     {
         let unlisted = settle(&mut self.slots, &mut self.links, self.unlisted);
