@@ -1,5 +1,5 @@
 -- A host as contracts see it, and what its calls do.
-use Rattle.std.specs.Prelude.{◌≡◌, ◌≢◌, ℕ, Bool, false, not, List, [], ◌++◌, Option, Some, None, find, option_map, if◌then◌else◌}
+use Rattle.std.specs.Prelude.{◌≡◌, ◌≢◌, ℕ, Bool, false, not, List, [], ◌++◌, Option, Some, None, Result, find, option_map, if◌then◌else◌, IfOk, IfSome, OnErr}
 use Rattle.std.specs.Option.{option_to_list}
 use Rattle.tip_branch.specs.Notes.{PartyNotes}
 use Rattle.tip_branch.specs.declared.branch.Badge.{Badge}
@@ -22,7 +22,7 @@ use Rattle.tip_host.specs.Books.{Books, known_by}
 use Rattle.tip_host.specs.Entries.{Enters, Noted, bare, takes_entry}
 use Rattle.tip_host.specs.Seats.{is_now, seat_at}
 use Rattle.tip_host.specs.Speaking.{Speaks}
-use Rattle.tip_host.specs.Works.{is_errand_of, left_out}
+use Rattle.tip_host.specs.Works.{Takes, is_errand_of, left_out}
 use Rattle.tip_host.specs.declared.host.HostFault.{HostFault}
 use Rattle.tip_host.specs.declared.host.HostFault.TheVariants as hosts
 use Rattle.tip_host.specs.declared.reply.Reply as replies
@@ -78,6 +78,16 @@ pub record Serves {S : Type 0} (kept : Keeping S) (old new : Host S) (noted note
   pub others_out : (other : ℕ) → other ≢ place → (of new.books.work other ≡ of old.books.work other) × (of new.books.out other ≡ of old.books.out other)
   pub comes : (state : State) → realm old.stored.core place ≡ Some state → HasCome (known old) (known new) place event reply.outcome state
   pub elsewhere : AreOthersKept place (known old) (known new)
+
+-- AN EVENT, AND THE ERRAND THAT COMES OF IT: behind the event the oldest party of its realm that waits goes out, and nothing else is done;
+-- without memory it waits still
+pub record ServesOut {S W E : Type 0} (kept : Keeping S) (old new : Host S) (noted noted' : List Noted) (place : ℕ) (event : Event) (back : Option PartyNotes) (reply : Reply) (realm_of : W → ℕ) (sent_of : W → PartyNotes) (work : Result (Option W) E) : Type 0 where
+  pub between : Host S
+  pub serves : Serves kept old between noted noted' place event back reply
+  pub takes : IfOk work (λ found. Takes place (option_map sent_of found) between.books.work new.books.work between.books.out new.books.out)
+  pub own : IfOk work (λ found. IfSome found (λ one. realm_of one ≡ place))
+  pub stays : OnErr work ((other : ℕ) → (of new.books.work other ≡ of between.books.work other) × (of new.books.out other ≡ of between.books.out other))
+  pub rest : new ≡ record between { books = record between.books { work = new.books.work; out = new.books.out } }
 
 -- what a refused call leaves: all is as it was
 pub record Stays {S : Type 0} (old new : Host S) : Type 0 where

@@ -1,5 +1,5 @@
 //! The end of a host that is relied on: what is stored is read once more.
-ghost use Rattle.std.specs.Prelude.{◌≡◌, ◌<◌, ℕ, Some, true, false, slice_get, IfErr, IfOk, IfSome};
+ghost use Rattle.std.specs.Prelude.{◌≡◌, ◌<◌, ℕ, Some, true, false, slice_get, IfErr, IfOk, IfSome, OnOk};
 ghost use Rattle.tip_branch.specs.Always.{Always};
 ghost use Rattle.tip_core.specs.Hosted.{realm as realm_at};
 ghost use Rattle.tip_kept.specs.Keeping.{rows_at};
@@ -48,6 +48,8 @@ impl<S: RowLog + Drop> Host<S> {
             realm_at self.stored.core place ≡ Some state →
             IfOk result (λ ended. S.keeping.is_true ended.store →
             IsPart log state.head.name state.head.epoch (rows_at self.books.rows place)) }
+        ensures read { IfOk result (λ ended. S.keeping.faults ended.store
+            ≡ S.keeping.faults self.stored.store) }
         ensures journals { IfOk result (λ ended. ended.journals ≡ self.books.journals) }
         ensures retired { IfOk result (λ ended. ended.retired.items ≡ self.books.retired) }
         ensures honest { IfOk result (λ ended. (place : ℕ) →
@@ -73,6 +75,8 @@ impl<S: RowLog + Drop> Host<S> {
             (realm_at self.old.stored.core place) (rows_at self.old.books.rows place)) }
         ensures stands { (log : Log) → S.keeping.stands self.old.stored.store log →
             S.keeping.stands self.new.stored.store log }
+        ensures read { OnOk result (S.keeping.faults self.new.stored.store
+            ≡ S.keeping.faults self.old.stored.store) }
         ensures rest { self.new ≡ record self.old {
           stored = record self.old.stored { store = self.new.stored.store };
         } }
@@ -94,6 +98,8 @@ impl<S: RowLog + Drop> Host<S> {
             (realm_at self.old.stored.core realm) (rows_at self.old.books.rows realm)) }
         ensures stands { (log : Log) → S.keeping.stands self.old.stored.store log →
             S.keeping.stands self.new.stored.store log }
+        ensures read { OnOk result (S.keeping.faults self.new.stored.store
+            ≡ S.keeping.faults self.old.stored.store) }
         ensures truth { S.keeping.is_true self.new.stored.store →
             S.keeping.is_true self.old.stored.store }
         ensures rest { self.new ≡ record self.old {

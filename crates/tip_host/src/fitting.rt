@@ -1,9 +1,9 @@
 //! Events at a host that others use too, as those behind a lock: by passes that are of this host, with the errand that comes of
 //! each.
-ghost use Rattle.std.specs.Prelude.{◌≡◌, ◌≢◌, ◌↔◌, true, false, IfErr, IfOk, IfSome, OnErr, OnOk};
+ghost use Rattle.std.specs.Prelude.{◌≡◌, ◌≢◌, ◌↔◌, Some, None, true, false, IfErr, IfOk, IfSome, OnErr, OnOk};
 ghost use Rattle.tip_branch.specs.Always.{Always};
 ghost use Rattle.tip_journal.specs.Fits.{Fits};
-ghost use Rattle.tip_host.specs.Hosts.{IsOut, Stays};
+ghost use Rattle.tip_host.specs.Hosts.{IsOut, ServesOut, Stays};
 ghost use Rattle.tip_host.specs.Served.{IsAnswered};
 ghost use Rattle.tip_host.specs.declared.host.HostFault.TheVariants.{NotOut, PassMismatch, Stopped};
 
@@ -26,7 +26,7 @@ pub struct Stepped {
 }
 
 impl<S: RowLog + Drop> Host<S> {
-    /// One event of a realm, by a pass that fits. What it came to is said by the pass and by what comes back alone, since whoever
+    /// One event of a realm, by a pass that fits. What it came to is also said by the pass and by what comes back alone, since whoever
     /// shares a host knows nothing else of it. A fault hands the event back, and nothing has happened.
     pub fn step_fitting(
         &mut self,
@@ -37,6 +37,10 @@ impl<S: RowLog + Drop> Host<S> {
         requires { Always }
         ensures answered { IfOk result (λ stepped. IsAnswered pass.old.noted pass.new.noted
             event.realm event.event stepped.reply) }
+        ensures serves { IfOk result (λ stepped. ServesOut S.keeping self.old self.new
+            pass.old.noted pass.new.noted event.realm event.event None stepped.reply
+            (λ work. work.realm) (λ work. work.sent) stepped.work) }
+        ensures stopped { self.new.stored.is_stopped ≡ self.old.stored.is_stopped }
         ensures fits { OnOk result (Fits self.old.books.journals pass.old.noted event.realm) }
         ensures running { OnOk result (self.old.stored.is_stopped ≡ false) }
         ensures stays { OnErr result (Stays self.old self.new) }
@@ -71,6 +75,10 @@ impl<S: RowLog + Drop> Host<S> {
         requires { Always }
         ensures answered { IfOk result (λ stepped. IsAnswered pass.old.noted pass.new.noted
             returned.realm returned.event stepped.reply) }
+        ensures serves { IfOk result (λ stepped. ServesOut S.keeping self.old self.new
+            pass.old.noted pass.new.noted returned.realm returned.event (Some returned.sent)
+            stepped.reply (λ work. work.realm) (λ work. work.sent) stepped.work) }
+        ensures stopped { self.new.stored.is_stopped ≡ self.old.stored.is_stopped }
         ensures fits { OnOk result (Fits self.old.books.journals pass.old.noted returned.realm) }
         ensures out { OnOk result (IsOut self.old returned.realm returned.sent) }
         ensures running { OnOk result (self.old.stored.is_stopped ≡ false) }
@@ -83,6 +91,10 @@ impl<S: RowLog + Drop> Host<S> {
             ¬ Fits self.old.books.journals pass.old.noted returned.realm) }
         ensures not_out { IfErr result
             (λ fault. fault.0 ≡ NotOut → ¬ IsOut self.old returned.realm returned.sent) }
+        ensures strange { self.old.stored.is_stopped ≡ false →
+            Fits self.old.books.journals pass.old.noted returned.realm →
+            ¬ IsOut self.old returned.realm returned.sent →
+            IfErr result (λ fault. fault.0 ≡ NotOut) }
     {
         if self.stored.is_stopped {
             return Err((HostFault::Stopped, returned));

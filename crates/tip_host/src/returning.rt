@@ -111,6 +111,9 @@ impl<S: RowLog + Drop> Host<S> {
             (λ fault. (fault.0 ≡ Stopped) ↔ (self.old.stored.is_stopped ≡ true)) }
         ensures not_out { IfErr result
             (λ fault. fault.0 ≡ NotOut → ¬ IsOut self.old returned.realm returned.sent) }
+        ensures strange { self.old.stored.is_stopped ≡ false →
+            ¬ IsOut self.old returned.realm returned.sent →
+            IfErr result (λ fault. fault.0 ≡ NotOut) }
         ensures matching { IfErr result (λ fault. fault.0 ≢ PassMismatch) }
     {
         if self.stored.is_stopped {

@@ -57,7 +57,8 @@ IsWhyNotRenewed kept old place boxes left (fault.Renew why) =
     (realm old.stored.core place ≡ None → why ≡ renewal.NoRealm)
     × ((log : Log) (state : State) → kept.stands old.stored.store log → realm old.stored.core place ≡ Some state → kept.is_true left → IsReasonToHalt boxes log state (rows_at old.books.rows place) why)
 IsWhyNotRenewed kept old place boxes left fault.Boxes =
-    (read : Recovery) × (are_for_all boxes read.rows ≡ false)
+    (realm old.stored.core place ≢ None)
+    × (read : Recovery) × (are_for_all boxes read.rows ≡ false)
     × ((log : Log) (state : State) → kept.stands old.stored.store log → realm old.stored.core place ≡ Some state → kept.is_true left → IsRead log state.head.name read)
 IsWhyNotRenewed kept old place boxes left fault.Memory = Unit {0}
 IsWhyNotRenewed kept old place boxes left other = ⊥

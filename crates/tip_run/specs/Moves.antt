@@ -15,7 +15,7 @@ use Rattle.tip_machine.specs.Returns.{Back, can_answer, event_of}
 use Rattle.tip_machine.specs.States.{State}
 use Rattle.tip_machine.specs.Types.{Event}
 use Rattle.tip_outbox.specs.Waiting.{waiting}
-use Rattle.tip_recovery.specs.Adopting.{Recovery, adopted_all, loaded}
+use Rattle.tip_recovery.specs.Adopting.{Recovery, adopted_all, are_for_all, loaded}
 use Rattle.tip_rows.specs.Logs.{Keeping, Log}
 use Rattle.tip_stored.specs.Errands.{was_done}
 use Rattle.tip_stored.specs.Loading.{Goes, IsRead, Never, Stays}
@@ -85,6 +85,8 @@ pub record IsRenewed {S : Type 0} (kept : Keeping S) (old new : Running S) (plac
   pub read : Recovery
   pub recovery : Recovery
   pub boxes_are : recovery.rows ≡ adopted_all boxes read.rows
+  -- one for each branch of each row, and no more
+  pub boxes_fit : are_for_all boxes read.rows ≡ true
   -- the store, once it was read
   pub between : S
   pub reads : Goes kept false Stays Never old.host.stored.store between

@@ -20,7 +20,7 @@ use Rattle.tip_rows.specs.Keys.{Key}
 use Rattle.tip_rows.specs.Logs.{IsPart, Keeping, Log, last_epoch}
 use Rattle.tip_rows.specs.declared.row.Row.{Row}
 use Rattle.tip_stored.specs.Loading.{Loads, spec_of, start_of}
-use Rattle.tip_stored.specs.Recovering.{Recovering, adopted_each}
+use Rattle.tip_stored.specs.Recovering.{Recovering, adopted_each, are_for_each}
 use Rattle.tip_stored.specs.declared.realm_spec.RealmSpec.{RealmSpec}
 use Rattle.tip_run.specs.Giving.{AreEachGiven}
 
@@ -32,9 +32,9 @@ pub record IsBegun {S : Type 0} (kept : Keeping S) (specs : List RealmSpec) (sto
   pub given : AreEachGiven loaded.realms realms
   pub opened : IsOpened (record loaded { realms = realms }) new
 
--- these are its boxes, for each row of each realm at its place
+-- these are its boxes, for each row of each realm at its place: one for each branch, and no more
 abbrev pub HasBoxes : {S : Type 0} {kept : Keeping S} {specs : List RealmSpec} {store : S} {new : Host S} → IsBegun kept specs store new → List (List (List Badge)) → Type 0
-HasBoxes is boxes = is.realms ≡ adopted_each boxes is.loaded.realms
+HasBoxes is boxes = (is.realms ≡ adopted_each boxes is.loaded.realms) × (are_for_each boxes is.loaded.realms ≡ true)
 
 -- all its realms, as they were declared
 abbrev pub AreDeclared : {S : Type 0} → Host S → List RealmSpec → Type 0

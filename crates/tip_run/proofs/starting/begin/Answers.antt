@@ -22,7 +22,7 @@ returns-in-Ok-open-clause-begun g c =
         given = given_to_each boxes loaded.realms fits;
         opened = subst (λ (r : Recovering g.row.S.Denot). IsOpened r c.in-Ok-open.host) adopted c.in-Ok-open.ensures.opened;
       },
-      refl,
+      (refl, fits),
     )
 
 pub unreachable-requires : goal.unreachable-requires

@@ -29,6 +29,7 @@ returns-in-Ok-renew-clause-renewed g c = λ noted earlier.
       read = c.in-Ok.recovery;
       recovery = c.adopt_all.new.self;
       boxes_are = search rules;
+      boxes_fit = search rules;
       between = read.stored.store;
       reads = c.in-Ok.ensures.store;
       is_read = λ log stood truth. c.in-Ok.ensures.read log there.0 stood (sym (ap (λ h. realm h.stored.core c.args.realm) c.in-Ok.ensures.rest) ∙ there.1) truth;
@@ -52,7 +53,7 @@ pub returns-in-Err-clause-why : goal.returns-in-Err-clause-why
 returns-in-Err-clause-why g c = (λ none. same_Some _ _ (ap result_err (c.in-Err.ensures.absent none)), λ log state stood there truth. inl (c.in-Err.ensures.reason log state stood there truth))
 
 pub returns-then-not-adopt_all-clause-why : goal.returns-then-not-adopt_all-clause-why
-returns-then-not-adopt_all-clause-why g c = (c.in-Ok.recovery, search rules, λ log state stood there truth. c.in-Ok.ensures.read log state stood there truth)
+returns-then-not-adopt_all-clause-why g c = (c.in-Ok.ensures.here, c.in-Ok.recovery, search rules, λ log state stood there truth. c.in-Ok.ensures.read log state stood there truth)
 
 pub returns-clause-why : goal.returns-clause-why
 returns-clause-why g c = (
