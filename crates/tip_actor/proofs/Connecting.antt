@@ -1,13 +1,18 @@
 -- What happens to one connection of a realm.
 use Rattle.tip_rows.specs.Logs.{Keeping}
-use Rattle.std.proofs.Common.{◌≡◌, ◌≤◌, ◌∙◌, ◌++◌, ℕ, suc, zero, Bool, true, false, List, Some, None, length, arith, refl, sym, ap, subst}
+use Rattle.std.proofs.Common.{◌≡◌, ◌≤◌, ◌∙◌, ◌++◌, ℕ, suc, zero, Bool, true, false, List, Option, Some, None, length, option_map, arith, refl, sym, ap, subst}
 use Rattle.std.specs.Prelude.{slice_get, slice_set}
 use Rattle.std.proofs.lemmas.List.{append_assoc, append-nil}
-use Rattle.tip_actor.specs.Acting.{Acting, Done, Reading, feeds, heard_more, on_connection, on_reading, lines_of, reading_on}
+use Rattle.std.proofs.lemmas.Option.{none-some, same_Some}
+use Rattle.tip_machine.specs.Types.{Event}
+use Rattle.tip_machine.specs.declared.event.Seat.{Seat}
+use Rattle.tip_actor.specs.Acting.{Acting, Done, Reading, feeds, forgets_on, happens, heard_more, on_connection, on_reading, lines_of, reading_on}
+use Rattle.tip_actor.specs.Halting.{Halts, IsStoredAs, around}
 use Rattle.tip_actor.specs.Listening.{gives}
 use Rattle.tip_actor.specs.Standing.{Actor, AreReadings, StoredCore, IsActing, IsFed, IsReading, Tells}
 use Rattle.tip_actor.specs.declared.reader.Reader.{Reader}
 use Rattle.tip_actor.proofs.Doing.{stays}
+use Rattle.tip_actor.proofs.Halting.{halts_as}
 use Rattle.tip_actor.proofs.Hearing.{lines_behind}
 use Rattle.tip_actor.proofs.Lists.{none_at, partner, reading_at, readings_length, readings_set}
 
@@ -86,3 +91,37 @@ feeds_so kept stored_core place actor actor' printed acting connection octets tr
       text = sym (append-nil printed);
     })
 feeds_so kept stored_core place actor actor' printed acting connection octets false is name errands due fed = subst (Tells kept stored_core stored_core place actor actor' printed printed false) (sym (not_done_on (feeds octets) acting connection fed.0)) refl
+
+-- What is done on a connection, however far it has come
+
+-- this is the seat of a connection that the realm has given
+pub record Seated (seat : Seat) (connection : ℕ) (acting : Acting) : Type 0 where
+  pub index : ℕ
+  pub reading : Reading
+  pub number : connection ≡ suc index
+  pub there : slice_get acting.readings index ≡ Some reading
+  pub same : reading.seat ≡ seat
+
+pub is_seated : (seat : Seat) (connection : ℕ) (acting : Acting) → Some seat ≡ option_map (λ (reading : Reading). reading.seat) (reading_on connection acting.readings) → Seated seat connection acting
+is_seated seat zero acting is = absurd (none-some seat (sym is))
+is_seated seat (suc index) acting is = by (slice_get acting.readings index) refl is where
+  by : (found : Option Reading) → slice_get acting.readings index ≡ found → Some seat ≡ option_map (λ (reading : Reading). reading.seat) found → Seated seat (suc index) acting
+  by None none is = absurd (none-some seat (sym is))
+  by (Some reading) here is = record { index = index; reading = reading; number = refl; there = here; same = sym (same_Some seat reading.seat is) }
+
+module _ {S : Type 0} (kept : Keeping S) where
+  -- two are stored alike
+  pub record Alike (store : S) (one other : Acting) : Type 0 where
+    pub name : one.name ≡ other.name
+    pub stored : IsStoredAs kept store one → IsStoredAs kept store other
+
+  pub forgets_alike : (store : S) (forgets : Bool) (number : ℕ) (acting : Acting) → Alike store acting (forgets_on forgets number acting)
+  forgets_alike store true number acting = record { name = refl; stored = λ s. s }
+  forgets_alike store false number acting = record { name = refl; stored = λ s. s }
+
+  pub halts_on : (old new : S) (name : List ℕ) (f : ℕ → Reading → Acting → Done) (event : Seat → Event) (seat : Seat) (connection : ℕ) (acting : Acting) → Seated seat connection acting → ((index : ℕ) (reading : Reading) → Alike new (happens (event reading.seat) acting).acting (f index reading acting).acting) → Halts kept old new name (around (Some (happens (event seat) acting)) acting) → Halts kept old new name (around (on_connection f connection acting) acting)
+  halts_on old new name f event seat connection acting at alike halts =
+      let same = alike at.index at.reading in
+      subst (λ o. Halts kept old new name (around o acting)) (sym (done_on f acting connection at.index at.reading at.number at.there))
+      (halts_as kept old new name name acting acting (happens (event at.reading.seat) acting) (f at.index at.reading acting) refl refl (λ s. s) same.name same.stored
+      (subst (λ s. Halts kept old new name (around (Some (happens (event s) acting)) acting)) (sym at.same) halts))

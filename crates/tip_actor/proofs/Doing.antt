@@ -6,6 +6,7 @@ use Rattle.std.specs.Str.{bytes_eq}
 use Rattle.std.proofs.lemmas.List.{append-nil}
 use Rattle.tip_core.specs.Hosted.{HaveNames, realm}
 use Rattle.tip_rows.specs.Logs.{Keeping, Log}
+use Rattle.tip_actor.proofs.Halting.{halts_as}
 use Rattle.tip_actor.proofs.Serving.{itself}
 use Rattle.tip_branch.specs.Notes.{PartyNotes}
 use Rattle.tip_machine.proofs.Stepping.{step-epoch, step-named}
@@ -17,6 +18,7 @@ use Rattle.tip_machine.specs.Steps.{step, wants}
 use Rattle.tip_machine.specs.Types.{Answer, Event}
 use Rattle.tip_transcript.specs.Printing.{idle_text, shown_text}
 use Rattle.tip_actor.specs.Acting.{Acting, Done, Reading, after_sent, answer_in, drops_from, goes_for, happens, outcome_in, refuses, still_due, with_opened}
+use Rattle.tip_actor.specs.Halting.{Halts, around}
 use Rattle.tip_actor.specs.Promises.{answers_of, are_foretold}
 use Rattle.tip_actor.specs.Standing.{Actor, AreReadings, Happened, StoredCore, IsActing, IsDone, IsServed, IsStored, Leaves, Serves, Tells}
 
@@ -102,6 +104,20 @@ module _ {S : Type 0} (kept : Keeping S) where
         text = text ∙ ap (λ n. printed ++ shown_text n (outputs event happened.change happened.outcome happened.answer)) is.own.name ∙ ap (λ c. printed ++ shown_text acting.name (outputs event c happened.outcome happened.answer)) went.change ∙ ap (λ o. printed ++ shown_text acting.name (outputs event (wants acting.world.state event) o happened.answer)) went.outcome ∙ ap (λ a. printed ++ shown_text acting.name (outputs event (wants acting.world.state event) (outcome_in acting event) a)) went.answer ∙ ap (λ o. printed ++ shown_text acting.name o) (sym (shown_is event acting));
       }
 
+  -- it has happened, whatever became of its text
+  pub has_begun : (stored_core stored_core' : StoredCore S) (place : ℕ) (actor : Actor) (event : Event) (happened : Happened) (acting : Acting) → IsActing kept stored_core place actor acting →
+      (IsServed kept stored_core place acting.world.state actor.is_due → Serves kept stored_core stored_core' place acting.world.state actor.is_due event happened) → Halts kept stored_core.store stored_core'.store actor.name (around (Some (happens event acting)) acting)
+  has_begun stored_core stored_core' place actor event happened acting is serves =
+      let went = subst (λ d. Serves kept stored_core stored_core' place acting.world.state d event happened) is.own.due (serves (subst (IsServed kept stored_core place acting.world.state) (sym is.own.due) is.served)) in
+      let now = (happens event acting).acting in
+      let named : now.world.state.head.name ≡ acting.name = ap (λ (s : State). s.head.name) (state_is event acting) ∙ step-named acting.world.state event (outcome_in acting event) ∙ is.named in
+      record {
+        point = 1;
+        named = sym is.own.name;
+        own = subst (λ n. IsStored kept stored_core'.store n now.world.state.head.epoch now.world.rows) named (rows_then kept stored_core'.store event acting (went.stored acting.world.state.head.epoch acting.world.rows is.stored));
+        others = (subst (Leaves kept stored_core stored_core' place) (is.named ∙ sym is.own.name) went.leaves).stored;
+      }
+
   -- Errands
 
   pub idle : (stored_core : StoredCore S) (place : ℕ) (actor : Actor) (printed printed' : List ℕ) (acting : Acting) → IsActing kept stored_core place actor acting → printed' ≡ printed ++ idle_text actor.name → IsDone kept stored_core stored_core place actor actor printed printed' (record { printed = idle_text acting.name; acting = acting })
@@ -146,6 +162,15 @@ module _ {S : Type 0} (kept : Keeping S) where
       subst (λ l. Tells kept stored_core stored_core' place actor actor' printed printed' true (goes_for l acting)) (sym out ∙ is.own.errands)
       (subst (Tells kept stored_core stored_core' place actor actor' printed printed' true) (sym (goes_by party errands acting (are_foretold party) event refl is_event))
       (record { own = done.own; leaves = subst (Leaves kept stored_core stored_core' place) name done.leaves; name = done.name ∙ name; text = done.text }))
+
+  -- however far it has come
+  pub has_gone_so_far : (stored_core : StoredCore S) (new : S) (place : ℕ) (actor mid : Actor) (acting : Acting) (party : PartyNotes) (errands : List PartyNotes) (event : Event) → IsActing kept stored_core place actor acting → actor.errands.items ≡ party ∷ errands → mid.name ≡ actor.name → mid.is_due ≡ actor.is_due → mid.readers ≡ actor.readers → mid.errands.items ≡ errands →
+      Some event ≡ (if are_foretold party then Some (event_of party (answers_of party)) else None) → ((a : Acting) → IsActing kept stored_core place mid a → Halts kept stored_core.store new mid.name (around (Some (happens event a)) a)) → Halts kept stored_core.store new actor.name (around (goes_for acting.world.errands acting) acting)
+  has_gone_so_far stored_core new place actor mid acting party errands event is out name due readers left is_event halts =
+      let done = happens event (popped acting errands) in
+      let goes : goes_for acting.world.errands acting ≡ Some done = ap (λ l. goes_for l acting) (sym is.own.errands ∙ out) ∙ goes_by party errands acting (are_foretold party) event refl is_event in
+      subst (λ g. Halts kept stored_core.store new actor.name (around g acting)) (sym goes)
+      (halts_as kept stored_core.store new mid.name actor.name (popped acting errands) acting done done name refl (λ s. s) refl (λ s. s) (halts (popped acting errands) (pops stored_core place actor mid acting errands is name due readers left)))
 
   pub has_not_gone : (stored_core stored_core' : StoredCore S) (place : ℕ) (actor actor' : Actor) (printed : List ℕ) (acting : Acting) (party : PartyNotes) (errands : List PartyNotes) → IsActing kept stored_core place actor acting → actor.errands.items ≡ party ∷ errands → None ≡ (if are_foretold party then Some (event_of party (answers_of party)) else None) → Tells kept stored_core stored_core' place actor actor' printed printed false (goes_for acting.world.errands acting)
   has_not_gone stored_core stored_core' place actor actor' printed acting party errands is out none =

@@ -1,6 +1,7 @@
 pub mod Hearing
 pub mod Lists
 pub mod Promised
+pub mod Halting
 pub mod Serving
 pub mod Doing
 pub mod Leaving

@@ -16,9 +16,11 @@ use Rattle.tip_machine.specs.declared.event.Change.{Change}
 use Rattle.tip_machine.specs.declared.event.Outcome.{Outcome}
 use Rattle.tip_machine.specs.declared.event.Outcome.TheVariants.{NoChange, Stored, Refused}
 use Rattle.tip_rows.specs.Keys.{Key}
-use Rattle.tip_rows.specs.Logs.{Keeping}
+use Rattle.tip_rows.specs.Logs.{Keeping, Log}
 use Rattle.tip_rows.specs.declared.row.Row.{Row}
 use Rattle.tip_actor.specs.Acting.{outcome_of, still_due}
+use Rattle.tip_actor.specs.Halting.{AllStay}
+use Rattle.tip_actor.proofs.Halting.{all_same, all_stood}
 use Rattle.tip_actor.specs.Standing.{Happened, StoredCore, IsServed, IsStored, Serves}
 
 -- the outcome is that of a store which refuses where that is due alone
@@ -67,6 +69,16 @@ module _ {S : Type 0} (kept : Keeping S) where
       ((state : State) → realm core place ≡ Some state → Keeps kept state.head.name change outcome old new) → kept.is_true new → kept.is_true old
   still_true core old new place change outcome None none absent keeps is = subst kept.is_true (absent none) is
   still_true core old new place change outcome (Some state) here absent keeps is = (keeps state here).truth is
+
+  -- a change that was refused leaves all that is stored
+  log_refused : (name : List ℕ) (change : Option Change) (log : Log) → log_after name change Refused log ≡ log
+  log_refused name None log = refl
+  log_refused name (Some change) log = refl
+
+  pub refused_stays : (core : Hosted) (old new : S) (place : ℕ) (change : Option Change) (outcome : Outcome) (found : Option State) → realm core place ≡ found → outcome ≡ Refused → (realm core place ≡ None → new ≡ old) →
+      ((state : State) → realm core place ≡ Some state → Keeps kept state.head.name change outcome old new) → AllStay kept old new
+  refused_stays core old new place change outcome None none refused absent keeps = all_same kept old new (absent none)
+  refused_stays core old new place change outcome (Some state) here refused absent keeps = all_stood kept old new (λ log stood. subst (kept.stands new) (ap (λ o. log_after state.head.name change o log) refused ∙ log_refused state.head.name change log) ((keeps state here).rows log stood))
 
   pub serves : (old new : StoredCore S) (place : ℕ) (state : State) (due : Bool) (event : Event) (happened : Happened) → IsServed kept old place state due →
       Steps old.core new.core place event happened.outcome happened.answer → happened.change ≡ wants state event → fits happened.change happened.outcome ≡ true → HaveNames new.core →

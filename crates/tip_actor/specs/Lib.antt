@@ -3,3 +3,4 @@ pub mod Promises
 pub mod Acting
 pub mod Listening
 pub mod Standing
+pub mod Halting

@@ -1,10 +1,11 @@
 //! A realm of a script at work.
-ghost use Rattle.std.specs.Prelude.{◌≡◌, ◌++◌, ℕ, List, [], true, false, OnOk, IfOk, string_bytes, is_some};
+ghost use Rattle.std.specs.Prelude.{◌≡◌, ◌++◌, ℕ, List, [], true, false, OnOk, IfOk, string_bytes, is_some, IfErr, Some};
 ghost use Rattle.std.specs.Option.{option_to_list};
 ghost use Rattle.tip_machine.specs.States.{State};
 ghost use Rattle.tip_machine.specs.declared.event.Outcome.TheVariants.{Refused};
 ghost use Rattle.tip_branch.specs.Always.{Always};
 ghost use Rattle.tip_stored.specs.Errands.{goes_uncalled};
+ghost use Rattle.tip_actor.specs.Halting.{AllStay, Halts, around};
 ghost use Rattle.tip_actor.specs.Acting.{Acting, Reading, after_sent, answer_in, happens, lost_on, refuses, still_due, with_opened};
 ghost use Rattle.tip_actor.specs.Standing.{Acts, AreReadings, IsActing, IsDone, IsServed, Serves};
 
@@ -71,6 +72,10 @@ impl Actor<PartyOut> {
         ensures refused { (acting : Acting) →
             IsActing S.keeping stored_core.old place self.old acting →
             IfOk result (λ refused. refused ≡ is_some (answer_in acting event).refusal) }
+        ensures halts { (acting : Acting) →
+            IsActing S.keeping stored_core.old place self.old acting →
+            Halts S.keeping stored_core.old.store stored_core.new.store self.old.name
+            (around (Some (happens event acting)) acting) }
     {
         let mut calls = String::new(alloc);
         print_brought(&mut calls, self.name.as_str(), &event)?;
@@ -183,6 +188,8 @@ fn step<S: RowLog>(
         IsServed S.keeping stored_core.old place state is_due →
         IfOk result (λ happened. Serves S.keeping stored_core.old stored_core.new
         place state is_due event happened) }
+    ensures stays { IfErr result
+        (λ fault. AllStay S.keeping stored_core.old.store stored_core.new.store) }
 {
     let happened = match stored_core.step(alloc, place, event) {
         Ok(happened) => happened,
@@ -197,7 +204,8 @@ fn step<S: RowLog>(
 
 /// Whether a change was refused though that was not due.
 fn is_unforeseen(outcome: Outcome, is_due: bool) -> bool
-    ensures { result ≡ false → outcome ≡ Refused → is_due ≡ true }
+    ensures yes { result ≡ true → outcome ≡ Refused }
+    ensures no { result ≡ false → outcome ≡ Refused → is_due ≡ true }
 {
     match outcome {
         Outcome::Refused => !is_due,

@@ -3,6 +3,7 @@ ghost use Rattle.std.specs.Prelude.{◌≡◌, List, false, IfOk, option_map, st
 ghost use Rattle.tip_script.specs.Moves.{octets_of};
 ghost use Rattle.tip_branch.specs.Always.{Always};
 ghost use Rattle.tip_actor.specs.Acting.{Acting, Reading, loses, on_connection, pulls, pushes, reading_on};
+ghost use Rattle.tip_actor.specs.Halting.{Halts, around};
 ghost use Rattle.tip_actor.specs.Standing.{AreReadings, IsActing, IsFed, Tells};
 
 use crate::actor::Actor;
@@ -53,6 +54,10 @@ impl Actor<PartyOut> {
             (on_connection loses connection acting)) }
         ensures untold { IfOk result
             (λ told. told ≡ false → stored_core.new ≡ stored_core.old) }
+        ensures halts { (acting : Acting) →
+            IsActing S.keeping stored_core.old place self.old acting →
+            Halts S.keeping stored_core.old.store stored_core.new.store self.old.name
+            (around (on_connection loses connection acting) acting) }
     {
         let Some(seat) = self.seat(connection) else {
             return Ok(false);
@@ -86,6 +91,10 @@ impl Actor<PartyOut> {
             (on_connection (pushes id) connection acting)) }
         ensures untold { IfOk result
             (λ told. told ≡ false → stored_core.new ≡ stored_core.old) }
+        ensures halts { (acting : Acting) →
+            IsActing S.keeping stored_core.old place self.old acting →
+            Halts S.keeping stored_core.old.store stored_core.new.store self.old.name
+            (around (on_connection (pushes id) connection acting) acting) }
     {
         let Some(seat) = self.seat(connection) else {
             return Ok(false);
@@ -123,6 +132,10 @@ impl Actor<PartyOut> {
             (on_connection (pulls superior) connection acting)) }
         ensures untold { IfOk result
             (λ told. told ≡ false → stored_core.new ≡ stored_core.old) }
+        ensures halts { (acting : Acting) →
+            IsActing S.keeping stored_core.old place self.old acting →
+            Halts S.keeping stored_core.old.store stored_core.new.store self.old.name
+            (around (on_connection (pulls superior) connection acting) acting) }
     {
         let Some(seat) = self.seat(connection) else {
             return Ok(false);

@@ -5,6 +5,7 @@ ghost use Rattle.tip_branch.specs.declared.member.Errand.TheVariants as Errand;
 ghost use Rattle.tip_machine.specs.Returns.{event_of};
 ghost use Rattle.tip_branch.specs.Always.{Always};
 ghost use Rattle.tip_actor.specs.Acting.{Acting, drops_from, goes_for};
+ghost use Rattle.tip_actor.specs.Halting.{Halts, around};
 ghost use Rattle.tip_actor.specs.Promises.{answers_of, are_foretold, is_promised};
 ghost use Rattle.tip_actor.specs.Standing.{IsActing, IsDone, Tells};
 
@@ -39,6 +40,10 @@ impl Actor<PartyOut> {
             (goes_for acting.world.errands acting)) }
         ensures untold { IfOk result
             (λ told. told ≡ false → stored_core.new ≡ stored_core.old) }
+        ensures halts { (acting : Acting) →
+            IsActing S.keeping stored_core.old place self.old acting →
+            Halts S.keeping stored_core.old.store stored_core.new.store self.old.name
+            (around (goes_for acting.world.errands acting) acting) }
     {
         let Some(party) = self.errands.pop_front() else {
             print_idle(printed, self.name.as_str())?;

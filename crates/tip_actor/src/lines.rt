@@ -4,7 +4,8 @@ ghost use Rattle.tip_core.specs.Hosted.{realm as realm_at};
 ghost use Rattle.tip_machine.specs.States.{State};
 ghost use Rattle.tip_branch.specs.Always.{Always};
 ghost use Rattle.tip_actor.specs.Acting.{Acting, Reading, count_of, takes};
-ghost use Rattle.tip_actor.specs.Standing.{Acts, Finds, GivesNext, IsActor, IsReading};
+ghost use Rattle.tip_actor.specs.Halting.{Halts, taken};
+ghost use Rattle.tip_actor.specs.Standing.{Acts, Finds, GivesNext, IsActing, IsActor, IsReading};
 
 use crate::actor::Actor;
 use crate::fault::ActFault;
@@ -31,6 +32,10 @@ impl Actor<PartyOut> {
         ensures acts { OnOk result (Acts S.keeping stored_core.old stored_core.new
             place self.old self.new (string_bytes printed.old) (string_bytes printed.new)
             (λ acting. takes (count_of acting.readings) acting)) }
+        ensures halts { (acting : Acting) →
+            IsActing S.keeping stored_core.old place self.old acting →
+            Halts S.keeping stored_core.old.store stored_core.new.store self.old.name
+            (taken acting) }
     {
         for _ in 0..u64::MAX {
             match self.next_line(alloc, &stored_core.core, place)? {

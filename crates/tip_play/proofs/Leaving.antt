@@ -1,6 +1,7 @@
 -- What a script leaves whose line may not stand there.
 use Rattle.std.proofs.Common.{◌≡◌, ◌≢◌, ◌⊎◌, ◌≤◌, ◌<◌, ◌+◌, ◌++◌, ◌∷◌, [], ℕ, List, Bool, true, false, cond, Option, Some, None, Ok, Err, Result, length, map, arith, inl, inr, refl, sym, ap, ◌∙◌, subst, length-append}
-use Rattle.std.proofs.lemmas.Bool.{le-leb, lt-leb}
+use Rattle.std.specs.Option.{option_map_or}
+use Rattle.std.proofs.lemmas.Bool.{false≢true, le-leb, lt-leb}
 use Rattle.std.proofs.lemmas.List.{append-nil, append_assoc}
 use Rattle.std.specs.Prelude.{IfOk}
 use Rattle.std.proofs.lemmas.Option.{none-some}
@@ -8,26 +9,31 @@ use Rattle.std.proofs.KnownBytes.{Consumes-trans, Consumes-whole}
 use Rattle.script_lines.specs.Lines.{AreOfLine, IsTooLong, Reads, is_line_feed, longest_line}
 use Rattle.script_lines.specs.declared.line.LineEnd.{LineEnd}
 use Rattle.script_lines.specs.declared.line.LineEnd.TheVariants.{LineFeed, EndOfInput, TooLong}
+use Rattle.tip_rows.specs.Keys.{Key}
 use Rattle.tip_rows.specs.Logs.{Keeping}
+use Rattle.tip_rows.specs.declared.row.Row.{Row}
 use Rattle.tip_script.specs.Scripts.{Move, move_of}
 use Rattle.tip_actor.specs.Acting.{Acting}
+use Rattle.tip_actor.specs.Halting.{AllStay}
+use Rattle.tip_actor.specs.Standing.{IsStored}
 use Rattle.tip_scene.specs.Acts.{Basis, Declaring, Playing, Stage, acted, closing_of, may_say}
 use Rattle.tip_scene.specs.Blaming.{scene_in, starting_from}
-use Rattle.tip_scene.specs.Leaving.{IsLeft, OthersStay, is_among, is_starting, names_in, scene_behind}
+use Rattle.tip_scene.specs.Leaving.{HaltsAt, HaltsAtEnd, HaltsBy, HaltsIf, IsLeft, MayRise, OthersStay, is_among, is_first_start, is_starting, names_in, scene_behind, starts_before}
 use Rattle.tip_scene.specs.Scenes.{Scene}
 use Rattle.tip_scene.specs.Stages.{AStage, IsStage, Trusts, store_of}
 use Rattle.tip_scene.specs.declared.stage.Stage.TheVariants as stage
-use Rattle.tip_scene.proofs.Leaving.{others_on, scene_names, scene_stored}
+use Rattle.tip_scene.proofs.Halting.{same_rise}
+use Rattle.tip_scene.proofs.Leaving.{none_done, others_on, scene_names, scene_stored}
 use Rattle.tip_play.specs.Endings.{unflushed}
-use Rattle.tip_play.specs.Leaving.{HasDone, Leaves, LeavesAfter, LeavesAtEnd, LeavesAtFault, LeavesAtLine, LeavesBehind, LeavesUnwritten, left_at}
-use Rattle.tip_play.specs.Transcripts.{Played, Reached, all_played, ended, lines_of, played_of, unended}
+use Rattle.tip_play.specs.Leaving.{HasDone, IsCutShort, Leaves, LeavesAfter, LeavesAtEnd, LeavesAtFault, LeavesAtLine, LeavesBehind, LeavesShort, LeavesUnwritten, left_at, starts_next}
+use Rattle.tip_play.specs.Transcripts.{Played, Reached, all_played, ended, lines_of, played, played_of, unended}
 use Rattle.tip_play.proofs.Transcribing.{plays_line}
 use Rattle.tip_play.specs.Writing.{Acts, ClosesOn, HasCome}
 use Rattle.tip_play.specs.declared.fault.PlayFault.{PlayFault}
 use Rattle.tip_play.specs.declared.fault.PlayFault.TheVariants as fault
 use Rattle.tip_play.proofs.Cutting.{all_lines, ended_feed, first_line, last_line, not_is}
 use Rattle.tip_play.proofs.Lines.{IsNext, next_line, next_now}
-use Rattle.tip_play.proofs.Reading.{Goes, HasRead, LeavesFrom, behind_feed, grows_last, leaves_end, leaves_more, of_whole, still_going}
+use Rattle.tip_play.proofs.Reading.{Goes, HasEnded, HasRead, LeavesFrom, behind_feed, ended_at, grows_last, leaves_end, leaves_more, of_whole, still_going}
 
 module _ {S : Type 0} (kept : Keeping S) (basis : Basis) where
   -- What is stored from the first line on
@@ -73,36 +79,35 @@ module _ {S : Type 0} (kept : Keeping S) (basis : Basis) where
   long_at : (now : Stage) (line : List ℕ) → longest_line < length line → left_at basis now line ≡ scene_in now
   long_at now line long = rw (lt-leb (length line) longest_line long) refl
 
-  module _ (stage : AStage S) (number : ℕ) (read line : List ℕ) (old mid : Option (List ℕ)) (first store : S) (next : IsNext kept basis stage number read line old mid) where
-    -- what has come of it is the line
-    at_line : IsLeft kept (scene_behind basis next.now (move_of line)) first store → IsLeft kept (left_at basis next.now (unended (read ++ line))) first store
-    at_line left = subst (λ s. IsLeft kept s first store) (sym (short_at next.now (unended (read ++ line)) next.short ∙ ap (λ l. scene_behind basis next.now (move_of l)) next.left)) left
+  -- where it stands in its script, and what was reached before it
+  pub record StandsAt (script : List ℕ) (number : ℕ) (now : Stage) (line : List ℕ) : Type 0 where
+    pub before : List (List ℕ)
+    pub behind : List (List ℕ)
+    pub lines : lines_of script ≡ before ++ line ∷ behind
+    pub count : number ≡ length before + 1
+    pub reached : (played basis (Declaring []) 1 before).ending ≡ Reached now
+    pub short : length line ≤ longest_line
 
+  stands_left : (script : List ℕ) (number : ℕ) (now : Stage) (line : List ℕ) (first store : S) → StandsAt script number now line → IsLeft kept (scene_behind basis now (move_of line)) first store → LeavesBehind kept basis script number first store
+  stands_left script number now line first store at left = record {
+    before = at.before;
+    line = line;
+    behind = at.behind;
+    lines = at.lines;
+    count = at.count;
+    stage = now;
+    reached = at.reached;
+    left = subst (λ s. IsLeft kept s first store) (sym (short_at now line at.short)) left;
+  }
+
+  module _ (stage : AStage S) (number : ℕ) (read line : List ℕ) (old mid : Option (List ℕ)) (first store : S) (next : IsNext kept basis stage number read line old mid) where
     -- it has an end
-    fed : (rest : List ℕ) → IsLeft kept (scene_behind basis next.now (move_of line)) first store → LeavesBehind kept basis ((read ++ line) ++ 10 ∷ rest) number first store
-    fed rest left = record {
-      before = ended (read ++ line);
-      line = unended (read ++ line);
-      behind = _;
-      lines = all_lines (read ++ line) (10 ∷ rest);
-      count = next.count;
-      stage = next.now;
-      reached = next.reached;
-      left = at_line left;
-    }
+    fed : (rest : List ℕ) → StandsAt ((read ++ line) ++ 10 ∷ rest) number next.now (unended (read ++ line))
+    fed rest = record { before = ended (read ++ line); behind = _; lines = all_lines (read ++ line) (10 ∷ rest); count = next.count; reached = next.reached; short = next.short }
 
     -- it is the last one
-    last : IsLeft kept (scene_behind basis next.now (move_of line)) first store → LeavesBehind kept basis (read ++ line) number first store
-    last left = record {
-      before = ended (read ++ line);
-      line = unended (read ++ line);
-      behind = [];
-      lines = last_line (read ++ line);
-      count = next.count;
-      stage = next.now;
-      reached = next.reached;
-      left = at_line left;
-    }
+    last : StandsAt (read ++ line) number next.now (unended (read ++ line))
+    last = record { before = ended (read ++ line); behind = []; lines = last_line (read ++ line); count = next.count; reached = next.reached; short = next.short }
 
     -- it has an octet too many
     long_line : (rest : List ℕ) (octet : ℕ) → is_line_feed octet ≡ false → length line ≡ longest_line → IsLeft kept (scene_in next.now) first store → LeavesBehind kept basis ((read ++ line) ++ octet ∷ rest) number first store
@@ -128,15 +133,20 @@ module _ {S : Type 0} (kept : Keeping S) (basis : Basis) where
     unfolding next_to
     at_next are = next_now kept basis stage number so.read line old mid so.played are
 
+    -- as it was read
+    as_read : (script : List ℕ) (are : AreOfLine line) → StandsAt script number (next_to are).now (unended (so.read ++ line)) → StandsAt script number so.played.now line
+    as_read script are at = subst (λ n. StandsAt script number n line) (at_next are) (subst (StandsAt script number (next_to are).now) (next_to are).left at)
+
+    line_at : (end : LineEnd) → end ≢ TooLong → Reads left left' line (Ok end) → StandsAt script number so.played.now line
+    line_at LineFeed other reads =
+        of_whole kept basis (Some script) left' (so.read ++ (line ++ 10 ∷ [])) (λ s. StandsAt s number so.played.now line) (Consumes-trans (Some script) left left' so.read (line ++ 10 ∷ []) so.consumed reads.1)
+        (λ rest. subst (λ s. StandsAt s number so.played.now line) (sym (behind_feed kept basis so.read line rest)) (as_read ((so.read ++ line) ++ 10 ∷ rest) reads.0 (fed stage number so.read line old mid first store (next_to reads.0) rest)))
+    line_at EndOfInput other reads =
+        Consumes-whole (Some script) left' (so.read ++ line) (λ s. StandsAt s number so.played.now line) (Consumes-trans (Some script) left left' so.read line so.consumed reads.1) reads.2 (as_read (so.read ++ line) reads.0 (last stage number so.read line old mid first store (next_to reads.0)))
+    line_at TooLong other reads = absurd (other refl)
+
     line_left : (end : LineEnd) → end ≢ TooLong → Reads left left' line (Ok end) → IsLeft kept (scene_behind basis so.played.now (move_of line)) first store → LeavesBehind kept basis script number first store
-    line_left LineFeed other reads leaves =
-        let next = next_to reads.0 in
-        of_whole kept basis (Some script) left' (so.read ++ (line ++ 10 ∷ [])) (λ s. LeavesBehind kept basis s number first store) (Consumes-trans (Some script) left left' so.read (line ++ 10 ∷ []) so.consumed reads.1)
-        (λ rest. subst (λ s. LeavesBehind kept basis s number first store) (sym (behind_feed kept basis so.read line rest)) (fed stage number so.read line old mid first store next rest (subst (λ n. IsLeft kept (scene_behind basis n (move_of line)) first store) (sym (at_next reads.0)) leaves)))
-    line_left EndOfInput other reads leaves =
-        let next = next_to reads.0 in
-        Consumes-whole (Some script) left' (so.read ++ line) (λ s. LeavesBehind kept basis s number first store) (Consumes-trans (Some script) left left' so.read line so.consumed reads.1) reads.2 (last stage number so.read line old mid first store next (subst (λ n. IsLeft kept (scene_behind basis n (move_of line)) first store) (sym (at_next reads.0)) leaves))
-    line_left TooLong other reads leaves = absurd (other refl)
+    line_left end other reads leaves = stands_left script number so.played.now line first store (line_at end other reads) leaves
 
     long_left : AreOfLine line → (long : IsTooLong left left' line) → ((now : Stage) → IsStage kept basis stage now → IsLeft kept (scene_in now) first store) → LeavesBehind kept basis script number first store
     long_left are long leaves =
@@ -191,7 +201,110 @@ module _ {S : Type 0} (kept : Keeping S) (basis : Basis) where
         left = here;
       })
 
+  -- It was read to its end
+  ended_left : (stage stage' : AStage S) (script : List ℕ) (left old new : Option (List ℕ)) (first store : S) → store ≡ store_of stage' → HasEnded kept basis stage (Some script) left old new → LeavesFrom kept basis first stage' → ((now : Stage) → IsStage kept basis stage now → IsStage kept basis stage' now) → LeavesAfter kept basis script first store
+  ended_left stage stage' script left old new first store same so from stands = record {
+    before = lines_of script;
+    behind = [];
+    lines = sym (append-nil (lines_of script));
+    stage = so.played.now;
+    reached = ended_at kept basis stage (Some script) left old new script refl so;
+    left = subst (IsLeft kept (scene_in so.played.now) first) (sym same) (left_now first stage' so.played.now (stands so.played.now so.played.stands) from);
+  }
+
+  still_left : (over : Bool) (stage stage' : AStage S) (number : ℕ) (script : List ℕ) (left old new : Option (List ℕ)) (first store : S) → store ≡ store_of stage' → Goes kept basis over stage number (Some script) left old new → LeavesFrom kept basis first stage' → ((now : Stage) → IsStage kept basis stage now → IsStage kept basis stage' now) → LeavesAfter kept basis script first store
+  still_left false stage stage' number script left old new first store same so from stands = read_left stage stage' number script left old new first store same so from stands
+  still_left true stage stage' number script left old new first store same so from stands = ended_left stage stage' script left old new first store same so from stands
+
+  -- What is left of a line that has ended before all of it was done
+
+  between : (script : List ℕ) (first store : S) → LeavesAfter kept basis script first store → LeavesShort kept basis script first store
+  between script first store so = record { before = so.before; behind = so.behind; lines = so.lines; stage = so.stage; reached = so.reached; left = IsCutShort.Between so.left }
+
+  left_still : (first : S) (code : AStage S) (now : Stage) (store : S) → IsStage kept basis code now → LeavesFrom kept basis first code → AllStay kept (store_of code) store → IsLeft kept (scene_in now) first store
+  left_still first code now store is from stays =
+      let here = left_now first code now is from in record {
+        stored = λ place acting there. stays acting.name acting.world.state.head.epoch acting.world.rows (here.stored place acting there);
+        starts = here.starts;
+        others = λ name epoch rows apart stored. stays name (epoch + here.starts) rows (here.others name epoch rows apart stored);
+      }
+
+  -- a realm whose epoch has risen so often before
+  rise_on : (first store : S) (code : AStage S) (names : List (List ℕ)) (more : ℕ) (from : LeavesFrom kept basis first code) → ((name : List ℕ) → is_among names name ≡ false → is_among (names_in code) name ≡ false) → ((name : List ℕ) (epoch : ℕ) (rows : List (Key × Row)) → is_among names name ≡ false → IsStored kept (store_of code) name epoch rows → MayRise kept store name (epoch + more) rows) →
+      (name : List ℕ) (epoch : ℕ) (rows : List (Key × Row)) → is_among names name ≡ false → IsStored kept first name epoch rows → MayRise kept store name (epoch + (from.starts + more)) rows
+  rise_on first store code names more from grows rise name epoch rows apart stored = same_rise kept store name rows (epoch + from.starts + more) (epoch + (from.starts + more)) (omega arith) (rise name (epoch + from.starts) rows apart (from.others name epoch rows (grows name apart) stored))
+
+  starts_first : (now : Stage) (line : List ℕ) (later : List (List ℕ)) (move : Move) → move_of line ≡ Some move → is_first_start now move ≡ true → starts_next now (line ∷ later) ≡ true
+  starts_first (Declaring declarations) line later move says starting = ap (λ m. option_map_or is_starting m false) says ∙ starting
+  starts_first (Playing scene) line later move says starting = absurd (false≢true starting)
+
+  cut_at : (first : S) (code : AStage S) (now : Stage) (line : List ℕ) (later : List (List ℕ)) (move : Move) (store : S) → IsStage kept basis code now → LeavesFrom kept basis first code → move_of line ≡ Some move → HaltsAt kept basis now move (store_of code) store → IsCutShort kept basis now (line ∷ later) first store
+  cut_at first code now line later move store is from says (HaltsAt.Unbegun stays) = IsCutShort.Between (left_still first code now store is from stays)
+  cut_at first (stage.Declaring realms) (Declaring declarations) line later move store is from says (HaltsAt.Starting starting rising) =
+      IsCutShort.Starting (starts_first (Declaring declarations) line later move says starting) (from.starts + 0) (record {
+        stored = λ place acting here. absurd (none-some acting here);
+        others = rise_on first store (stage.Declaring realms) [] 0 from (λ name apart. refl) rising.others;
+      })
+  cut_at first (stage.Playing playing) (Declaring declarations) line later move store is from says (HaltsAt.Starting starting rising) = absurd is
+  cut_at first code (Playing scene) line later move store is from says (HaltsAt.Starting starting rising) = absurd (false≢true starting)
+  cut_at first code now line later move store is from says (HaltsAt.Restarting all rising) =
+      IsCutShort.Restarting move (record { line = line; later = later; next = refl; says = says }) all (from.starts + starts_before now) (record {
+        stored = rising.stored;
+        others = rise_on first store code (map (λ (a : Acting). a.name) (starting_from basis now)) (starts_before now) from (grows_last kept basis code now is) rising.others;
+      })
+  cut_at first code now line later move store is from says (HaltsAt.Begun begun count become) =
+      let scene = starting_from basis now in
+      let names = map (λ (a : Acting). a.name) in
+      IsCutShort.Begun move (record { line = line; later = later; next = refl; says = says }) begun count (record {
+        stored = become.stored;
+        starts = from.starts + starts_before now;
+        others = subst (λ l. OthersStay kept (from.starts + starts_before now) l first store) (sym become.same) (others_on kept from.starts (starts_before now) (names_in code) (names scene) first (store_of code) store (grows_last kept basis code now is) from.others become.others);
+      })
+
+  cut_by : (first : S) (code : AStage S) (now : Stage) (line : List ℕ) (later : List (List ℕ)) (store : S) → IsStage kept basis code now → LeavesFrom kept basis first code → HaltsBy kept basis now (move_of line) (store_of code) store → IsCutShort kept basis now (line ∷ later) first store
+  cut_by first code now line later store is from halts = by (move_of line) refl halts where
+    may : (move : Move) → move_of line ≡ Some move → (can : Bool) → may_say basis.may_refuse move ≡ can → HaltsIf kept basis now move can (store_of code) store → IsCutShort kept basis now (line ∷ later) first store
+    may move says true can halts = cut_at first code now line later move store is from says halts
+    may move says false can stays = IsCutShort.Between (left_still first code now store is from stays)
+
+    by : (move : Option Move) → move_of line ≡ move → HaltsBy kept basis now move (store_of code) store → IsCutShort kept basis now (line ∷ later) first store
+    by None says stays = IsCutShort.Between (left_still first code now store is from stays)
+    by (Some move) says halts = may move says (may_say basis.may_refuse move) refl halts
+
+  line_short : (stage stage' : AStage S) (number : ℕ) (script : List ℕ) (left left' old mid : Option (List ℕ)) (line : List ℕ) (end : LineEnd) (first store : S) (so : HasRead kept basis stage number (Some script) left old mid) → IsStage kept basis stage' so.played.now → LeavesFrom kept basis first stage' → end ≢ TooLong → Reads left left' line (Ok end) → HaltsBy kept basis so.played.now (move_of line) (store_of stage') store → LeavesShort kept basis script first store
+  line_short stage stage' number script left left' old mid line end first store so is from other reads halts =
+      let at = line_at stage number script left left' old mid line first store so end other reads in record {
+        before = at.before;
+        behind = line ∷ at.behind;
+        lines = at.lines;
+        stage = so.played.now;
+        reached = at.reached;
+        left = cut_by first stage' so.played.now line at.behind store is from halts;
+      }
+
+  end_short : (first : S) (code : AStage S) (now : Stage) (store : S) → IsStage kept basis code now → LeavesFrom kept basis first code → HaltsAtEnd kept now (store_of code) store → IsCutShort kept basis now [] first store
+  end_short first (stage.Declaring realms) (Declaring declarations) store is from rising = IsCutShort.Starting refl (from.starts + 0) (record {
+    stored = λ place acting here. absurd (none-some acting here);
+    others = rise_on first store (stage.Declaring realms) [] 0 from (λ name apart. refl) rising.others;
+  })
+  end_short first (stage.Playing playing) (Declaring declarations) store is from rising = absurd is
+  end_short first code (Playing scene) store is from stays = IsCutShort.Between (left_still first code (Playing scene) store is from stays)
+
   -- How the script has ended
+
+  -- memory ended before the first line, or between two
+  pub fault_first : (script : List ℕ) (first : S) → LeavesShort kept basis script first first
+  fault_first script first = record {
+    before = [];
+    behind = lines_of script;
+    lines = refl;
+    stage = Declaring [];
+    reached = refl;
+    left = IsCutShort.Between (record { stored = λ place acting here. absurd (none-some acting here); starts = 0; others = none_done kept [] first });
+  }
+
+  pub fault_between : (over : Bool) (stage stage' : AStage S) (number : ℕ) (script : List ℕ) (left old new : Option (List ℕ)) (first store : S) → store ≡ store_of stage' → (kept.is_true store → Goes kept basis over stage number (Some script) left old new) → (kept.is_true store → LeavesFrom kept basis first stage') → ((now : Stage) → IsStage kept basis stage now → IsStage kept basis stage' now) → kept.is_true store → LeavesShort kept basis script first store
+  fault_between over stage stage' number script left old new first store same so from stands truth = between script first store (still_left over stage stage' number script left old new first store same (so truth) (from truth) stands)
 
   -- there are no more numbers for lines
   pub fault_beyond : (over : Bool) (stage : AStage S) (number : ℕ) (script : List ℕ) (left old new : Option (List ℕ)) (first store : S) → store ≡ store_of stage → over ≡ false → (kept.is_true store → Goes kept basis over stage number (Some script) left old new) → (kept.is_true store → LeavesFrom kept basis first stage) → LeavesAtFault kept basis script first (Err (fault.Read, store))
@@ -208,7 +321,7 @@ module _ {S : Type 0} (kept : Keeping S) (basis : Basis) where
 
   -- a line may not stand there
   pub fault_line : (stage stage' : AStage S) (number : ℕ) (script : List ℕ) (left left' old mid new : Option (List ℕ)) (line : List ℕ) (end : LineEnd) (first : S) (why : PlayFault × S) → end ≢ TooLong → Reads left left' line (Ok end) → (kept.is_true why.1 → HasRead kept basis stage number (Some script) left old mid) → (kept.is_true why.1 → LeavesFrom kept basis first stage') →
-      ((now : Stage) → IsStage kept basis stage now → IsStage kept basis stage' now) → (kept.is_true why.1 → (now : Stage) → IsStage kept basis stage' now → Acts kept basis number (acted basis now line) mid new (Err why.0)) → (kept.is_true why.1 → (now : Stage) → IsStage kept basis stage' now → LeavesAtLine kept basis (scene_behind basis now (move_of line)) (acted basis now line) stage' (Err why)) → LeavesAtFault kept basis script first (Err why)
+      ((now : Stage) → IsStage kept basis stage now → IsStage kept basis stage' now) → (kept.is_true why.1 → (now : Stage) → IsStage kept basis stage' now → Acts kept basis number (acted basis now line) mid new (Err why.0)) → (kept.is_true why.1 → (now : Stage) → IsStage kept basis stage' now → LeavesAtLine kept basis now line stage' (Err why)) → LeavesAtFault kept basis script first (Err why)
   fault_line stage stage' number script left left' old mid new line end first (fault.Script n, store) other reads so from stands acts leaves = λ truth.
       let read = so truth in
       let now = read.played.now in
@@ -218,8 +331,8 @@ module _ {S : Type 0} (kept : Keeping S) (basis : Basis) where
       (line_left stage number script left left' old mid line first store read end other reads (left_then first stage' (scene_behind basis now (move_of line)) store (from truth) (grows_behind stage' now (move_of line) at) (leaves truth now at truth)))
   fault_line stage stage' number script left left' old mid new line end first (fault.Read, store) other reads so from stands acts leaves = λ truth. (let read = so truth in absurd (acts truth read.played.now (stands read.played.now read.played.stands)))
   fault_line stage stage' number script left left' old mid new line end first (fault.Write, store) other reads so from stands acts leaves = λ truth. (let read = so truth in let at = stands read.played.now read.played.stands in unwritten stage stage' number script left left' old mid line end first store read at (from truth) other reads (leaves truth read.played.now at truth))
-  fault_line stage stage' number script left left' old mid new line end first (fault.Memory, store) other reads so from stands acts leaves = tt
-  fault_line stage stage' number script left left' old mid new line end first (fault.Store, store) other reads so from stands acts leaves = tt
+  fault_line stage stage' number script left left' old mid new line end first (fault.Memory, store) other reads so from stands acts leaves = λ truth. (let read = so truth in let at = stands read.played.now read.played.stands in line_short stage stage' number script left left' old mid line end first store read at (from truth) other reads (leaves truth read.played.now at truth))
+  fault_line stage stage' number script left left' old mid new line end first (fault.Store, store) other reads so from stands acts leaves = λ truth. (let read = so truth in let at = stands read.played.now read.played.stands in line_short stage stage' number script left left' old mid line end first store read at (from truth) other reads (leaves truth read.played.now at truth))
 
   -- it is too long
   pub fault_coming : (over : Bool) (stage stage' : AStage S) (number : ℕ) (script : List ℕ) (left left' old new : Option (List ℕ)) (line : List ℕ) (why : PlayFault) (first store : S) → store ≡ store_of stage' → HasCome left left' number over line (Err why) → (kept.is_true store → Goes kept basis over stage number (Some script) left old new) → (kept.is_true store → LeavesFrom kept basis first stage') →
@@ -230,22 +343,33 @@ module _ {S : Type 0} (kept : Keeping S) (basis : Basis) where
   fault_coming false stage stage' number script left left' old new line fault.Read first store same come so from stands = λ truth. read_left stage stage' number script left old new first store same (so truth) (from truth) stands
   fault_coming true stage stage' number script left left' old new line fault.Read first store same come so from stands = absurd (cc)
   fault_coming over stage stage' number script left left' old new line fault.Write first store same come so from stands = absurd come
-  fault_coming over stage stage' number script left left' old new line fault.Memory first store same come so from stands = tt
-  fault_coming over stage stage' number script left left' old new line fault.Store first store same come so from stands = tt
+  fault_coming over stage stage' number script left left' old new line fault.Memory first store same come so from stands = fault_between over stage stage' number script left old new first store same so from stands
+  fault_coming over stage stage' number script left left' old new line fault.Store first store same come so from stands = fault_between over stage stage' number script left old new first store same so from stands
 
   -- no line is at fault behind the last one
-  pub at_end : (scene : Scene) (old : S) (result : Result S (PlayFault × S)) → LeavesAtEnd kept scene old result → IfOk result (λ store. kept.is_true store → IsLeft kept scene old store)
-  at_end scene old (Ok store) leaves = leaves
-  at_end scene old (Err why) leaves = tt
+  pub at_end : (now : Stage) (old : S) (result : Result S (PlayFault × S)) → LeavesAtEnd kept basis now old result → IfOk result (λ store. kept.is_true store → IsLeft kept (starting_from basis now) old store)
+  at_end now old (Ok store) leaves = leaves
+  at_end now old (Err why) leaves = tt
+
+  -- the realms were starting there
+  last_short : (script : List ℕ) (first : S) (code : AStage S) (store : S) (now : Stage) → IsStage kept basis code now → (all_played basis script).ending ≡ Reached now → ((starts : ℕ) × OthersStay kept starts (names_in code) first (store_of code)) → HaltsAtEnd kept now (store_of code) store → LeavesShort kept basis script first store
+  last_short script first code store now is reached from halts = record {
+    before = lines_of script;
+    behind = [];
+    lines = sym (append-nil (lines_of script));
+    stage = now;
+    reached = reached;
+    left = end_short first code now store is (record { starts = from.0; others = from.1 }) halts;
+  }
 
   pub fault_end : (script : List ℕ) (first : S) (code : AStage S) (mid new : Option (List ℕ)) (result : Result S (PlayFault × S)) → Trusts kept (store_of code) (λ store. store) result → (kept.is_true (store_of code) → (now : Stage) × IsStage kept basis code now × ((all_played basis script).ending ≡ Reached now) × ((starts : ℕ) × OthersStay kept starts (names_in code) first (store_of code))) →
-      ((now : Stage) → IsStage kept basis code now → ClosesOn kept (closing_of basis now) mid new result) → ((now : Stage) → IsStage kept basis code now → LeavesAtEnd kept (starting_from basis now) (store_of code) result) → LeavesAtFault kept basis script first result
+      ((now : Stage) → IsStage kept basis code now → ClosesOn kept (closing_of basis now) mid new result) → ((now : Stage) → IsStage kept basis code now → LeavesAtEnd kept basis now (store_of code) result) → LeavesAtFault kept basis script first result
   fault_end script first code mid new (Ok store) trusts so closes leaves = tt
   fault_end script first code mid new (Err (fault.Script n, store)) trusts so closes leaves = λ truth. (let now = so (trusts truth) in absurd (closes now.0 now.1 truth))
   fault_end script first code mid new (Err (fault.Read, store)) trusts so closes leaves = λ truth. (let now = so (trusts truth) in absurd (closes now.0 now.1 truth))
   fault_end script first code mid new (Err (fault.Write, store)) trusts so closes leaves = λ truth. inr (inl (leaves_end kept basis {E = PlayFault} (λ now. IsStage kept basis code now) script (names_in code) first (store_of code) (store_of code) (Ok store) refl trusts so (grows_last kept basis code) leaves truth))
-  fault_end script first code mid new (Err (fault.Memory, store)) trusts so closes leaves = tt
-  fault_end script first code mid new (Err (fault.Store, store)) trusts so closes leaves = tt
+  fault_end script first code mid new (Err (fault.Memory, store)) trusts so closes leaves = λ truth. (let now = so (trusts truth) in last_short script first code store now.0 now.1 now.2 now.3 (leaves now.0 now.1))
+  fault_end script first code mid new (Err (fault.Store, store)) trusts so closes leaves = λ truth. (let now = so (trusts truth) in last_short script first code store now.0 now.1 now.2 now.3 (leaves now.0 now.1))
 
   -- nor where what was printed is not known to be there
   pub fault_unflushed : (script : List ℕ) (first : S) (result : Result S (PlayFault × S)) → IfOk result (λ left. kept.is_true left → Leaves kept basis script first left) → LeavesAtFault kept basis script first result → LeavesAtFault kept basis script first (unflushed result)
@@ -253,5 +377,5 @@ module _ {S : Type 0} (kept : Keeping S) (basis : Basis) where
   fault_unflushed script first (Err (fault.Script line, store)) leaves faults = λ truth. inr (inr (line, faults truth))
   fault_unflushed script first (Err (fault.Read, store)) leaves faults = faults
   fault_unflushed script first (Err (fault.Write, store)) leaves faults = faults
-  fault_unflushed script first (Err (fault.Memory, store)) leaves faults = tt
-  fault_unflushed script first (Err (fault.Store, store)) leaves faults = tt
+  fault_unflushed script first (Err (fault.Memory, store)) leaves faults = faults
+  fault_unflushed script first (Err (fault.Store, store)) leaves faults = faults

@@ -292,7 +292,7 @@ module _ {S : Type 0} (kept : Keeping S) (basis : Basis) where
   a_line over left left' number line coming more come = subst (λ o. HasCome left left' number o line (Ok coming)) more come
 
   pub no_line : (over : Bool) (left left' : Option (List ℕ)) (number : ℕ) (line : List ℕ) (coming : Coming) → over ≡ true → HasCome left left' number over line (Ok coming) → left' ≡ left
-  no_line over left left' number line coming none come = subst (λ o. HasCome left left' number o line (Ok coming)) none come
+  no_line over left left' number line coming none come = (subst (λ o. HasCome left left' number o line (Ok coming)) none come).0
 
   pub still_going : (over : Bool) (stage : AStage S) (number : ℕ) (whole left old new : Option (List ℕ)) → over ≡ false → Goes over stage number whole left old new → HasRead stage number whole left old new
   still_going over stage number whole left old new more so = subst (λ o. Goes o stage number whole left old new) more so

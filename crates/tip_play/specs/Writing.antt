@@ -1,6 +1,6 @@
 -- What is written of one line.
 use Rattle.tip_rows.specs.Logs.{Keeping}
-use Rattle.std.specs.Prelude.{◌≡◌, ◌≢◌, ℕ, Bool, true, false, List, Option, None, Some, Result, Ok, Err, if◌then◌else◌}
+use Rattle.std.specs.Prelude.{◌≡◌, ◌≢◌, ℕ, Bool, true, false, List, [], Option, None, Some, Result, Ok, Err, if◌then◌else◌}
 use Rattle.std.specs.Io.KnownBytes.{Appends}
 use Rattle.tip_scene.specs.Acts.{Acted, Basis, Stage}
 use Rattle.tip_scene.specs.Stages.{AStage, IsStage, store_of}
@@ -44,7 +44,7 @@ ClosesOn kept text old new (Err fault) = kept.is_true fault.1 → Closes text ol
 
 -- what comes next: the end of a script that was read to its end, or a line with the boxes that it wants
 abbrev pub HasCome : Option (List ℕ) → Option (List ℕ) → ℕ → Bool → List ℕ → Result Coming PlayFault → Type 0
-HasCome left left' number true line (Ok coming) = left' ≡ left
+HasCome left left' number true line (Ok coming) = (left' ≡ left) × (coming.wanted.kinds.items ≡ [])
 HasCome left left' number false line (Ok coming) = Reads left left' line (Ok coming.end) × (coming.end ≢ TooLong) × AreWanted (move_of line) coming.wanted
 HasCome left left' number over line (Err (fault.Script at)) = (over ≡ false) × (at ≡ number) × Reads left left' line (Ok TooLong)
 HasCome left left' number over line (Err fault.Read) = (over ≡ false) × Reads left left' line (Err line_fault.Read)

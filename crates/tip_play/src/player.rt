@@ -5,9 +5,9 @@ ghost use Rattle.tip_branch.specs.Lots.{AreIn};
 ghost use Rattle.tip_branch.specs.declared.branch.Phase.TheVariants.{Active};
 ghost use Rattle.tip_script.specs.Scripts.{move_of};
 ghost use Rattle.tip_scene.specs.Acts.{Basis, Stage as AStage, acted, closing_of, is_covered};
-ghost use Rattle.tip_scene.specs.Blaming.{Blames, HasRefused, IsBlamed, starting_from};
+ghost use Rattle.tip_scene.specs.Blaming.{Blames, HasRefused, IsBlamed};
 ghost use Rattle.tip_scene.specs.Boxes.{AreWilling};
-ghost use Rattle.tip_scene.specs.Leaving.{LeavesOthers, names_in, scene_behind};
+ghost use Rattle.tip_scene.specs.Leaving.{LeavesOthers, names_in};
 ghost use Rattle.tip_rows.specs.Logs.{Log};
 ghost use Rattle.tip_scene.specs.Stages.{ComeWith, IsBasis, IsSound, IsStage, Trusts, has_started, store_of};
 ghost use Rattle.tip_scene.specs.Wanting.{wanted_at_start, wanted_by};
@@ -216,6 +216,7 @@ fn play_lines<S: RowLog + Drop, F: Refuser<S>, R: BufRead, W: Write>(
 /// Whether a line would come that has no number.
 fn is_beyond(number: u64, is_over: bool) -> bool
     ensures yes { result ≡ true → is_over ≡ false }
+    ensures last { result ≡ true → number ≡ LAST_LINE }
     ensures no { result ≡ false → is_over ≡ false → number ≢ LAST_LINE }
 {
     !is_over && number == LAST_LINE
@@ -328,8 +329,7 @@ fn act<S: RowLog + Drop, F: Refuser<S>, W: Write>(
         IsStage S.keeping basis stage now →
         ComeWith (move_of line.now) (map standing boxes.items) →
         is_covered basis (move_of line.now) ≡ true →
-        LeavesAtLine S.keeping basis (scene_behind basis now (move_of line.now))
-        (acted basis now line.now) stage result }
+        LeavesAtLine S.keeping basis now line.now stage result }
     ensures counts { F.may ≡ false → IfOk result (λ now. S.keeping.faults (store_of now)
         ≡ S.keeping.faults (store_of stage)) }
     ensures blames { F.may ≡ false → (basis : Basis) (now : AStage) →
@@ -369,7 +369,7 @@ fn finish<S: RowLog + Drop, W: Write>(
         ClosesOn S.keeping (closing_of basis now)
         (W.contents output.old) (W.contents output.new) result }
     ensures leaves { (basis : Basis) (now : AStage) → IsStage S.keeping basis stage now →
-        LeavesAtEnd S.keeping (starting_from basis now) (store_of stage) result }
+        LeavesAtEnd S.keeping basis now (store_of stage) result }
     ensures started { has_started stage ≡ true →
         IfErr result (λ fault. fault.0 ≡ PlayFault.Write) }
     ensures blames { (basis : Basis) (now : AStage) → IsStage S.keeping basis stage now →

@@ -5,7 +5,7 @@ use Rattle.std.specs.Str.{bytes_eq}
 use Rattle.std.proofs.lemmas.Bool.Decides.{nat_tests}
 use Rattle.std.proofs.lemmas.Option.{none-some, same_Some}
 use Rattle.tip_rows.specs.Keys.{Key}
-use Rattle.tip_rows.specs.Logs.{IsAtEnd, IsPart, IsSpoiled, Keeping, Log, known, last_epoch, raised, with_known}
+use Rattle.tip_rows.specs.Logs.{IsAtEnd, IsPart, IsSpoiled, Keeping, Log, known, last_epoch, raised, raised_number, with_known}
 use Rattle.tip_rows.specs.declared.row.Row.{Row}
 use Rattle.tip_stored.specs.Loading.{Loads, known_all, names_of, opened}
 use Rattle.tip_stored.proofs.Parts.{number_of}
@@ -55,9 +55,29 @@ number_is : (found : Option ℤ) (epoch : ℕ) → is_some found ≡ true → un
 number_is None epoch some is = absurd cc
 number_is (Some z) epoch some is = ap Some is
 
-module _ (names : List (List ℕ)) (log : Log) (other : List ℕ) (epoch : ℕ) (rows : List (Key × Row)) (part : IsPart log other epoch rows) (here : is_some (log.epochs other) ≡ true) (below : ¬ IsAtEnd (known_all names log) other) where
+module _ (names : List (List ℕ)) (log : Log) (other : List ℕ) (epoch : ℕ) (rows : List (Key × Row)) (part : IsPart log other epoch rows) (here : is_some (log.epochs other) ≡ true) where
   was : log.epochs other ≡ Some (pos epoch)
   was = number_is (log.epochs other) epoch here part.epoch
+
+  -- where others became known
+  still : (known_all names log).epochs other ≡ Some (pos epoch)
+  still = known_stays names log other (pos epoch) was
+
+  sound_still : ¬ IsSpoiled (known_all names log) other
+  sound_still (inl bad) = part.sound (inl (bad.0, was ∙ sym still ∙ bad.1, bad.2))
+  sound_still (inr (inl stray)) = part.sound (inr (inl (ap (λ (f : List ℕ → Bool). f other) (sym (strays_known names log)) ∙ stray)))
+  sound_still (inr (inr unread)) = part.sound (inr (inr (unread.0, ap (λ (f : List ℕ → Key → Bool). f other unread.0) (sym (unreadable_known names log)) ∙ unread.1)))
+
+  pub other_known : IsPart (known_all names log) other epoch rows
+  other_known = record {
+    epoch = ap (λ found. unwrap_or found (pos 0)) still;
+    rising = part.rising;
+    same = λ key. part.same key ∙ ap (λ (f : List ℕ → Key → Option Row). f other key) (sym (rows_known names log));
+    sound = sound_still;
+  }
+
+  pub still_known : is_some ((known_all names log).epochs other) ≡ true
+  still_known = ap is_some still
 
   within : epoch ≤ last_epoch
   within = by (nat_lt last_epoch epoch) refl where
@@ -65,27 +85,37 @@ module _ (names : List (List ℕ)) (log : Log) (other : List ℕ) (epoch : ℕ) 
     by true e = absurd (part.sound (inl (pos epoch, was, λ n few same. (let one : epoch ≡ n = number_of same in absurd (grind (arith, nat_tests, e, few, one))))))
     by false e = grind (arith, nat_tests, e)
 
-  less : nat_lt epoch last_epoch ≡ true
-  less = by (nat_lt epoch last_epoch) refl where
-    by : (is : Bool) → nat_lt epoch last_epoch ≡ is → is ≡ true
-    by true e = refl
-    by false e = let last : epoch ≡ last_epoch = grind (arith, nat_tests, e, within) in absurd (below (known_stays names log other (pos epoch) was ∙ ap (λ n. Some (pos n)) last))
+  now : (opened names log).epochs other ≡ Some (pos (raised_number epoch))
+  now = ap (option_map raised) still
 
-  now : (opened names log).epochs other ≡ Some (pos (epoch + 1))
-  now = ap (option_map raised) (known_stays names log other (pos epoch) was) ∙ ap (λ b. Some (pos (cond b (epoch + 1) epoch))) less
+  in_range : raised_number epoch ≤ last_epoch
+  in_range = by (nat_lt epoch last_epoch) refl where
+    by : (is : Bool) → nat_lt epoch last_epoch ≡ is → cond is (epoch + 1) epoch ≤ last_epoch
+    by true e = grind (arith, nat_tests, e)
+    by false e = within
 
   still_sound : ¬ IsSpoiled (opened names log) other
-  still_sound (inl bad) = let number : bad.0 ≡ pos (epoch + 1) = same_Some bad.0 (pos (epoch + 1)) (sym bad.1 ∙ now) in absurd (bad.2 (epoch + 1) (grind (arith, nat_tests, less)) number)
+  still_sound (inl bad) = let number : bad.0 ≡ pos (raised_number epoch) = same_Some bad.0 (pos (raised_number epoch)) (sym bad.1 ∙ now) in absurd (bad.2 (raised_number epoch) in_range number)
   still_sound (inr (inl stray)) = part.sound (inr (inl (ap (λ (f : List ℕ → Bool). f other) (sym (strays_known names log)) ∙ stray)))
   still_sound (inr (inr unread)) = part.sound (inr (inr (unread.0, ap (λ (f : List ℕ → Key → Bool). f other unread.0) (sym (unreadable_known names log)) ∙ unread.1)))
 
-  pub other_opened : IsPart (opened names log) other (epoch + 1) rows
+  pub other_opened : IsPart (opened names log) other (raised_number epoch) rows
   other_opened = record {
     epoch = ap (λ found. unwrap_or found (pos 0)) now;
     rising = part.rising;
     same = λ key. part.same key ∙ ap (λ (f : List ℕ → Key → Option Row). f other key) (sym (rows_known names log));
     sound = still_sound;
   }
+
+  pub opened_known : is_some ((opened names log).epochs other) ≡ true
+  opened_known = ap is_some now
+
+  -- none is at its end where realms have started
+  pub rises_by_one : ¬ IsAtEnd (known_all names log) other → raised_number epoch ≡ epoch + 1
+  rises_by_one below = by (nat_lt epoch last_epoch) refl where
+    by : (is : Bool) → nat_lt epoch last_epoch ≡ is → cond is (epoch + 1) epoch ≡ epoch + 1
+    by true e = refl
+    by false e = let last : epoch ≡ last_epoch = grind (arith, nat_tests, e, within) in absurd (below (still ∙ ap (λ n. Some (pos n)) last))
 
 -- Other realms
 
@@ -98,11 +128,11 @@ module _ {S : Type 0} (kept : Keeping S) where
       record {
         log = way.0;
         stood = way.2;
-        part = subst (λ l. IsPart l name (epoch + 1) rows) (sym way.1) (other_opened (names_of specs) stored.log name epoch rows stored.part stored.known below);
-        known = ap (λ (l : Log). is_some (l.epochs name)) way.1 ∙ ap is_some (now (names_of specs) stored.log name epoch rows stored.part stored.known below);
+        part = subst (λ e. IsPart way.0 name e rows) (rises_by_one (names_of specs) stored.log name epoch rows stored.part stored.known below) (subst (λ l. IsPart l name (raised_number epoch) rows) (sym way.1) (other_opened (names_of specs) stored.log name epoch rows stored.part stored.known));
+        known = ap (λ (l : Log). is_some (l.epochs name)) way.1 ∙ opened_known (names_of specs) stored.log name epoch rows stored.part stored.known;
       }
 
-  same_stored : (store : S) (name : List ℕ) (rows : List (Key × Row)) (a b : ℕ) → a ≡ b → IsStored kept store name a rows → IsStored kept store name b rows
+  pub same_stored : (store : S) (name : List ℕ) (rows : List (Key × Row)) (a b : ℕ) → a ≡ b → IsStored kept store name a rows → IsStored kept store name b rows
   same_stored store name rows a b same stored = subst (λ e. IsStored kept store name e rows) same stored
 
   -- nothing was done
@@ -122,7 +152,7 @@ module _ {S : Type 0} (kept : Keeping S) where
   either true b e = absurd cc
   either false b e = (refl, e)
 
-  apart_at : (actors : List Actor) (place : ℕ) (actor : Actor) (name : List ℕ) → slice_get actors place ≡ Some actor → is_among (map (λ (a : Actor). a.name) actors) name ≡ false → bytes_eq actor.name name ≡ false
+  pub apart_at : (actors : List Actor) (place : ℕ) (actor : Actor) (name : List ℕ) → slice_get actors place ≡ Some actor → is_among (map (λ (a : Actor). a.name) actors) name ≡ false → bytes_eq actor.name name ≡ false
   apart_at [] place actor name here apart = absurd (none-some actor here)
   apart_at (a ∷ actors) zero actor name here apart = subst (λ (x : Actor). bytes_eq x.name name ≡ false) (same_Some a actor here) (either (bytes_eq a.name name) (is_among (map (λ (x : Actor). x.name) actors) name) apart).0
   apart_at (a ∷ actors) (suc place) actor name here apart = apart_at actors place actor name here (either (bytes_eq a.name name) (is_among (map (λ (x : Actor). x.name) actors) name) apart).1

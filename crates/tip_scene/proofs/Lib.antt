@@ -12,6 +12,7 @@ pub mod Again
 pub mod Renewed
 pub mod Blaming
 pub mod Leaving
+pub mod Halting
 pub mod Staging
 pub mod Dialling
 pub mod Wanting

@@ -25,6 +25,7 @@ use Rattle.tip_actor.proofs.Doing.{leaves_on, stays}
 use Rattle.tip_actor.proofs.Leaving.{left_here, shown_each}
 use Rattle.tip_actor.proofs.Serving.{itself}
 use Rattle.tip_actor.specs.Acting.{Acting, boxes_in, renewed, renews, willing_boxes}
+use Rattle.tip_actor.specs.Halting.{AllStay, Halts, around}
 use Rattle.tip_actor.specs.Standing.{Actor, AreReadings, StoredCore, IsActing, IsDone, IsStored, Leaves}
 use Rattle.tip_scene.proofs.Again.{boxes_of_rows, boxes_unadopted, loads_same}
 use Rattle.tip_scene.proofs.Begun.{row_text, said_all}
@@ -85,6 +86,28 @@ module _ {S : Type 0} (kept : Keeping S) (stored_core new : StoredCore S) (place
           };
         }
 
+    -- what is stored of it
+    stored_again : (acting.world.state.head.epoch == last_epoch) ≡ false → IsStored kept new.store acting.world.state.head.name (renewed false acting).acting.world.state.head.epoch (renewed false acting).acting.world.rows
+    stored_again not_last =
+        let name = acting.world.state.head.name in
+        let log = is.stored.log in
+        let epoch = rises log name acting.world.state.head.epoch acting.world.rows is.stored.part is.stored.known not_last in
+        record {
+          log = with_raised name log;
+          stood = stood log is.stored.stood;
+          part = subst (λ e. IsPart (with_raised name log) name e acting.world.rows) epoch (renewed_part log name acting.world.state.head.epoch acting.world.rows is.stored.part is.stored.known);
+          known = renewed_known log name name ∙ is.stored.known;
+        }
+
+    -- however far it has come
+    pub halts_renewed : acting.due ≡ false → (acting.world.state.head.epoch == last_epoch) ≡ false → ((other : ℕ) → other ≢ place → realm new.core other ≡ realm stored_core.core other) → Halts kept stored_core.store new.store actor.name (around (Some (renewed acting.due acting)) acting)
+    halts_renewed due not_last others = subst (λ b. Halts kept stored_core.store new.store actor.name (around (Some (renewed b acting)) acting)) (sym due) (record {
+      point = 1;
+      named = sym is.own.name;
+      own = subst (λ n. IsStored kept new.store n (renewed false acting).acting.world.state.head.epoch acting.world.rows) is.named (stored_again not_last);
+      others = (leaves_renewed others).stored;
+    })
+
     pub renews_so : (recovery : Recovery) → IsWilling recovery acting → IsRenewed kept recovery acting.world.state stored_core.store new.store (realm new.core place) →
         (IsTrue (kept.is_due stored_core.store acting.world.state.head.name) → ⊥) → (acting.world.state.head.epoch == last_epoch) ≡ false →
         ((other : ℕ) → other ≢ place → realm new.core other ≡ realm stored_core.core other) → HaveNames new.core →
@@ -92,10 +115,7 @@ module _ {S : Type 0} (kept : Keeping S) (stored_core new : StoredCore S) (place
         (printed printed' : List ℕ) → printed' ≡ printed ++ (renewed acting.due acting).printed → IsDone kept stored_core new place actor actor' printed printed' (renewed acting.due acting)
     renews_so recovery willing after never not_last others names name' readers' errands' due' printed printed' text =
         let name = acting.world.state.head.name in
-        let rows = acting.world.rows in
-        let log = is.stored.log in
         let due : acting.due ≡ false = sym is.served.due_is ∙ not_due (kept.is_due stored_core.store name) never in
-        let epoch = rises log name acting.world.state.head.epoch rows is.stored.part is.stored.known not_last in
         subst (λ b. IsDone kept stored_core new place actor actor' printed printed' (renewed b acting)) (sym due) (record {
           own = record {
             served = record {
@@ -103,12 +123,7 @@ module _ {S : Type 0} (kept : Keeping S) (stored_core new : StoredCore S) (place
               names = names;
               due_is = spent name ∙ rw (itself name) (sym due);
             };
-            stored = record {
-              log = with_raised name log;
-              stood = stood log is.stored.stood;
-              part = subst (λ e. IsPart (with_raised name log) name e rows) epoch (renewed_part log name acting.world.state.head.epoch rows is.stored.part is.stored.known);
-              known = renewed_known log name name ∙ is.stored.known;
-            };
+            stored = stored_again not_last;
             named = is.named;
             own = record {
               name = name' ∙ is.own.name;
@@ -189,6 +204,15 @@ module _ {S : Type 0} (kept : Keeping S) (stored_core : StoredCore S) (place : �
     leaves = leaves_on kept stored_core mid stored_core' place actor.name first done.leaves;
     name = done.name;
     text = done.text;
+  })
+
+  -- however far it has come, behind a reading
+  pub renews_so_far : (mid : StoredCore S) (new : S) → (acting.world.state.head.epoch == last_epoch) ≡ false → AllStay kept stored_core.store mid.store → Halts kept mid.store new actor.name (around (Some (renewed acting.due acting)) acting) → Halts kept stored_core.store new actor.name (around (Some (renews acting)) acting)
+  renews_so_far mid new not_last stays so = rw not_last (record {
+    point = so.point;
+    named = so.named;
+    own = so.own;
+    others = λ other epoch rows differ stored. so.others other epoch rows differ (stays other epoch rows stored);
   })
 
 -- where nothing but a reading was done

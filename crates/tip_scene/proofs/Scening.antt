@@ -44,13 +44,13 @@ no_partner (x ∷ xs) (y ∷ ys) zero count none = absurd (none-some x (sym none
 no_partner (x ∷ xs) (y ∷ ys) (suc i) count none = no_partner xs ys i (omega arith) none
 
 module _ {S : Type 0} (kept : Keeping S) where
-  named : (stored_core : StoredCore S) (actors : List Actor) (scene : Scene) (name : List ℕ) → IsScene kept stored_core actors scene → position_or_len (has_name name) actors ≡ place_of name scene
+  pub named : (stored_core : StoredCore S) (actors : List Actor) (scene : Scene) (name : List ℕ) → IsScene kept stored_core actors scene → position_or_len (has_name name) actors ≡ place_of name scene
   named stored_core actors scene name is = named_at name actors scene is.count (λ place actor acting a b. (is.each place actor acting a b).own.name)
 
   -- One realm has done something, and the others stay
 
   -- two realms have two names
-  other_name : (stored_core : StoredCore S) (place other : ℕ) (actor x : Actor) (acting y : Acting) → IsActing kept stored_core place actor acting → IsActing kept stored_core other x y → other ≢ place → bytes_eq actor.name y.world.state.head.name ≡ false
+  pub other_name : (stored_core : StoredCore S) (place other : ℕ) (actor x : Actor) (acting y : Acting) → IsActing kept stored_core place actor acting → IsActing kept stored_core other x y → other ≢ place → bytes_eq actor.name y.world.state.head.name ≡ false
   other_name stored_core place other actor x acting y is that differ =
       apart actor.name y.world.state.head.name (bytes_eq actor.name y.world.state.head.name) refl
       (λ same. differ (that.served.names other place y.world.state acting.world.state that.served.state_is is.served.state_is (sym same ∙ is.own.name ∙ sym is.named)))

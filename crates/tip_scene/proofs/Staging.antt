@@ -17,7 +17,7 @@ use Rattle.tip_scene.proofs.Adopted.{both}
 use Rattle.tip_script.specs.declared.instruction.Instruction.{Instruction}
 use Rattle.tip_script.specs.declared.instruction.Instruction.TheVariants as instruction
 use Rattle.tip_scene.specs.Acts.{Stage, Declaring, Playing, Acted, Basis, acted, acted_by, acts, acts_if, are_covered, declaration_of, declared, is_declared, labelled, labelled_at, may_be_declared, may_be_labelled, numbered, is_count, is_other, may_say, not_understood, scene_of, starts_text}
-use Rattle.tip_scene.specs.Leaving.{scene_at}
+use Rattle.tip_scene.specs.Leaving.{is_starting, scene_at}
 use Rattle.tip_scene.specs.Scenes.{Scene, moved}
 use Rattle.tip_scene.specs.Stages.{APlaying, AStage, ActsSo, Declared, Declares, IsDeclared, IsBasis, IsStage, Moves}
 use Rattle.tip_scene.specs.Standing.{IsScene, IsMoved}
@@ -150,6 +150,23 @@ starts_declared basis declarations (instruction.Resume realm id) other unlabelle
 starts_declared basis declarations (instruction.Refuse realm) other unlabelled = refl
 starts_declared basis declarations (instruction.Renew realm) other unlabelled = refl
 starts_declared basis declarations instruction.Restart other unlabelled = refl
+
+-- and it starts them
+pub starting_declared : (i : Instruction) → ((name : _) (address : _) (branches : ℕ) (limits : Limits) → i ≢ instruction.Realm name address branches limits) → ((realm : _) (labels : _) → i ≢ instruction.Labels realm labels) → is_starting (move_by i) ≡ true
+starting_declared (instruction.Realm name address branches limits) other unlabelled = absurd (other name address branches limits refl)
+starting_declared (instruction.Labels realm labels) other unlabelled = absurd (unlabelled realm labels refl)
+starting_declared (instruction.Open realm kinds) other unlabelled = refl
+starting_declared (instruction.Dial realm address kinds aim) other unlabelled = refl
+starting_declared (instruction.Feed realm connection octets) other unlabelled = refl
+starting_declared (instruction.Lost realm connection) other unlabelled = refl
+starting_declared (instruction.Push asked) other unlabelled = refl
+starting_declared (instruction.Pull asked) other unlabelled = refl
+starting_declared (instruction.Go realm) other unlabelled = refl
+starting_declared (instruction.Drop realm) other unlabelled = refl
+starting_declared (instruction.Resume realm id) other unlabelled = refl
+starting_declared (instruction.Refuse realm) other unlabelled = refl
+starting_declared (instruction.Renew realm) other unlabelled = refl
+starting_declared instruction.Restart other unlabelled = refl
 
 -- a line of one realm that renews none starts none again
 pub starts_none : (i : Instruction) (realm : List ℕ) → realm_of (move_by i) ≡ Some realm → ((r : _) → i ≢ instruction.Renew r) → is_start (move_by i) ≡ false

@@ -23,7 +23,8 @@ pub struct Wanted {
 impl Wanted {
     /// So many willing boxes alone.
     pub fn of_rows(alloc: Global, willing: usize) -> Wanted
-        ensures { result.willing ≡ willing }
+        ensures kinds { result.kinds.items ≡ [] }
+        ensures willing { result.willing ≡ willing }
     {
         Wanted {
             kinds: Vec::new(alloc),

@@ -1,5 +1,5 @@
 //! The realms of a script, before they start.
-ghost use Rattle.std.specs.Prelude.{◌≡◌, ◌≤◌, ◌+◌, ◌++◌, ◌&&◌, true, false, ℕ, List, [], None, Some, length, map, option_map, IfOk, OnErr, OnOk, IsErrOf, string_bytes};
+ghost use Rattle.std.specs.Prelude.{◌≡◌, ◌≤◌, ◌+◌, ◌++◌, ◌&&◌, true, false, ℕ, List, [], None, Some, length, map, option_map, IfErr, IfOk, OnErr, OnOk, IsErrOf, string_bytes};
 ghost use Rattle.std.specs.List.{list_all, position_or_len};
 ghost use Rattle.tip_branch.specs.Always.{Always};
 ghost use Rattle.tip_line.specs.Fields.{fields_of};
@@ -9,7 +9,7 @@ ghost use Rattle.tip_scene.specs.Blaming.{Blames, HasRefused, IsAtFault};
 ghost use Rattle.tip_scene.specs.Boxes.{AreWilling, box_count};
 ghost use Rattle.tip_scene.specs.Hosting.{may_be_hosted};
 ghost use Rattle.tip_rows.specs.Logs.{Log};
-ghost use Rattle.tip_scene.specs.Leaving.{OthersStay};
+ghost use Rattle.tip_scene.specs.Leaving.{MayAllRise, OthersStay};
 ghost use Rattle.tip_scene.specs.Rising.{AreNew};
 ghost use Rattle.tip_scene.specs.Stages.{Declares, IsDeclared, IsBasis, Trusts, spec_of};
 ghost use Rattle.tip_scene.specs.Standing.{IsScene};
@@ -153,6 +153,7 @@ impl<S: RowLog + Drop> Declared<S, Core> {
             IfOk result (λ playing. S.keeping.is_true playing.stored_core.store → IsScene
             S.keeping playing.stored_core playing.actors.items
             (scene_of basis declarations)) }
+        ensures halts { IfErr result (λ fault. MayAllRise S.keeping 0 [] self.store fault.1) }
     {
         let Declared {
             core,

@@ -3,6 +3,7 @@ ghost use Rattle.std.specs.Prelude.{◌≡◌, ◌≤◌, ◌==◌, Some, None, 
 ghost use Rattle.std.specs.List.{position_or_len};
 ghost use Rattle.tip_branch.specs.Always.{Always};
 ghost use Rattle.tip_actor.specs.Acting.{Acting, boxes_of, count_of, takes};
+ghost use Rattle.tip_actor.specs.Halting.{Halts, around, taken};
 ghost use Rattle.tip_actor.specs.Standing.{Acts, IsActing, Tells};
 ghost use Rattle.tip_script.specs.Moves.{move_by};
 ghost use Rattle.tip_script.specs.Scripts.{Renew as Renews, is_start, plans_with, realm_of};
@@ -11,7 +12,7 @@ ghost use Rattle.tip_branch.specs.declared.branch.Phase.TheVariants.{Active};
 ghost use Rattle.tip_scene.specs.Acts.{Playing as AtWork, may_say};
 ghost use Rattle.tip_scene.specs.Blaming.{Blames, HasRefused, IsAtFault, judged};
 ghost use Rattle.tip_scene.specs.Boxes.{AreWilling, box_count};
-ghost use Rattle.tip_scene.specs.Leaving.{LeavesRest};
+ghost use Rattle.tip_scene.specs.Leaving.{HaltsAtWork, HaltsIn, LeavesRest};
 ghost use Rattle.tip_rows.specs.Logs.{Log};
 ghost use Rattle.tip_scene.specs.Scenes.{Scene, does, elsewhere, moved, moved_in};
 ghost use Rattle.tip_scene.specs.Standing.{has_name, IsScene};
@@ -80,6 +81,12 @@ impl<S: RowLog + Drop> Playing<StoredCore<S>, Actor> {
             (IsAtFault S.keeping self.stored_core.store (AtWork scene)) result }
         ensures stays { IfErr result (λ fault. fault.0 ≡ LineFault.NotUnderstood →
             fault.1 ≡ self.stored_core.store) }
+        ensures halts { (scene : Scene) →
+            IsScene S.keeping self.stored_core self.actors.items scene →
+            may_say R.may (move_by instruction.entry) ≡ true →
+            ComeWith (Some (move_by instruction.entry)) (map standing boxes.items) →
+            IfErr result (λ fault. S.keeping.is_true fault.1 → HaltsAtWork S.keeping scene
+            (move_by instruction.entry) self.stored_core.store fault.1) }
     {
         let Some(realm) = instruction.realm() else {
             return restart(self, alloc, pool, printed);
@@ -131,6 +138,13 @@ impl<S: RowLog + Drop> Playing<StoredCore<S>, Actor> {
             self.new.stored_core.store }
         ensures stays { IsErrOf result LineFault.NotUnderstood →
             self.new.stored_core.store ≡ self.old.stored_core.store }
+        ensures halts { (scene : Scene) → IsScene S.keeping
+            self.old.stored_core self.old.actors.items scene →
+            may_say R.may (move_by instruction.entry) ≡ true →
+            ComeWith (Some (move_by instruction.entry)) (map standing boxes.items) →
+            S.keeping.is_true self.new.stored_core.store → HaltsIn S.keeping
+            (move_by instruction.entry) realm.now scene self.old.stored_core.store
+            self.new.stored_core.store }
     {
         if let Instruction::Renew { .. } = instruction {
             return self.renew(alloc, refuser, realm, pool, printed);
@@ -172,6 +186,11 @@ impl<S: RowLog + Drop> Playing<StoredCore<S>, Actor> {
             IsAtFault S.keeping self.old.stored_core.store (AtWork scene)
             self.new.stored_core.store }
         ensures understood { IsErrOf result LineFault.NotUnderstood → ⊥ }
+        ensures halts { (scene : Scene) → IsScene S.keeping
+            self.old.stored_core self.old.actors.items scene →
+            S.keeping.is_true self.new.stored_core.store → HaltsIn S.keeping
+            (Renews name.now) name.now scene self.old.stored_core.store
+            self.new.stored_core.store }
     {
         let place = self.place_of(name);
         let Some(actor) = self.actors.get_mut(place) else {
@@ -224,6 +243,12 @@ impl<S: RowLog + Drop> Playing<StoredCore<S>, Actor> {
             HasRefused S.keeping self.old.stored_core.store self.new.stored_core.store }
         ensures stays { IsErrOf result LineFault.NotUnderstood →
             self.new.stored_core.store ≡ self.old.stored_core.store }
+        ensures halts { (scene : Scene) → IsScene S.keeping
+            self.old.stored_core self.old.actors.items scene →
+            may_say R.may (move_by instruction.entry) ≡ true →
+            boxes ≡ boxes_of (plans_with (move_by instruction.entry)) → HaltsIn S.keeping
+            (move_by instruction.entry) realm.now scene self.old.stored_core.store
+            self.new.stored_core.store }
     {
         let before = self.stored_core.store.faults();
         let end = self.act_in(alloc, refuser, realm, instruction, boxes, printed);
@@ -265,6 +290,12 @@ impl<S: RowLog + Drop> Playing<StoredCore<S>, Actor> {
             OnOk result (LeavesRest S.keeping self.old self.new) }
         ensures stays { IsErrOf result LineFault.NotUnderstood →
             self.new.stored_core.store ≡ self.old.stored_core.store }
+        ensures halts { (scene : Scene) → IsScene S.keeping
+            self.old.stored_core self.old.actors.items scene →
+            may_say R.may (move_by instruction.entry) ≡ true →
+            boxes ≡ boxes_of (plans_with (move_by instruction.entry)) → HaltsIn S.keeping
+            (move_by instruction.entry) realm.now scene self.old.stored_core.store
+            self.new.stored_core.store }
     {
         let place = self.place_of(realm);
         let Some(actor) = self.actors.get_mut(place) else {
@@ -363,6 +394,10 @@ fn settle<S: RowLog + Drop>(
     ensures acts { OnOk result (Acts S.keeping stored_core.old stored_core.new place
         actor.old actor.new (string_bytes printed.old) (string_bytes printed.new)
         (λ acting. takes (count_of acting.readings) acting)) }
+    ensures halts { (acting : Acting) →
+        IsActing S.keeping stored_core.old place actor.old acting →
+        Halts S.keeping stored_core.old.store stored_core.new.store actor.old.name
+        (taken acting) }
 {
     actor.settle(alloc, stored_core, place, printed)?;
     Ok(())
@@ -393,6 +428,12 @@ fn obey<S: RowLog + Drop, R: Refuser<S>>(
         (does (move_by instruction.entry) acting)) }
     ensures untold { IfOk result
         (λ told. told ≡ false → stored_core.new ≡ stored_core.old) }
+    ensures halts { (acting : Acting) →
+        IsActing S.keeping stored_core.old place actor.old acting →
+        may_say R.may (move_by instruction.entry) ≡ true →
+        boxes ≡ boxes_of (plans_with (move_by instruction.entry)) →
+        Halts S.keeping stored_core.old.store stored_core.new.store actor.old.name
+        (around (does (move_by instruction.entry) acting) acting) }
 {
     match instruction {
         Instruction::Realm { .. }

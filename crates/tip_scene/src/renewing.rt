@@ -2,6 +2,7 @@
 ghost use Rattle.std.specs.Prelude.{◌≡◌, ◌≤◌, ◌⊎◌, ◌+◌, ◌++◌, false, Some, length, IsErrOf, OnOk, map, string_bytes};
 ghost use Rattle.std.specs.List.{flat_map};
 ghost use Rattle.tip_actor.specs.Acting.{Acting, renewed, renews};
+ghost use Rattle.tip_actor.specs.Halting.{Halts, around};
 ghost use Rattle.tip_actor.specs.Standing.{Acts, IsActing, IsDone};
 ghost use Rattle.tip_core.specs.Hosted.{realm as realm_at};
 ghost use Rattle.tip_machine.specs.Answers.{identifier};
@@ -49,6 +50,10 @@ pub(crate) fn renew<S: RowLog + Drop>(
         stored_core.old.is_stopped ≡ false → S.keeping.is_true stored_core.new.store →
         IsErrOf result Store → HasRefused S.keeping stored_core.old.store stored_core.new.store
         ⊎ IsNotRenewed S.keeping stored_core.old.store stored_core.new.store acting }
+    ensures halts { (acting : Acting) →
+        IsActing S.keeping stored_core.old place actor.old acting →
+        Halts S.keeping stored_core.old.store stored_core.new.store actor.old.name
+        (around (Some (renews acting)) acting) }
 {
     let Some(epoch) = next_epoch(stored_core.core.heads(), place) else {
         print_refusal(printed, actor.name.as_str(), Refusal::EpochEnd)?;
@@ -88,6 +93,11 @@ fn renew_by<S: RowLog + Drop>(
         S.keeping.is_true stored_core.new.store → IsErrOf result Store →
         HasRefused S.keeping stored_core.old.store stored_core.new.store
         ⊎ IsNotRenewed S.keeping stored_core.old.store stored_core.new.store acting }
+    ensures halts { (acting : Acting) →
+        IsActing S.keeping stored_core.old place actor.old acting →
+        epoch ≡ acting.world.state.head.epoch + 1 →
+        Halts S.keeping stored_core.old.store stored_core.new.store actor.old.name
+        (around (Some (renewed acting.due acting)) acting) }
 {
     let mut opening = String::new(alloc);
     let name = actor.name.as_str();

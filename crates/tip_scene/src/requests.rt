@@ -1,6 +1,7 @@
 //! What a script asks of a realm with words of its own: addresses and identifiers.
 ghost use Rattle.std.specs.Prelude.{◌≡◌, ◌&&◌, ℕ, List, false, Some, None, IfOk, if◌then◌else◌, string_bytes};
 ghost use Rattle.tip_actor.specs.Acting.{Acting, boxes_of};
+ghost use Rattle.tip_actor.specs.Halting.{Halts, around};
 ghost use Rattle.tip_actor.specs.Standing.{IsActing, Tells};
 ghost use Rattle.tip_branch.specs.declared.branch.Plan.{Plan};
 ghost use Rattle.tip_line.specs.Words.{is_address, is_word};
@@ -41,6 +42,10 @@ pub(crate) fn dial<S: RowLog + Drop>(
         (does (Dial realm address.now plans (purpose_of aim.entry)) acting)) }
     ensures untold { IfOk result
         (λ told. told ≡ false → stored_core.new ≡ stored_core.old) }
+    ensures halts { (acting : Acting) (realm : List ℕ) (plans : List Plan) →
+        IsActing S.keeping stored_core.old place actor.old acting → boxes ≡ boxes_of plans →
+        Halts S.keeping stored_core.old.store stored_core.new.store actor.old.name
+        (around (does (Dial realm address.now plans (purpose_of aim.entry)) acting) acting) }
 {
     match dialling(alloc, address, aim, boxes)? {
         Some(event) => {
@@ -94,6 +99,10 @@ pub(crate) fn push<S: RowLog + Drop>(
         (does (Push realm asked.entry.connection asked.entry.id.now) acting)) }
     ensures untold { IfOk result
         (λ told. told ≡ false → stored_core.new ≡ stored_core.old) }
+    ensures halts { (acting : Acting) (realm : List ℕ) →
+        IsActing S.keeping stored_core.old place actor.old acting →
+        Halts S.keeping stored_core.old.store stored_core.new.store actor.old.name
+        (around (does (Push realm asked.entry.connection asked.entry.id.now) acting) acting) }
 {
     match id_in(alloc, asked.id)? {
         Some(id) => actor.push(alloc, stored_core, place, asked.connection, id, printed),
@@ -121,6 +130,10 @@ pub(crate) fn pull<S: RowLog + Drop>(
         (does (Pull realm asked.entry.connection asked.entry.id.now) acting)) }
     ensures untold { IfOk result
         (λ told. told ≡ false → stored_core.new ≡ stored_core.old) }
+    ensures halts { (acting : Acting) (realm : List ℕ) →
+        IsActing S.keeping stored_core.old place actor.old acting →
+        Halts S.keeping stored_core.old.store stored_core.new.store actor.old.name
+        (around (does (Pull realm asked.entry.connection asked.entry.id.now) acting) acting) }
 {
     match id_in(alloc, asked.id)? {
         Some(superior) => actor.pull(
@@ -155,6 +168,10 @@ pub(crate) fn resume<S: RowLog + Drop>(
         (does (Resume realm id.now) acting)) }
     ensures untold { IfOk result
         (λ told. told ≡ false → stored_core.new ≡ stored_core.old) }
+    ensures halts { (acting : Acting) (realm : List ℕ) →
+        IsActing S.keeping stored_core.old place actor.old acting →
+        Halts S.keeping stored_core.old.store stored_core.new.store actor.old.name
+        (around (does (Resume realm id.now) acting) acting) }
 {
     match id_in(alloc, id)? {
         Some(id) => {

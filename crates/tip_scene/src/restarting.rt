@@ -1,5 +1,5 @@
 //! The process of a script starts again.
-ghost use Rattle.std.specs.Prelude.{◌≡◌, ◌<◌, ◌≤◌, ◌++◌, ◌==◌, ℕ, None, false, length, map, IfErr, IfOk, OnOk, option_map, slice_get, string_bytes};
+ghost use Rattle.std.specs.Prelude.{◌≡◌, ◌<◌, ◌≤◌, ◌++◌, ◌==◌, ℕ, [], None, false, length, map, IfErr, IfOk, OnOk, option_map, slice_get, string_bytes};
 ghost use Rattle.std.specs.List.{flat_map, list_any};
 ghost use Rattle.tip_actor.specs.Acting.{is_at_end, restarts};
 ghost use Rattle.tip_core.specs.Hosted.{realm as realm_at};
@@ -8,7 +8,7 @@ ghost use Rattle.tip_machine.specs.States.{State};
 ghost use Rattle.tip_scene.specs.Acts.{Playing as AtWork};
 ghost use Rattle.tip_scene.specs.Blaming.{Blames, IsAtFault};
 ghost use Rattle.tip_scene.specs.Boxes.{AreWilling, box_count};
-ghost use Rattle.tip_scene.specs.Leaving.{LeavesRest};
+ghost use Rattle.tip_scene.specs.Leaving.{LeavesRest, MayAllRise};
 ghost use Rattle.tip_scene.specs.Rising.{AreAgain, AreWaiting};
 ghost use Rattle.tip_rows.specs.Logs.{last_epoch};
 ghost use Rattle.tip_scene.specs.Scenes.{Scene, openings_text, restarted};
@@ -53,6 +53,8 @@ pub(crate) fn restart<S: RowLog + Drop>(
         (string_bytes printed.new) (restarted scene) result }
     ensures stays { IfErr result (λ fault. fault.0 ≡ LineFault.NotUnderstood →
         fault.1 ≡ playing.stored_core.store) }
+    ensures halts { IfErr result
+        (λ fault. MayAllRise S.keeping 0 [] playing.stored_core.store fault.1) }
 {
     let Playing {
         stored_core,

@@ -1,5 +1,5 @@
 //! A script as far as it was played.
-ghost use Rattle.std.specs.Prelude.{◌≡◌, ◌≤◌, ◌++◌, [], List, Some, length, map, option_map, IfOk, IsErrOf, IsOk, OnOk, true, false, string_bytes};
+ghost use Rattle.std.specs.Prelude.{◌≡◌, ◌≤◌, ◌++◌, [], List, Some, length, map, option_map, IfErr, IfOk, IsErrOf, IsOk, OnOk, true, false, string_bytes};
 ghost use Rattle.tip_branch.specs.Always.{Always};
 ghost use Rattle.tip_script.specs.Moves.{move_by};
 ghost use Rattle.tip_script.specs.Scripts.{move_of};
@@ -11,7 +11,7 @@ ghost use Rattle.tip_scene.specs.Blaming.{Blames, HasRefused, IsBlamed, starting
 ghost use Rattle.tip_scene.specs.Boxes.{AreWilling, box_count};
 ghost use Rattle.tip_scene.specs.Hosting.{may_be_hosted};
 ghost use Rattle.tip_rows.specs.Logs.{Log};
-ghost use Rattle.tip_scene.specs.Leaving.{IsLeft, LeavesAtFault, LeavesOthers, names_in, scene_at, scene_behind};
+ghost use Rattle.tip_scene.specs.Leaving.{HaltsAt, HaltsAtEnd, HaltsBy, IsLeft, LeavesAtFault, LeavesOthers, names_in, scene_at, scene_behind};
 ghost use Rattle.tip_scene.specs.declared.stage.Stage.TheVariants.{Declaring as AtFirst};
 ghost use Rattle.tip_scene.specs.Stages.{ActsSo, AreWanted, ComeWith, IsDeclared, IsBasis, IsSound, IsStage, Trusts, has_started, store_of};
 ghost use Rattle.tip_scene.specs.Wanting.{wanted_at_start, wanted_by};
@@ -85,6 +85,11 @@ impl<S: RowLog + Drop> Stage<Declared<S>, Playing<StoredCore<S>>> {
             IsStage S.keeping basis self stage →
             LeavesAtFault S.keeping (scene_behind basis stage (move_of line.now)) (store_of self)
             result }
+        ensures halts { (basis : Basis) (stage : AStage) → basis.may_refuse ≡ R.may →
+            IsStage S.keeping basis self stage →
+            ComeWith (move_of line.now) (map standing boxes.items) →
+            IfErr result (λ fault. S.keeping.is_true fault.1 →
+            HaltsBy S.keeping basis stage (move_of line.now) (store_of self) fault.1) }
     {
         if line.is_empty() {
             return Ok(self);
@@ -121,6 +126,8 @@ impl<S: RowLog + Drop> Stage<Declared<S>, Playing<StoredCore<S>>> {
             IsStage S.keeping basis self stage →
             wanted_at_start basis stage ≤ length pool.old.items →
             Blames S.keeping ActFault.Store (IsBlamed S.keeping basis (store_of self)) result }
+        ensures halts { (basis : Basis) (stage : AStage) → IsStage S.keeping basis self stage →
+            IfErr result (λ fault. HaltsAtEnd S.keeping stage (store_of self) fault.1) }
     {
         match self {
             Stage::Declaring(declared) => {
@@ -302,6 +309,11 @@ impl<S: RowLog + Drop> Stage<Declared<S>, Playing<StoredCore<S>>> {
         ensures faults { (basis : Basis) (stage : AStage) → IsStage S.keeping basis self stage →
             LeavesAtFault S.keeping (scene_at basis stage (move_by instruction.entry))
             (store_of self) result }
+        ensures halts { (basis : Basis) (stage : AStage) → IsStage S.keeping basis self stage →
+            may_say R.may (move_by instruction.entry) ≡ true →
+            ComeWith (Some (move_by instruction.entry)) (map standing boxes.items) →
+            IfErr result (λ fault. S.keeping.is_true fault.1 → HaltsAt S.keeping basis stage
+            (move_by instruction.entry) (store_of self) fault.1) }
     {
         match self {
             Stage::Declaring(declared) => {
@@ -355,6 +367,12 @@ fn declare<S: RowLog + Drop, R: Refuser<S>>(
         IsDeclared S.keeping basis declared declarations →
         LeavesAtFault S.keeping (scene_at basis (Begins declarations) (move_by instruction.entry))
         declared.store result }
+    ensures halts { (basis : Basis) (declarations : List Declaration) →
+        IsDeclared S.keeping basis declared declarations →
+        may_say R.may (move_by instruction.entry) ≡ true →
+        ComeWith (Some (move_by instruction.entry)) (map standing boxes.items) →
+        IfErr result (λ fault. S.keeping.is_true fault.1 → HaltsAt S.keeping basis
+        (Begins declarations) (move_by instruction.entry) declared.store fault.1) }
 {
     let noted = match instruction {
         Instruction::Realm {

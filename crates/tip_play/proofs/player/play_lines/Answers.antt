@@ -1,7 +1,6 @@
 -- Lines that are read and played, one after another.
 use Rattle.std.proofs.Common.{◌≡◌, ◌+◌, ◌∙◌, ◌++◌, ◌∷◌, [], ap, arith, if◌then◌else◌, inl, length, map, refl, subst, sym, Err, Ok}
 use Rattle.std.proofs.lemmas.Result.{err_from_is_err_and}
-use Rattle.tip_scene.specs.Blaming.{starting_from}
 use Rattle.tip_scene.specs.Stages.{IsStage, store_of}
 use Rattle.script_lines.specs.Lines.{Reads}
 use Rattle.tip_actor.specs.Acting.{boxes_of}
@@ -13,7 +12,7 @@ use Rattle.tip_script.specs.Scripts.{move_of, plans_of}
 use Rattle.tip_play.specs.Transcripts.{IsFront, IsReadTo, Transcribes, in_memory}
 use Rattle.tip_scene.proofs.Dealing.{join}
 use Rattle.tip_play.proofs.Making.{all_alike, all_made, fresh_active, fresh_known, fresh_of, no_other, one_alike, one_longer, one_made, read_of, when_ok}
-use Rattle.tip_play.proofs.Leaving.{at_end, fault_beyond, fault_coming, fault_end, fault_line}
+use Rattle.tip_play.proofs.Leaving.{at_end, fault_beyond, fault_between, fault_coming, fault_end, fault_first, fault_line}
 use Rattle.tip_play.proofs.Reading.{Goes, HasEnded, HasRead, IsCoveredBy, LeavesFrom, a_line, closes_on, ended_at, goes_front, goes_on, gone, grows_last, leaves_end, leaves_more, leaves_none, leaves_still, line_covered, line_fails, no_line, no_number, not_come, reads_none, relying, stands_so, still_going, trusts_back}
 use Rattle.tip_play.proofs.Blaming.{blames_back, blames_back_err, is_err_of, refused_here}
 use Rattle.tip_play.proofs.player.play_lines.Goals as goal
@@ -263,7 +262,7 @@ returns-then-is_over-clause-leaves g c = λ basis may on script whole covers.
     let so = gone kept basis c.loop-number.is_over stage c.loop-number.number (g.R.Read.remaining c.args.input.now) (g.R.Read.remaining c.loop-number.input) (g.W.Write.contents c.args.output.now) (g.W.Write.contents c.loop-number.output) c.if-is_over.true (c.loop-number.invariant.goes basis may on (script, whole, covers) (c.next.ensures.truth (subst (λ s. kept.is_true (store_of s)) same left))) in
     (so.played.now, subst (λ s. IsStage kept basis s so.played.now) (sym same) (c.next.ensures.stands basis so.played.now so.played.stands), ended_at kept basis stage (g.R.Read.remaining c.args.input.now) (g.R.Read.remaining c.loop-number.input) (g.W.Write.contents c.args.output.now) (g.W.Write.contents c.loop-number.output) script whole so, (from.starts, from.others)))
     (grows_last kept basis _)
-    (λ now is. at_end kept basis (starting_from basis now) _ c.finish.result (c.finish.ensures.leaves basis now is))
+    (λ now is. at_end kept basis now _ c.finish.result (c.finish.ensures.leaves basis now is))
 
 -- What is left of it where a line may not stand in its script
 
@@ -344,3 +343,64 @@ returns-then-is_beyond-clause-faults g c = λ basis may on script is covers.
     fault_beyond kept basis c.loop-number.is_over stage c.loop-number.number script left old new c.args.store c.shut.result c.shut.ensures (c.is_beyond.ensures.yes c.if-is_beyond.true)
     (λ so. subst (λ w. Goes kept basis c.loop-number.is_over stage c.loop-number.number w left old new) is (c.loop-number.invariant.goes basis may on known (back so)))
     (λ so. c.loop-number.invariant.rest basis may on known (back so))
+
+-- Memory ended before a line was begun
+
+pub returns-in_default-clause-faults : goal.returns-in_default-clause-faults
+returns-in_default-clause-faults g c = λ basis may on script is covers truth. fault_first g.S.RowLog.keeping basis script c.args.store
+
+pub returns-in_default-new-clause-faults : goal.returns-in_default-new-clause-faults
+returns-in_default-new-clause-faults g c = λ basis may on script is covers.
+    let kept = g.S.RowLog.keeping in
+    let left = g.R.Read.remaining c.loop-number.input in
+    let old = g.W.Write.contents c.args.output.now in
+    let new = g.W.Write.contents c.loop-number.output in
+    let stage = c.loop-number.stage in
+    let known : IsCoveredBy basis (g.R.Read.remaining c.args.input.now) = (script, is, covers) in
+    let back = λ (so : kept.is_true c.shut-in_default-new.result). c.next.ensures.truth (subst kept.is_true c.shut-in_default-new.ensures so) in
+    fault_between kept basis c.loop-number.is_over stage c.next.new.stage c.loop-number.number script left old new c.args.store c.shut-in_default-new.result c.shut-in_default-new.ensures
+    (λ so. subst (λ w. Goes kept basis c.loop-number.is_over stage c.loop-number.number w left old new) is (c.loop-number.invariant.goes basis may on known (back so)))
+    (λ so. leaves_still kept basis c.args.store stage c.next.new.stage c.next.ensures.names c.next.ensures.stood (c.loop-number.invariant.rest basis may on known (back so)))
+    (c.next.ensures.stands basis)
+
+pub returns-then-is_err-clause-faults : goal.returns-then-is_err-clause-faults
+returns-then-is_err-clause-faults g c = λ basis may on script is covers.
+    let kept = g.S.RowLog.keeping in
+    let left = g.R.Read.remaining c.loop-number.input in
+    let old = g.W.Write.contents c.args.output.now in
+    let new = g.W.Write.contents c.loop-number.output in
+    let stage = c.loop-number.stage in
+    let known : IsCoveredBy basis (g.R.Read.remaining c.args.input.now) = (script, is, covers) in
+    let back = λ (so : kept.is_true c.shut-then-is_err.result). c.next.ensures.truth (subst kept.is_true c.shut-then-is_err.ensures so) in
+    fault_between kept basis c.loop-number.is_over stage c.next.new.stage c.loop-number.number script left old new c.args.store c.shut-then-is_err.result c.shut-then-is_err.ensures
+    (λ so. subst (λ w. Goes kept basis c.loop-number.is_over stage c.loop-number.number w left old new) is (c.loop-number.invariant.goes basis may on known (back so)))
+    (λ so. leaves_still kept basis c.args.store stage c.next.new.stage c.next.ensures.names c.next.ensures.stood (c.loop-number.invariant.rest basis may on known (back so)))
+    (c.next.ensures.stands basis)
+
+pub returns-in_default-new-2-clause-faults : goal.returns-in_default-new-2-clause-faults
+returns-in_default-new-2-clause-faults g c = λ basis may on script is covers.
+    let kept = g.S.RowLog.keeping in
+    let left = g.R.Read.remaining c.loop-number.input in
+    let old = g.W.Write.contents c.args.output.now in
+    let new = g.W.Write.contents c.loop-number.output in
+    let stage = c.loop-number.stage in
+    let known : IsCoveredBy basis (g.R.Read.remaining c.args.input.now) = (script, is, covers) in
+    let back = λ (so : kept.is_true c.shut-in_default-new-2.result). c.next.ensures.truth (subst kept.is_true c.shut-in_default-new-2.ensures so) in
+    fault_between kept basis c.loop-number.is_over stage c.next.new.stage c.loop-number.number script left old new c.args.store c.shut-in_default-new-2.result c.shut-in_default-new-2.ensures
+    (λ so. subst (λ w. Goes kept basis c.loop-number.is_over stage c.loop-number.number w left old new) is (c.loop-number.invariant.goes basis may on known (back so)))
+    (λ so. leaves_still kept basis c.args.store stage c.next.new.stage c.next.ensures.names c.next.ensures.stood (c.loop-number.invariant.rest basis may on known (back so)))
+    (c.next.ensures.stands basis)
+
+pub returns-then-is_err-2-clause-faults : goal.returns-then-is_err-2-clause-faults
+returns-then-is_err-2-clause-faults g c = λ basis may on script is covers.
+    let kept = g.S.RowLog.keeping in
+    let left = g.R.Read.remaining c.loop-number.input in
+    let old = g.W.Write.contents c.args.output.now in
+    let new = g.W.Write.contents c.loop-number.output in
+    let stage = c.loop-number.stage in
+    let known : IsCoveredBy basis (g.R.Read.remaining c.args.input.now) = (script, is, covers) in
+    let back = λ (so : kept.is_true c.shut-then-is_err-2.result). c.next.ensures.truth (subst kept.is_true c.shut-then-is_err-2.ensures so) in
+    fault_between kept basis c.loop-number.is_over stage c.next.new.stage c.loop-number.number script left old new c.args.store c.shut-then-is_err-2.result c.shut-then-is_err-2.ensures
+    (λ so. subst (λ w. Goes kept basis c.loop-number.is_over stage c.loop-number.number w left old new) is (c.loop-number.invariant.goes basis may on known (back so)))
+    (λ so. leaves_still kept basis c.args.store stage c.next.new.stage c.next.ensures.names c.next.ensures.stood (c.loop-number.invariant.rest basis may on known (back so)))
+    (c.next.ensures.stands basis)

@@ -1,5 +1,5 @@
 -- A realm in its last epoch, and one that starts again by what is stored of it.
-use Rattle.std.proofs.Common.{◌≡◌, ◌<◌, ◌∙◌, ◌++◌, Err, List, true, ap, arith, sym, length, map, rules, string_bytes, subst}
+use Rattle.std.proofs.Common.{◌≡◌, ◌<◌, ◌∙◌, ◌++◌, Err, List, Some, true, ap, arith, refl, sym, length, map, rules, string_bytes, subst}
 use Rattle.std.specs.Prelude.{option_map, slice_get}
 use Rattle.std.proofs.lemmas.Bool.{false≢true}
 use Rattle.std.proofs.lemmas.Result.{err_from_is_err_and, on_ok_weaker}
@@ -12,7 +12,9 @@ use Rattle.tip_rows.specs.Logs.{Log}
 use Rattle.tip_transcript.specs.Printing.{refusal_text}
 use Rattle.tip_scene.specs.Boxes.{boxes_for, row_count}
 use Rattle.tip_scene.proofs.Blaming.{counts_all, err_same, fits_all, not_read, renews_since}
-use Rattle.tip_scene.proofs.Renewed.{acts_still, at_its_end, for_each, has_willing, leaves_still, not_last, read_rows, renews_all, was_last}
+use Rattle.tip_actor.proofs.Halting.{all_stood, not_begun}
+use Rattle.tip_actor.specs.Halting.{around}
+use Rattle.tip_scene.proofs.Renewed.{acts_still, at_its_end, for_each, has_willing, leaves_still, not_last, read_rows, renews_all, renews_so_far, was_last}
 use Rattle.tip_scene.proofs.renewing.renew.Goals as goal
 
 pub returns-in_default-clause-acts : goal.returns-in_default-clause-acts
@@ -80,3 +82,35 @@ returns-clause-blames g c = λ acting acts enough runs truth is.
     let willing = has_willing acting acting.world.state.head.name c.in_ok-recovery.recovery.rows c.adopt_all.new.self.rows c.in_ok-lots.lots.items acts.named read lots (c.adopt_all.ensures.adopted fits) in
     renews_since kept stored_core.store mid.store c.renew_by.new.stored_core.store acting c.in_ok-recovery.ensures.store.counts stood
     (c.renew_by.ensures.blames acting (acts_still kept stored_core mid c.doubts.ensures.core stood due c.args.place c.args.actor.now acting acts) (c.doubts.ensures.stopped ∙ runs) willing truth is)
+
+-- However far it has come
+
+pub returns-in_err-recovery-clause-halts : goal.returns-in_err-recovery-clause-halts
+returns-in_err-recovery-clause-halts g c = λ acting acts.
+    let stored_core = c.args.stored_core.now in
+    let mid = c.doubts.new.self in
+    not_begun g.S.RowLog.keeping stored_core mid.store c.args.place c.args.actor.now acting (around (Some (renews acting)) acting) refl acts (all_stood g.S.RowLog.keeping stored_core.store mid.store (λ log was. (let way = c.doubts.ensures.store.rows log was in subst (g.S.RowLog.keeping.stands mid.store) way.1 way.2)))
+
+pub returns-in_err-lots-clause-halts : goal.returns-in_err-lots-clause-halts
+returns-in_err-lots-clause-halts g c = λ acting acts.
+    let stored_core = c.args.stored_core.now in
+    let mid = c.doubts.new.self in
+    not_begun g.S.RowLog.keeping stored_core mid.store c.args.place c.args.actor.now acting (around (Some (renews acting)) acting) refl acts (all_stood g.S.RowLog.keeping stored_core.store mid.store (λ log was. (let way = c.doubts.ensures.store.rows log was in subst (g.S.RowLog.keeping.stands mid.store) way.1 way.2)))
+
+pub returns-then-not-adopt_all-clause-halts : goal.returns-then-not-adopt_all-clause-halts
+returns-then-not-adopt_all-clause-halts g c = λ acting acts.
+    let stored_core = c.args.stored_core.now in
+    let mid = c.doubts.new.self in
+    not_begun g.S.RowLog.keeping stored_core mid.store c.args.place c.args.actor.now acting (around (Some (renews acting)) acting) refl acts (all_stood g.S.RowLog.keeping stored_core.store mid.store (λ log was. (let way = c.doubts.ensures.store.rows log was in subst (g.S.RowLog.keeping.stands mid.store) way.1 way.2)))
+
+pub returns-clause-halts : goal.returns-clause-halts
+returns-clause-halts g c = λ acting acts.
+    let stored_core = c.args.stored_core.now in
+    let mid = c.doubts.new.self in
+    let goes = c.doubts.ensures.store in
+    let stood : (log : Log) → g.S.RowLog.keeping.stands stored_core.store log → g.S.RowLog.keeping.stands mid.store log = λ log was. (let way = goes.rows log was in subst (g.S.RowLog.keeping.stands mid.store) way.1 way.2) in
+    let there = c.heads.ensures c.args.place ∙ ap (option_map (λ (state : State). state.head)) acts.served.state_is in
+    let next = not_last acting.world.state.head (slice_get c.heads.result.now c.args.place) c.next_epoch.result there c.next_epoch.ensures c.in-Some.epoch c.in-Some.is in
+    let due : (name : List _) → g.S.RowLog.keeping.is_due mid.store name ≡ g.S.RowLog.keeping.is_due stored_core.store name = goes.due acts.stored.log acts.stored.stood in
+    renews_so_far g.S.RowLog.keeping stored_core c.args.place c.args.actor.now acting acts mid c.renew_by.new.stored_core.store next.1 (all_stood g.S.RowLog.keeping stored_core.store mid.store stood)
+    (c.renew_by.ensures.halts acting (acts_still g.S.RowLog.keeping stored_core mid c.doubts.ensures.core stood due c.args.place c.args.actor.now acting acts) next.0)

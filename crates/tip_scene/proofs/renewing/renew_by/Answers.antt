@@ -1,5 +1,5 @@
 -- The realm has started again, or the store was to refuse that.
-use Rattle.std.proofs.Common.{◌≡◌, ◌==◌, ◌∙◌, ◌++◌, ℕ, List, false, refl, ap, arith, string_bytes, subst, sym}
+use Rattle.std.proofs.Common.{◌≡◌, ◌==◌, ◌∙◌, ◌++◌, ℕ, List, Some, false, refl, ap, arith, string_bytes, subst, sym}
 use Rattle.std.proofs.lemmas.Bool.{false≢true}
 use Rattle.std.proofs.lemmas.Bool.Decides.{nat_tests}
 use Rattle.tip_stored.specs.Renewing.{SpendsFor}
@@ -11,7 +11,10 @@ use Rattle.tip_transcript.specs.Printing.{refusal_text, start_text}
 use Rattle.tip_actor.specs.Faults.{of_renew_fault}
 use Rattle.tip_scene.proofs.Begun.{row_text}
 use Rattle.tip_scene.proofs.Blaming.{err_same, not_renewed}
-use Rattle.tip_scene.proofs.Renewed.{not_due, refuses_so, renews_so, said_anew}
+use Rattle.tip_actor.proofs.Halting.{all_stood, not_begun}
+use Rattle.tip_actor.specs.Acting.{renewed}
+use Rattle.tip_actor.specs.Halting.{around}
+use Rattle.tip_scene.proofs.Renewed.{halts_renewed, not_due, refuses_so, renews_so, said_anew}
 use Rattle.tip_scene.proofs.renewing.renew_by.Goals as goal
 
 pub returns-in-Ok-clause-done : goal.returns-in-Ok-clause-done
@@ -46,3 +49,43 @@ returns-clause-blames g c = λ acting acts runs willing truth is.
     let kept = g.S.RowLog.keeping in
     not_renewed kept c.args.stored_core.now.store c.renew.new.self.store acting c.args.recovery c.in-Err.fault willing (λ stopped. false≢true (sym runs ∙ c.in-Err.ensures.stopping.0 stopped))
     (c.in-Err.ensures.store acting.world.state acts.served.state_is).counts (λ log stood now. c.in-Err.ensures.reason log acting.world.state stood acts.served.state_is now) (ap of_renew_fault (sym c.in-Err.fault-is) ∙ sym c.from.ensures ∙ err_same is)
+
+-- However far it has come
+
+pub returns-in_err-push_str-in-Ok-clause-halts : goal.returns-in_err-push_str-in-Ok-clause-halts
+returns-in_err-push_str-in-Ok-clause-halts g c = λ acting acts epoch.
+    let stored_core = c.args.stored_core.now in
+    let rises = c.in-Ok.ensures.store acting.world.state acts.served.state_is in
+    let spends = rises.due acts.stored.log acts.stored.stood in
+    let fits = c.ranges.epoch.fits in
+    let not_last : (acting.world.state.head.epoch == last_epoch) ≡ false = grind (arith, nat_tests, epoch, fits) in
+    let due : acting.due ≡ false = sym acts.served.due_is ∙ not_due (g.S.RowLog.keeping.is_due stored_core.store acting.world.state.head.name) spends.1 in
+    halts_renewed g.S.RowLog.keeping stored_core c.renew.new.self c.args.place c.args.actor.now c.args.actor.now acting acts rises.rows spends.0 due not_last c.renew.ensures.others
+
+pub returns-in-Ok-clause-halts : goal.returns-in-Ok-clause-halts
+returns-in-Ok-clause-halts g c = λ acting acts epoch.
+    let stored_core = c.args.stored_core.now in
+    let rises = c.in-Ok.ensures.store acting.world.state acts.served.state_is in
+    let spends = rises.due acts.stored.log acts.stored.stood in
+    let fits = c.ranges.epoch.fits in
+    let not_last : (acting.world.state.head.epoch == last_epoch) ≡ false = grind (arith, nat_tests, epoch, fits) in
+    let due : acting.due ≡ false = sym acts.served.due_is ∙ not_due (g.S.RowLog.keeping.is_due stored_core.store acting.world.state.head.name) spends.1 in
+    halts_renewed g.S.RowLog.keeping stored_core c.renew.new.self c.args.place c.args.actor.now c.args.actor.now acting acts rises.rows spends.0 due not_last c.renew.ensures.others
+
+pub returns-in_err-print_refusal-in-Err-NotRaised-default-clause-halts : goal.returns-in_err-print_refusal-in-Err-NotRaised-default-clause-halts
+returns-in_err-print_refusal-in-Err-NotRaised-default-clause-halts g c = λ acting acts epoch.
+    let stored_core = c.args.stored_core.now in
+    let rises = c.in-Err-NotRaised-default.ensures.store acting.world.state acts.served.state_is in
+    not_begun g.S.RowLog.keeping stored_core c.renew.new.self.store c.args.place c.args.actor.now acting (around (Some (renewed acting.due acting)) acting) refl acts (all_stood g.S.RowLog.keeping stored_core.store c.renew.new.self.store rises.rows)
+
+pub returns-in-Err-NotRaised-default-clause-halts : goal.returns-in-Err-NotRaised-default-clause-halts
+returns-in-Err-NotRaised-default-clause-halts g c = λ acting acts epoch.
+    let stored_core = c.args.stored_core.now in
+    let rises = c.in-Err-NotRaised-default.ensures.store acting.world.state acts.served.state_is in
+    not_begun g.S.RowLog.keeping stored_core c.renew.new.self.store c.args.place c.args.actor.now acting (around (Some (renewed acting.due acting)) acting) refl acts (all_stood g.S.RowLog.keeping stored_core.store c.renew.new.self.store rises.rows)
+
+pub returns-clause-halts : goal.returns-clause-halts
+returns-clause-halts g c = λ acting acts epoch.
+    let stored_core = c.args.stored_core.now in
+    let rises = c.in-Err.ensures.store acting.world.state acts.served.state_is in
+    not_begun g.S.RowLog.keeping stored_core c.renew.new.self.store c.args.place c.args.actor.now acting (around (Some (renewed acting.due acting)) acting) refl acts (all_stood g.S.RowLog.keeping stored_core.store c.renew.new.self.store rises.rows)

@@ -8,6 +8,8 @@ use Rattle.tip_scene.specs.Boxes.{box_count}
 use Rattle.tip_scene.specs.Standing.{IsScene}
 use Rattle.tip_scene.proofs.Again.{any_at_end, new_again, starts_again, stays_put, wait_again}
 use Rattle.tip_scene.specs.Leaving.{OthersStay}
+use Rattle.tip_stored.specs.Loading.{names_of}
+use Rattle.tip_scene.proofs.Halting.{not_at_work, not_loaded, not_started}
 use Rattle.tip_scene.proofs.Leaving.{rest_again, start_leaves}
 use Rattle.tip_scene.proofs.Blaming.{act_known, act_store, boxes_again, specs_again, start_blamed}
 use Rattle.tip_scene.proofs.restarting.restart.Goals as goal
@@ -59,3 +61,17 @@ returns-in-Err-rise_again-clause-stays g c = λ is. absurd (act_known c.in-Err-r
 
 pub returns-in-Err-restart-clause-stays : goal.returns-in-Err-restart-clause-stays
 returns-in-Err-restart-clause-stays g c = λ is. absurd (act_known c.from-in-Err-restart.result (sym c.from-in-Err-restart-2.ensures ∙ is))
+
+-- They have not started again
+
+pub returns-then-is_any_at_end-clause-halts : goal.returns-then-is_any_at_end-clause-halts
+returns-then-is_any_at_end-clause-halts g c = not_started g.S.RowLog.keeping c.args.playing.stored_core.store c.shut.result c.shut.ensures
+
+pub returns-in-Err-clause-halts : goal.returns-in-Err-clause-halts
+returns-in-Err-clause-halts g c = not_started g.S.RowLog.keeping c.args.playing.stored_core.store c.shut-in-Err.result c.shut-in-Err.ensures
+
+pub returns-in-Err-rise_again-clause-halts : goal.returns-in-Err-rise_again-clause-halts
+returns-in-Err-rise_again-clause-halts g c = not_at_work g.S.RowLog.keeping (names_of c.in-Ok.specs.items) false c.args.playing.stored_core.store c.in-Ok-restart.recovering.store c.in-Err-rise_again.store c.in-Ok-restart.ensures.ok c.in-Err-rise_again.ensures.back
+
+pub returns-in-Err-restart-clause-halts : goal.returns-in-Err-restart-clause-halts
+returns-in-Err-restart-clause-halts g c = not_loaded g.S.RowLog.keeping (names_of c.in-Ok.specs.items) _ c.args.playing.stored_core.store c.in-Err-restart.store c.in-Err-restart.ensures.err

@@ -14,7 +14,8 @@ use Rattle.tip_scene.specs.Boxes.{box_count}
 use Rattle.tip_scene.specs.Faults.{of_act_fault}
 use Rattle.tip_scene.specs.Wanting.{wanted_again}
 use Rattle.tip_scene.proofs.Wanting.{enough_at_first, enough_first, enough_then}
-use Rattle.tip_scene.proofs.Staging.{declared_covered, declares_not, declares_so, fails_first, labelled_covered, plays_first, starts_declared}
+use Rattle.tip_scene.proofs.Halting.{halts_first, halts_starting, halts_unbegun}
+use Rattle.tip_scene.proofs.Staging.{declared_covered, declares_not, declares_so, fails_first, labelled_covered, plays_first, starting_declared, starts_declared}
 use Rattle.tip_scene.proofs.stage.declare.Goals.{in-Realm, in-Labels}
 use Rattle.tip_scene.proofs.stage.declare.Goals as goal
 
@@ -28,6 +29,10 @@ returns-in_err-playing-in_default g c =
           (λ reliable. c.in-Ok.ensures.text basis declarations is (c.in_err-playing-in_default.ensures.truth reliable))
           (λ reliable. c.in_err-playing-in_default.ensures.moves (scene_of basis declarations) (c.in-Ok.ensures.scene basis declarations is (c.in_err-playing-in_default.ensures.truth reliable)) may boxes);
       leaves = λ basis declarations is may boxes. tt;
+      halts = λ basis declarations is may boxes truth.
+          let before = c.in_err-playing-in_default.ensures.truth truth in
+          halts_first g.S.RowLog.keeping basis declarations (move_by c.args.instruction) c.args.declared.store c.in-Ok.playing.stored_core.store _ (starting_declared c.args.instruction c.in_default.not-Realm c.in_default.not-Labels) (c.in-Ok.ensures.leaves before)
+          (c.in_err-playing-in_default.ensures.halts (scene_of basis declarations) (c.in-Ok.ensures.scene basis declarations is before) may boxes truth);
       counts = λ may. tt;
       faults = λ basis declarations is. fault_first g.S.RowLog.keeping basis declarations c.args.declared c.in-Ok.playing (move_by c.args.instruction) c.in_err-playing-in_default.field-0.0
           (starts_declared basis declarations c.args.instruction c.in_default.not-Realm c.in_default.not-Labels) c.in_err-playing-in_default.ensures.truth (c.in-Ok.ensures.scene basis declarations is) c.in-Ok.ensures.leaves c.in_err-playing-in_default.ensures.stays;
@@ -47,6 +52,7 @@ returns-in_default g c = record {
   leaves = λ basis declarations is may boxes truth. (let before = c.in_ok-playing-in_default.ensures.truth truth in first_rest g.S.RowLog.keeping c.args.declared c.in-Ok.playing c.in_ok-playing-in_default.playing (c.in-Ok.ensures.leaves before) (c.in_ok-playing-in_default.ensures.leaves (scene_of basis declarations) (c.in-Ok.ensures.scene basis declarations is before) may boxes truth));
   counts = λ may. c.in_ok-playing-in_default.ensures.counts may ∙ c.in-Ok.ensures.counts;
   faults = λ basis declarations is. tt;
+  halts = λ basis declarations is may boxes. tt;
   blames = λ may basis declarations is enough. tt;
 }
 
@@ -108,3 +114,15 @@ returns-in-Err-noted-clause-faults g c = λ basis declarations is.
       | in-Labels w ↦ subst (λ i. LeavesAtFault kept (scene_at basis (Declaring declarations) (move_by i)) c.args.declared.store (Err (c.in-Err-noted.fault, store))) (sym w.in-Labels.is)
           (fault_stays kept basis (stage.Declaring c.args.declared) (Declaring declarations) c.in-Err-noted.fault store (ap (λ d. d.store) w.declared-is ∙ w.label-noted.ensures.store) is)
     ]
+
+pub returns-in-Err-clause-halts : goal.returns-in-Err-clause-halts
+returns-in-Err-clause-halts g c = λ basis declarations is may boxes truth. halts_starting g.S.RowLog.keeping basis declarations (move_by c.args.instruction) c.args.declared.store c.in-Err.store (starting_declared c.args.instruction c.in_default.not-Realm c.in_default.not-Labels) c.in-Err.ensures.halts
+
+pub returns-in-Err-noted-clause-halts : goal.returns-in-Err-noted-clause-halts
+returns-in-Err-noted-clause-halts g c = λ basis declarations is may boxes truth.
+    let store = c.match-instruction.declared.store in
+    let same : store ≡ c.args.declared.store = elim c.match-instruction.branch [
+      | in-Realm w ↦ ap (λ d. d.store) w.declared-is ∙ w.add-noted.ensures.store
+      | in-Labels w ↦ ap (λ d. d.store) w.declared-is ∙ w.label-noted.ensures.store
+    ] in
+    halts_unbegun g.S.RowLog.keeping basis (Declaring declarations) (move_by c.args.instruction) c.args.declared.store store same

@@ -1,5 +1,5 @@
 -- The realms start over what the store has.
-use Rattle.std.proofs.Common.{◌∙◌, None, ap, length, map, subst, sym}
+use Rattle.std.proofs.Common.{◌∙◌, None, ap, false, length, map, subst, sym}
 use Rattle.std.proofs.lemmas.Result.{IfOk-weaker}
 use Rattle.tip_actor.specs.Faults.{of_load_fault}
 use Rattle.tip_scene.specs.Acts.{Declaring, scene_of}
@@ -8,6 +8,8 @@ use Rattle.tip_scene.specs.Rising.{AreNew}
 use Rattle.tip_scene.specs.Stages.{spec_of}
 use Rattle.tip_scene.proofs.Blaming.{risen_blamed, risen_so, risen_trusts, start_blamed}
 use Rattle.tip_scene.specs.Leaving.{OthersStay}
+use Rattle.tip_stored.specs.Loading.{names_of}
+use Rattle.tip_scene.proofs.Halting.{not_loaded, not_risen}
 use Rattle.tip_scene.proofs.Leaving.{start_leaves}
 use Rattle.tip_scene.proofs.Starting.{all_wait}
 use Rattle.tip_scene.proofs.Wanting.{if_ok}
@@ -49,3 +51,11 @@ returns-in-Ok-load-clause-left g c = λ basis declarations is.
     risen_so g.S.RowLog.keeping (λ playing. playing.stored_core.store) c.in-Ok-load.recovering.store _ c.rise.result c.rise.ensures.store (λ truth.
     if_ok _ c.rise.result (c.rise.ensures.left (scene_of basis declarations)
     (all_wait g.S.RowLog.keeping c.args.self.store c.in-Ok-load.recovering basis declarations c.in-Ok.specs.items is.founded is.covered (c.in-Ok.ensures.1 ∙ ap (map spec_of) is.declared) c.in-Ok-load.ensures truth)))
+
+-- They have not started
+
+pub returns-in-Ok-load-clause-halts : goal.returns-in-Ok-load-clause-halts
+returns-in-Ok-load-clause-halts g c = not_risen g.S.RowLog.keeping (names_of c.in-Ok.specs.items) false c.args.self.store c.in-Ok-load.recovering.store c.rise.result c.in-Ok-load.ensures.ok c.rise.ensures.back
+
+pub returns-in-Err-clause-halts : goal.returns-in-Err-clause-halts
+returns-in-Err-clause-halts g c = not_loaded g.S.RowLog.keeping (names_of c.in-Ok.specs.items) _ c.args.self.store c.in-Err.store c.in-Err.ensures.err

@@ -4,6 +4,7 @@ use Rattle.tip_actor.proofs.Lists.{none_at, some_at}
 use Rattle.tip_actor.specs.Standing.{Tells}
 use Rattle.tip_script.specs.Moves.{move_by}
 use Rattle.tip_scene.specs.Scenes.{does}
+use Rattle.tip_scene.proofs.Halting.{halts_doing, halts_taking, none_of_it}
 use Rattle.tip_scene.proofs.Leaving.{always_ok, rest_done, rest_stays}
 use Rattle.tip_scene.proofs.Scening.{has_moved, has_not_moved, moved_elsewhere}
 use Rattle.tip_scene.proofs.playing.Playing+StoredCore+S+Actor.act_in.Goals as goal
@@ -47,3 +48,40 @@ returns-clause-leaves g c = λ scene is may boxes truth.
     (some_at actors place actor c.in-Some.ensures.item.3.0 c.in-Some.ensures.item.3.1) refl
     (λ acting acts. subst (λ told. Tells g.S.RowLog.keeping c.args.self.now.stored_core c.obey.new.stored_core place actor c.obey.new.actor (string_bytes c.args.printed.now) (string_bytes c.obey.new.printed) told (does (move_by c.args.instruction) acting)) c.if-not-branch.false (c.in_ok-obey.ensures.tells acting acts may boxes))
     c.in_ok-settle.ensures.acts
+
+-- However far it has come
+
+pub returns-in_default-clause-halts : goal.returns-in_default-clause-halts
+returns-in_default-clause-halts g c = λ scene is may boxes. none_of_it g.S.RowLog.keeping c.args.self.now.stored_core c.args.self.now.stored_core.store c.args.self.now.actors.items scene (move_by c.args.instruction) c.args.realm.now is (λ name epoch rows stored. stored)
+
+pub returns-in_err-obey-clause-halts : goal.returns-in_err-obey-clause-halts
+returns-in_err-obey-clause-halts g c = λ scene is may boxes.
+    let actors = c.args.self.now.actors.items in
+    let place = c.place_of-place.result in
+    let actor = c.in-Some.actor.now in
+    halts_doing g.S.RowLog.keeping c.args.self.now.stored_core c.obey.new.stored_core.store actors scene (move_by c.args.instruction) c.args.realm.now place actor is c.place_of-place.ensures (some_at actors place actor c.in-Some.ensures.item.3.0 c.in-Some.ensures.item.3.1) (λ acting acts. c.obey.ensures.halts acting acts may boxes)
+
+pub returns-then-not-branch-clause-halts : goal.returns-then-not-branch-clause-halts
+returns-then-not-branch-clause-halts g c = λ scene is may boxes.
+    let actors = c.args.self.now.actors.items in
+    let place = c.place_of-place.result in
+    let actor = c.in-Some.actor.now in
+    halts_doing g.S.RowLog.keeping c.args.self.now.stored_core c.obey.new.stored_core.store actors scene (move_by c.args.instruction) c.args.realm.now place actor is c.place_of-place.ensures (some_at actors place actor c.in-Some.ensures.item.3.0 c.in-Some.ensures.item.3.1) (λ acting acts. c.obey.ensures.halts acting acts may boxes)
+
+pub returns-in_err-settle-clause-halts : goal.returns-in_err-settle-clause-halts
+returns-in_err-settle-clause-halts g c = λ scene is may boxes.
+    let actors = c.args.self.now.actors.items in
+    let place = c.place_of-place.result in
+    let actor = c.in-Some.actor.now in
+    halts_taking g.S.RowLog.keeping c.args.self.now.stored_core c.settle.new.stored_core.store actors scene (move_by c.args.instruction) c.args.realm.now place actor is c.place_of-place.ensures (some_at actors place actor c.in-Some.ensures.item.3.0 c.in-Some.ensures.item.3.1) c.obey.new.stored_core c.obey.new.actor (string_bytes c.args.printed.now) (string_bytes c.obey.new.printed)
+    (λ acting acts. subst (λ told. Tells g.S.RowLog.keeping c.args.self.now.stored_core c.obey.new.stored_core place actor c.obey.new.actor (string_bytes c.args.printed.now) (string_bytes c.obey.new.printed) told (does (move_by c.args.instruction) acting)) c.if-not-branch.false (c.in_ok-obey.ensures.tells acting acts may boxes))
+    c.settle.ensures.halts
+
+pub returns-clause-halts : goal.returns-clause-halts
+returns-clause-halts g c = λ scene is may boxes.
+    let actors = c.args.self.now.actors.items in
+    let place = c.place_of-place.result in
+    let actor = c.in-Some.actor.now in
+    halts_taking g.S.RowLog.keeping c.args.self.now.stored_core c.settle.new.stored_core.store actors scene (move_by c.args.instruction) c.args.realm.now place actor is c.place_of-place.ensures (some_at actors place actor c.in-Some.ensures.item.3.0 c.in-Some.ensures.item.3.1) c.obey.new.stored_core c.obey.new.actor (string_bytes c.args.printed.now) (string_bytes c.obey.new.printed)
+    (λ acting acts. subst (λ told. Tells g.S.RowLog.keeping c.args.self.now.stored_core c.obey.new.stored_core place actor c.obey.new.actor (string_bytes c.args.printed.now) (string_bytes c.obey.new.printed) told (does (move_by c.args.instruction) acting)) c.if-not-branch.false (c.in_ok-obey.ensures.tells acting acts may boxes))
+    c.settle.ensures.halts

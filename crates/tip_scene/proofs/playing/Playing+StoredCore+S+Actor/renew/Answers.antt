@@ -9,6 +9,7 @@ use Rattle.std.specs.Str.{bytes_eq}
 use Rattle.std.specs.Vec.{with_item}
 use Rattle.tip_actor.specs.Acting.{renews}
 use Rattle.tip_scene.specs.Leaving.{LeavesRest}
+use Rattle.tip_scene.proofs.Halting.{halts_doing, halts_taking, none_of_it}
 use Rattle.tip_scene.proofs.Leaving.{judged_on, rest_done, rest_stays}
 use Rattle.tip_scene.specs.Scenes.{moved_in}
 use Rattle.tip_scene.specs.Stages.{APlaying, Serves}
@@ -86,3 +87,27 @@ returns-in_err-renew-clause-understood g c =
 
 pub returns-clause-understood : goal.returns-clause-understood
 returns-clause-understood g c = λ is. c.settle-end.ensures.understood (judged_not _ _ c.settle-end.result (sym c.judge.ensures ∙ is))
+
+-- However far it has come
+
+pub returns-in_err-print_nowhere-clause-halts : goal.returns-in_err-print_nowhere-clause-halts
+returns-in_err-print_nowhere-clause-halts g c = λ scene is truth. none_of_it g.S.RowLog.keeping c.args.self.now.stored_core c.args.self.now.stored_core.store c.args.self.now.actors.items scene (Renew c.args.name.now) c.args.name.now is (λ name epoch rows stored. stored)
+
+pub returns-in_default-clause-halts : goal.returns-in_default-clause-halts
+returns-in_default-clause-halts g c = λ scene is truth. none_of_it g.S.RowLog.keeping c.args.self.now.stored_core c.args.self.now.stored_core.store c.args.self.now.actors.items scene (Renew c.args.name.now) c.args.name.now is (λ name epoch rows stored. stored)
+
+pub returns-in_err-renew-clause-halts : goal.returns-in_err-renew-clause-halts
+returns-in_err-renew-clause-halts g c = λ scene is truth.
+    let actors = c.args.self.now.actors.items in
+    let place = c.place_of-place.result in
+    let actor = c.in-Some.actor.now in
+    halts_doing g.S.RowLog.keeping c.args.self.now.stored_core c.renew.new.stored_core.store actors scene (Renew c.args.name.now) c.args.name.now place actor is c.place_of-place.ensures (some_at actors place actor c.in-Some.ensures.item.3.0 c.in-Some.ensures.item.3.1) c.renew.ensures.halts
+
+pub returns-clause-halts : goal.returns-clause-halts
+returns-clause-halts g c = λ scene is truth.
+    let actors = c.args.self.now.actors.items in
+    let place = c.place_of-place.result in
+    let actor = c.in-Some.actor.now in
+    halts_taking g.S.RowLog.keeping c.args.self.now.stored_core c.settle-end.new.stored_core.store actors scene (Renew c.args.name.now) c.args.name.now place actor is c.place_of-place.ensures (some_at actors place actor c.in-Some.ensures.item.3.0 c.in-Some.ensures.item.3.1) c.renew.new.stored_core c.renew.new.actor (string_bytes c.args.printed.now) (string_bytes c.renew.new.printed)
+    (c.in_ok-renew.ensures.acts (c.settle-end.ensures.truth truth))
+    c.settle-end.ensures.halts

@@ -5,6 +5,8 @@ use Rattle.tip_scene.specs.Acts.{is_covered, may_say}
 use Rattle.tip_scene.specs.Blaming.{scene_in}
 use Rattle.tip_scene.specs.Leaving.{IsLeft, LeavesAtFault, scene_at, scene_behind}
 use Rattle.tip_scene.specs.Stages.{ActsSo, store_of}
+use Rattle.tip_scene.proofs.Halting.{all_said, halts_unsaid}
+use Rattle.tip_script.specs.Scripts.{move_of}
 use Rattle.tip_scene.proofs.Leaving.{stage_stays, stays_left}
 use Rattle.tip_scene.proofs.Staging.{acts_as_said}
 use Rattle.tip_scene.proofs.stage.Stage+Declared+S+Playing+StoredCore+S.act.Goals.{in_default-via-in-Some+else-may_say, in_default-via-in_default}
@@ -48,3 +50,15 @@ returns-in_default-clause-faults g c = λ basis now asks is truth.
           subst (λ scene. IsLeft kept scene (store_of c.args.self) c.shut.result) (sym (ap (scene_behind basis now) move ∙ ap (λ b. if b then scene_at basis now said else scene_in now) (ap (λ m. may_say m said) asks ∙ not))) left
       | in_default-via-in_default w ↦ subst (λ scene. IsLeft kept scene (store_of c.args.self) c.shut.result) (sym (ap (scene_behind basis now) (sym c.parse.ensures ∙ ap (option_map move_by) w.in_default.is))) left
     ]
+
+-- However far it has come
+
+pub returns-in-Some-clause-halts : goal.returns-in-Some-clause-halts
+returns-in-Some-clause-halts g c = λ basis now asks is boxes.
+    let said = move_by c.in-Some.instruction in
+    let move = sym c.parse.ensures ∙ ap (option_map move_by) c.in-Some.is in
+    let may : may_say g.R.Refuser.may said ≡ true = ap (λ m. may_say m said) (sym c.may_refuse.ensures) ∙ sym c.may_say.ensures ∙ c.if-may_say.true in
+    all_said g.S.RowLog.keeping basis now (move_of c.args.line.now) said (store_of c.args.self) c.obey.result move (ap (λ m. may_say m said) asks ∙ may) (c.obey.ensures.halts basis now is may (λ other is_other. boxes other (move ∙ is_other)))
+
+pub returns-in_default-clause-halts : goal.returns-in_default-clause-halts
+returns-in_default-clause-halts g c = λ basis now asks is boxes truth. halts_unsaid g.S.RowLog.keeping basis now (move_of c.args.line.now) (store_of c.args.self) c.shut.result c.shut.ensures

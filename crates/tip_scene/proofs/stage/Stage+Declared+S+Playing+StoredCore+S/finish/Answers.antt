@@ -2,7 +2,8 @@
 use Rattle.std.proofs.Common.{◌≤◌, length, subst, sym}
 use Rattle.tip_actor.specs.declared.fault.ActFault.TheVariants.{Store}
 use Rattle.tip_scene.specs.Blaming.{Accuses, IsBlamed, starting_from}
-use Rattle.tip_scene.specs.Leaving.{IsLeft}
+use Rattle.tip_scene.specs.Leaving.{HaltsAtEnd, IsLeft}
+use Rattle.tip_scene.proofs.Halting.{halts_last}
 use Rattle.tip_scene.proofs.Leaving.{left_first, left_then}
 use Rattle.std.proofs.lemmas.Result.{err_from_is_err_and}
 use Rattle.tip_scene.specs.Stages.{IsStage, store_of}
@@ -30,3 +31,10 @@ returns-in-Playing-clause-leaves g c = λ basis stage is truth.
     let kept = g.S.RowLog.keeping in
     subst (λ s. IsLeft kept (starting_from basis stage) (store_of s) c.shut-in-Playing.result) (sym c.in-Playing.is)
     (left_then kept basis c.in-Playing.playing stage c.shut-in-Playing.result c.shut-in-Playing.ensures (subst (λ s. IsStage kept basis s stage) c.in-Playing.is is))
+
+pub returns-in_err-playing-in-Declaring-clause-halts : goal.returns-in_err-playing-in-Declaring-clause-halts
+returns-in_err-playing-in-Declaring-clause-halts g c = λ basis stage is.
+    let kept = g.S.RowLog.keeping in
+    let e = err_from_is_err_and c.from_residual.result c.from_residual.ensures.1 in
+    let why = c.in_err-playing-in-Declaring.field-0.0 in
+    rw (e.1, e.2) (subst (λ s. HaltsAtEnd kept stage (store_of s) why.1) (sym c.in-Declaring.is) (halts_last kept basis c.in-Declaring.declared stage why.1 (subst (λ s. IsStage kept basis s stage) c.in-Declaring.is is) c.in_err-playing-in-Declaring.ensures.halts))

@@ -6,8 +6,9 @@ use Rattle.tip_script.specs.Moves.{move_by}
 use Rattle.tip_scene.specs.Stages.{IsStage, store_of}
 use Rattle.std.proofs.lemmas.Result.{err_from_is_err_and}
 use Rattle.tip_scene.proofs.Blaming.{declared_at, of_declared, of_playing, play_accused}
-use Rattle.std.specs.Prelude.{Err, IfOk}
-use Rattle.tip_scene.specs.Leaving.{LeavesAtFault, LeavesOthers, scene_at}
+use Rattle.std.specs.Prelude.{Err, IfErr, IfOk}
+use Rattle.tip_scene.specs.Leaving.{HaltsAt, LeavesAtFault, LeavesOthers, scene_at}
+use Rattle.tip_scene.proofs.Halting.{halts_at_work}
 use Rattle.tip_scene.specs.declared.stage.Stage.TheVariants.{Playing as AtWork}
 use Rattle.tip_scene.proofs.Leaving.{fault_at_work, of_rest}
 use Rattle.tip_scene.proofs.Staging.{obeys_first, plays_on}
@@ -63,3 +64,21 @@ returns-in_err-playing-in-Playing-clause-faults g c = λ basis stage is.
     let kept = g.S.RowLog.keeping in
     let e = err_from_is_err_and c.from_residual.result c.from_residual.ensures.1 in
     rw (e.1, e.2) (subst (λ s. LeavesAtFault kept (scene_at basis stage (move_by c.args.instruction)) (store_of s) (Err c.in_err-playing-in-Playing.field-0.0)) (sym c.in-Playing.is) (fault_at_work kept basis c.in-Playing.playing stage (move_by c.args.instruction) c.in_err-playing-in-Playing.field-0.0 (subst (λ s. IsStage kept basis s stage) c.in-Playing.is is) c.in_err-playing-in-Playing.ensures.stays))
+
+-- However far it has come
+
+pub returns-in-Declaring-clause-halts : goal.returns-in-Declaring-clause-halts
+returns-in-Declaring-clause-halts g c = λ basis stage is may boxes.
+    let kept = g.S.RowLog.keeping in
+    let move = move_by c.args.instruction in
+    let declared = c.in-Declaring.declared in
+    subst (λ s. IfErr c.declare.result (λ fault. kept.is_true fault.1 → HaltsAt kept basis stage move (store_of s) fault.1)) (sym c.in-Declaring.is)
+    (declared_at kept basis declared stage (λ now. IfErr c.declare.result (λ fault. kept.is_true fault.1 → HaltsAt kept basis now move declared.store fault.1)) (subst (λ s. IsStage kept basis s stage) c.in-Declaring.is is) (λ declarations stands. c.declare.ensures.halts basis declarations stands may boxes))
+
+pub returns-in_err-playing-in-Playing-clause-halts : goal.returns-in_err-playing-in-Playing-clause-halts
+returns-in_err-playing-in-Playing-clause-halts g c = λ basis stage is may boxes.
+    let kept = g.S.RowLog.keeping in
+    let move = move_by c.args.instruction in
+    let why = c.in_err-playing-in-Playing.field-0.0 in
+    let e = err_from_is_err_and c.from_residual.result c.from_residual.ensures.1 in
+    rw (e.1, e.2) (λ truth. subst (λ s. HaltsAt kept basis stage move (store_of s) why.1) (sym c.in-Playing.is) (halts_at_work kept basis c.in-Playing.playing stage move why.1 (subst (λ s. IsStage kept basis s stage) c.in-Playing.is is) (λ scene stands. c.in_err-playing-in-Playing.ensures.halts scene stands may boxes truth)))
