@@ -86,6 +86,9 @@ pub fn print_here(
         (λ transaction. shown_text name.now (drops_at transaction.place))
         state.transactions) }
 {
+    let Some(_) = core.name(place) else {
+        return Ok(());
+    };
     for transaction in core.transactions(place) {
         if let PartyPlace::Here(party) = &transaction.place {
             print_drops(printed, name, party)?;

@@ -13,8 +13,8 @@ use Rattle.tip_machine.specs.Types.{Answer, Event}
 use Rattle.tip_machine.specs.declared.event.Outcome.{Outcome}
 use Rattle.tip_machine.specs.declared.head.Start.{Start}
 use Rattle.tip_machine.proofs.Stepping.{step-named}
-use Rattle.tip_table.specs.Kept.{of}
 use Rattle.tip_core.specs.Hosted.{HasEpoch, Hosted, HaveNames, Steps, realm}
+use Rattle.tip_core.specs.Starting.{AreEmpty}
 use Rattle.tip_rules.specs.Works.{Realms}
 use Rattle.tip_core.proofs.Stepping.{hosted, new_realm}
 
@@ -95,5 +95,5 @@ named_alike old new same named this that a b is_this is_that names = named this 
 pub none_named : (core : Hosted) → ((place : ℕ) → realm core place ≡ None) → HaveNames core
 none_named core none this that a b is_this is_that same = absurd (none-some a (sym (none this) ∙ is_this))
 
-pub heads_named : (starts : List Start) (realms : Realms) (turns : ℕ) → have_names starts ≡ true → realms.heads.items ≡ map starting starts → ((place : ℕ) → of realms.connections place ≡ []) → ((place : ℕ) → of realms.transactions place ≡ []) → HaveNames (hosted realms turns)
-heads_named starts realms turns named are connections transactions = named_at_start (hosted realms turns) starts named (new_realm starts realms are connections transactions turns)
+pub heads_named : (starts : List Start) (realms : Realms) (turns : ℕ) → have_names starts ≡ true → realms.heads.items ≡ map starting starts → AreEmpty realms.tables.items → HaveNames (hosted realms turns)
+heads_named starts realms turns named are empty = named_at_start (hosted realms turns) starts named (new_realm starts realms are empty turns)

@@ -1,27 +1,31 @@
 -- The realms where one has started again.
 use Rattle.std.proofs.Common.{◌≡◌, ◌≢◌, ◌<◌, ◌≤◌, ◌++◌, ◌⊎◌, ℕ, List, [], Some, length, map, ap, arith, sym, subst, ◌∙◌, inl, inr}
+use Rattle.std.specs.Global.{Vec}
 use Rattle.std.specs.List.{All}
+use Rattle.std.specs.Prelude.{slice_index_or}
 use Rattle.std.proofs.lemmas.Bool.{cases_eq, cases_lt}
 use Rattle.std.proofs.lemmas.List.Elements.{All-nil}
 use Rattle.tip_recovery.specs.Adopting.{Unfinished, loaded}
-use Rattle.tip_table.specs.Kept.{Kept, of}
+use Rattle.tip_table.specs.Kept.{of}
 use Rattle.tip_machine.proofs.Identifiers.{none_numbered}
 use Rattle.tip_machine.specs.Counts.{HasCounts, IsBelow}
 use Rattle.tip_machine.specs.Moves.{risen}
 use Rattle.tip_machine.specs.Recovery.{restarted}
 use Rattle.tip_machine.specs.States.{State, started}
-use Rattle.tip_machine.specs.Types.{seen}
 use Rattle.tip_machine.specs.declared.head.Head.{Head}
 use Rattle.tip_core.specs.Hosted.{HaveNames, realm}
 use Rattle.tip_core.specs.Recovering.{reopened_all}
-use Rattle.tip_outlook.specs.Searches.{HeldTransaction}
-use Rattle.tip_rules.specs.Works.{HaveCounts, Realms, state_in}
+use Rattle.tip_rules.specs.Works.{HaveCounts, Realms, no_head, state_in, tables_in}
 use Rattle.tip_core.proofs.Stepping.{hosted, inside, past, there}
+use Rattle.tip_rules.proofs.Lending.{same_state}
 
 -- rows that are taken up by a realm with nothing but what was declared of it
-pub rows_taken : (realms : Realms) (transactions : Kept HeldTransaction) (place : ℕ) (head : Head) (rows : List Unfinished) → state_in place realms ≡ started head → of realms.transactions place ≡ [] → map seen (of transactions place) ≡ map seen (of realms.transactions place) ++ reopened_all head rows → state_in place (record realms { transactions = transactions }) ≡ restarted head (map loaded rows)
-rows_taken realms transactions place head rows is none joined =
-    ap (λ (s : State). record s { transactions = map seen (of transactions place) }) is ∙ ap (λ ts. record (started head) { transactions = ts }) (joined ∙ ap (λ l. map seen l ++ reopened_all head rows) none)
+pub rows_taken : (old new : Realms) (place : ℕ) (head : Head) (rows : List Unfinished) → state_in place old ≡ started head → new.heads ≡ old.heads → (state_in place new).connections ≡ (state_in place old).connections → (state_in place new).transactions ≡ (state_in place old).transactions ++ reopened_all head rows → state_in place new ≡ restarted head (map loaded rows)
+rows_taken old new place head rows is heads connections joined =
+    same_state (state_in place new) (restarted head (map loaded rows))
+    (ap (λ (hs : Vec Head). slice_index_or hs.items place no_head) heads ∙ ap (λ (s : State). s.head) is)
+    (connections ∙ ap (λ (s : State). s.connections) is)
+    (joined ∙ ap (λ (s : State). s.transactions ++ reopened_all head rows) is)
 
 -- a realm without connections has counted none
 none_counted : (state : State) (head : Head) → state.head ≡ risen head → state.connections ≡ [] → HasCounts state
@@ -34,7 +38,7 @@ none_counted state head is none = record {
 
 module _ (old new : Realms) (turns turns' place : ℕ) (here : place < length old.heads.items) (head : (state_in place new).head ≡ risen (state_in place old).head)
     (others : (other : ℕ) → other ≢ place → state_in other new ≡ state_in other old) (count : length new.heads.items ≡ length old.heads.items) where
-  pub counts_renewed : of new.connections place ≡ [] → HaveCounts old → HaveCounts new
+  pub counts_renewed : of (tables_in place new).connections place ≡ [] → HaveCounts old → HaveCounts new
   counts_renewed none before other less = elim (cases_eq other place) [
     | inl same ↦ subst (λ p. HasCounts (state_in p new)) (sym same) (none_counted (state_in place new) (state_in place old).head head none)
     | inr differ ↦ subst HasCounts (sym (others other differ)) (before other (omega (arith, count, less)))

@@ -1,5 +1,5 @@
--- From the shared tables to the realms that they stand for.
-use Rattle.std.proofs.Common.{◌≡◌, ℕ, ◌<◌, ◌≤◌, zero, suc, Bool, true, false, cond, List, [], ◌∷◌, length, map, Option, Some, None, refl, ap, arith, ◌∙◌, sym, subst, inl, inr}
+-- From the tables to the realms that they stand for.
+use Rattle.std.proofs.Common.{◌≡◌, ℕ, ◌≢◌, ◌<◌, ◌≤◌, zero, suc, Bool, true, false, cond, List, [], ◌∷◌, ◌++◌, length, map, Option, Some, None, refl, ap, arith, ◌∙◌, sym, subst, inl, inr}
 use Rattle.std.specs.Prelude.{slice_get, slice_index_or, option_map}
 use Rattle.std.specs.List.{All}
 use Rattle.std.proofs.lemmas.Option.{slice_get_past, slice_get-get_or, slice_get-map, same_Some, none-some}
@@ -26,33 +26,41 @@ use Rattle.tip_table.specs.Kept.{of}
 use Rattle.tip_outlook.proofs.Turning.{in_turn_of_state}
 use Rattle.tip_core.specs.Hosted.{HasEpoch, Hosted, IsRoomFor, Steps, realm}
 use Rattle.tip_core.specs.Ordering.{AreKnown}
+use Rattle.tip_core.specs.Starting.{AreEmpty}
 use Rattle.tip_rules.specs.Makings.{Made}
 use Rattle.tip_rules.specs.Needs.{Granted, HasNeeds, Suits, happened}
 use Rattle.tip_outlook.specs.Turns.{turn_in}
 use Rattle.tip_outlook.specs.declared.turns.Turn.{Turn}
-use Rattle.tip_rules.specs.Works.{Does, HaveCounts, Realms, no_head, state_in, working}
+use Rattle.tip_rules.specs.Works.{Does, HaveCounts, Realms, Tables, no_head, state_in, state_of, tables_in, working}
 
 -- what the tables stand for, with room to note so many turns
 abbrev pub hosted : Realms → ℕ → Hosted
-hosted realms turns = record { heads = realms.heads.items; connections = realms.connections; transactions = realms.transactions; turns = turns }
+hosted realms turns = record { heads = realms.heads.items; tables = realms.tables.items; turns = turns }
 
-state_of : Realms → ℕ → Head → State
-state_of realms place head = record { head = head; connections = of realms.connections place; transactions = map seen (of realms.transactions place) }
+stands_in : Realms → ℕ → Head → State
+stands_in realms place head = state_of place head (tables_in place realms)
 
 -- a realm that is there
 pub there : (realms : Realms) (turns place : ℕ) → place < length realms.heads.items → realm (hosted realms turns) place ≡ Some (state_in place realms)
-unfolding state_of
-there realms turns place lt = ap (option_map (state_of realms place)) (slice_get-get_or realms.heads.items place no_head lt)
+unfolding stands_in
+there realms turns place lt = ap (option_map (stands_in realms place)) (slice_get-get_or realms.heads.items place no_head lt)
 
 pub past : (realms : Realms) (turns place : ℕ) → length realms.heads.items ≤ place → realm (hosted realms turns) place ≡ None
-unfolding state_of
-past realms turns place le = ap (option_map (state_of realms place)) (slice_get_past realms.heads.items place le)
+unfolding stands_in
+past realms turns place le = ap (option_map (stands_in realms place)) (slice_get_past realms.heads.items place le)
 
 -- a realm that is there is inside
 pub inside : (realms : Realms) (turns place : ℕ) (state : State) → realm (hosted realms turns) place ≡ Some state → (place < length realms.heads.items) × (state ≡ state_in place realms)
 inside realms turns place state is = elim (cases_lt place (length realms.heads.items)) [
   | inl less ↦ (less, same_Some state (state_in place realms) (sym is ∙ there realms turns place less))
   | inr more ↦ absurd (none-some state (sym (past realms turns place more) ∙ is))
+]
+
+-- and has its tables
+pub within : (realms : Realms) (turns place : ℕ) → length realms.tables.items ≡ length realms.heads.items → realm (hosted realms turns) place ≢ None → place < length realms.tables.items
+within realms turns place count here = elim (cases_lt place (length realms.heads.items)) [
+  | inl less ↦ subst (λ n. place < n) (sym count) less
+  | inr more ↦ absurd (here (past realms turns place more))
 ]
 
 -- The step of a realm
@@ -96,7 +104,14 @@ module _ (state : State) (event : Event) (outcome : Outcome) where
 
 -- where the tables did the work of an event, its realm went by its machine
 module _ (old new : Realms) (place : ℕ) (event : Event) (outcome : Outcome) (made after : Made) (lt : place < length old.heads.items)
-    (does : Does (working place outcome made old) (working place outcome after new) (happened (state_in place old) event outcome)) where
+    (does : Does (working place outcome made old) (working place outcome after new) (happened (state_in place old) event outcome))
+    (apart : (other : ℕ) → other ≢ place → tables_in other new ≡ tables_in other old) where
+  -- every other realm stays
+  other_stays : (other : ℕ) → other ≢ place → state_in other new ≡ state_in other old
+  other_stays other differ =
+      ap (λ (h : Head). state_of other h (tables_in other new)) (ap (λ (s : State). s.head) (does.others other differ))
+      ∙ ap (λ (t : Tables). state_of other (slice_index_or old.heads.items other no_head) t) (apart other differ)
+
   went : state_in place new ≡ (step (state_in place old) event outcome).state
   went = ap (λ w. w.state) does.own ∙ state_stays (state_in place old) event outcome
 
@@ -108,7 +123,7 @@ module _ (old new : Realms) (place : ℕ) (event : Event) (outcome : Outcome) (m
           there new turns' place (omega (arith, does.count, lt)) ∙ ap Some (went ∙ ap (λ s. (step s event outcome).state) same),
         );
     others = λ other differ. elim (cases_lt other (length old.heads.items)) [
-      | inl less ↦ there new turns' other (omega (arith, does.count, less)) ∙ ap Some (does.others other differ) ∙ sym (there old turns other less)
+      | inl less ↦ there new turns' other (omega (arith, does.count, less)) ∙ ap Some (other_stays other differ) ∙ sym (there old turns other less)
       | inr more ↦ past new turns' other (omega (arith, does.count, more)) ∙ sym (past old turns other more)
     ];
     absent = λ none. absurd (none-some (state_in place old) (sym none ∙ there old turns place lt));
@@ -117,7 +132,7 @@ module _ (old new : Realms) (place : ℕ) (event : Event) (outcome : Outcome) (m
   pub counted : HaveCounts old → HaveCounts new
   counted before other less = elim (cases_eq other place) [
     | inl same ↦ subst (λ p. HasCounts (state_in p new)) (sym same) (subst HasCounts (sym went) (counts_stay (state_in place old) event outcome (before place lt)))
-    | inr differ ↦ subst HasCounts (sym (does.others other differ)) (before other (omega (arith, does.count, less)))
+    | inr differ ↦ subst HasCounts (sym (other_stays other differ)) (before other (omega (arith, does.count, less)))
   ]
 
 -- an event for a realm that is not there
@@ -134,7 +149,7 @@ nowhere_steps realms turns place event outcome answer le is = record {
 -- Room
 
 -- the room that was made is what the work of the event needs
-pub needs : (realms : Realms) (place : ℕ) (outcome : Outcome) (made : Made) (event : Event) (room : Granted) → Suits (state_in place realms) realms.connections.free realms.transactions.free (of realms.transactions place) event room → made.free ≡ room.lines → made.room ≡ room.transaction → made.peer ≡ room.peer → made.ours ≡ room.ours → made.word ≡ room.word → HasNeeds event (working place outcome made realms)
+pub needs : (realms : Realms) (place : ℕ) (outcome : Outcome) (made : Made) (event : Event) (room : Granted) → Suits (state_in place realms) (tables_in place realms).connections.free (tables_in place realms).transactions.free (of (tables_in place realms).transactions place) event room → made.free ≡ room.lines → made.room ≡ room.transaction → made.peer ≡ room.peer → made.ours ≡ room.ours → made.word ≡ room.word → HasNeeds event (working place outcome made realms)
 needs realms place outcome made event room suits lines transaction peer ours word = record {
   lines = omega (arith, suits.lines, lines);
   connections = suits.connections;
@@ -146,9 +161,9 @@ needs realms place outcome made event room suits lines transaction peer ours wor
   word = word ∙ suits.word;
 }
 
-pub room_for_it : (realms : Realms) (turns place : ℕ) (event : Event) (room : Granted) → place < length realms.heads.items → length (of realms.connections place) ≤ turns → Suits (state_in place realms) realms.connections.free realms.transactions.free (of realms.transactions place) event room → IsRoomFor (hosted realms turns) place event room
+pub room_for_it : (realms : Realms) (turns place : ℕ) (event : Event) (room : Granted) → place < length realms.heads.items → length (of (tables_in place realms).connections place) ≤ turns → Suits (state_in place realms) (tables_in place realms).connections.free (tables_in place realms).transactions.free (of (tables_in place realms).transactions place) event room → IsRoomFor (hosted realms turns) place event room
 room_for_it realms turns place event room lt enough suits = record {
-  suits = λ state here. subst (λ s. Suits s realms.connections.free realms.transactions.free (of realms.transactions place) event room) (sym (inside realms turns place state here).1) suits;
+  suits = λ state here. subst (λ s. Suits s (tables_in place realms).connections.free (tables_in place realms).transactions.free (of (tables_in place realms).transactions place) event room) (sym (inside realms turns place state here).1) suits;
   turns = λ state here. subst (λ (s : State). length s.connections ≤ turns) (sym (inside realms turns place state here).1) enough;
   nothing = λ none. absurd (none-some (state_in place realms) (sym none ∙ there realms turns place lt));
 }
@@ -180,9 +195,21 @@ just_started : (start : Option Start) → option_map (λ head. record { head = h
 just_started None = refl
 just_started (Some start) = refl
 
-module _ (starts : List Start) (realms : Realms) (heads : realms.heads.items ≡ map starting starts) (connections : (place : ℕ) → of realms.connections place ≡ []) (transactions : (place : ℕ) → of realms.transactions place ≡ []) where
+module _ (starts : List Start) (realms : Realms) (heads : realms.heads.items ≡ map starting starts) (empty : AreEmpty realms.tables.items) where
   pub new_realm : (turns place : ℕ) → realm (hosted realms turns) place ≡ option_map (λ start. started (starting start)) (slice_get starts place)
-  new_realm turns place = rw (connections place, transactions place, heads, slice_get-map starting starts place) (just_started (slice_get starts place))
+  new_realm turns place = rw ((empty place place).0, (empty place place).1, heads, slice_get-map starting starts place) (just_started (slice_get starts place))
 
   pub new_counts : All HasEpoch starts → HaveCounts realms
-  new_counts epochs place lt = starting_counts starts place epochs (omega (arith, lt, ap length heads, length-map starts starting)) (state_in place realms) (ap (λ hs. slice_index_or hs place no_head) heads) (connections place)
+  new_counts epochs place lt = starting_counts starts place epochs (omega (arith, lt, ap length heads, length-map starts starting)) (state_in place realms) (ap (λ hs. slice_index_or hs place no_head) heads) (empty place place).0
+
+-- and where there are none
+pub none_empty : AreEmpty []
+unfolding of
+none_empty place realm = (refl, refl)
+
+-- one more that has nothing
+pub empty_more : (tables : List Tables) (more : Tables) → AreEmpty tables → ((realm : ℕ) → of more.connections realm ≡ []) → ((realm : ℕ) → of more.transactions realm ≡ []) → AreEmpty (tables ++ more ∷ [])
+empty_more [] more all connections transactions zero realm = (connections realm, transactions realm)
+empty_more [] more all connections transactions (suc place) realm = none_empty place realm
+empty_more (t ∷ tables) more all connections transactions zero realm = all zero realm
+empty_more (t ∷ tables) more all connections transactions (suc place) realm = empty_more tables more (λ p. all (suc p)) connections transactions place realm

@@ -1,10 +1,10 @@
 -- What a core stands for, and what one event does to it.
-use Rattle.std.specs.Prelude.{ℕ, Bool, false, ◌≡◌, ◌≢◌, ◌≤◌, ◌<◌, List, Option, Some, None, length, map, option_map, slice_get}
-use Rattle.tip_table.specs.Kept.{Kept, capacity, of}
+use Rattle.std.specs.Prelude.{ℕ, Bool, false, ◌≡◌, ◌≢◌, ◌≤◌, ◌<◌, List, Option, Some, None, length, option_map, slice_get, slice_index_or}
+use Rattle.tip_table.specs.Kept.{capacity, of}
 use Rattle.tip_machine.specs.States.{State, seated}
 use Rattle.tip_machine.specs.Requests.{may_take_on, must_wait_on}
 use Rattle.tip_machine.specs.Steps.{step, nowhere}
-use Rattle.tip_machine.specs.Types.{Answer, Connection, Event, seen}
+use Rattle.tip_machine.specs.Types.{Answer, Event}
 use Rattle.tip_machine.specs.declared.head.Head.{Head}
 use Rattle.tip_machine.specs.declared.head.Start.{Start}
 use Rattle.tip_machine.specs.declared.event.Outcome.{Outcome}
@@ -13,19 +13,26 @@ use Rattle.tip_rules.specs.Needs.{Granted, Suits}
 use Rattle.tip_rules.specs.Standing.{standing_on}
 use Rattle.tip_rules.specs.declared.standing.Standing.{Standing}
 use Rattle.tip_rules.specs.declared.standing.Standing.TheVariants.{Gone}
-use Rattle.tip_outlook.specs.Searches.{HeldTransaction}
+use Rattle.tip_rules.specs.Works.{Tables, no_tables, state_of}
 
--- all realms in shared tables; clauses speak of them by `realm` and `room_in`
+-- all realms, each with its tables; clauses speak of them by `realm`, `free_in` and `room_in`
 pub record Hosted : Type 0 where
   pub heads : List Head
-  pub connections : Kept Connection
-  pub transactions : Kept HeldTransaction
+  pub tables : List Tables
   -- how many connections' turns can be noted without memory
   pub turns : ℕ
 
+-- the tables of the realm at a place
+abbrev pub tables_at : ℕ → Hosted → Tables
+tables_at place hosted = slice_index_or hosted.tables place no_tables
+
 -- the realm at a place in the order of declaration
 abbrev pub realm : Hosted → ℕ → Option State
-realm hosted place = option_map (λ head. record { head = head; connections = of hosted.connections place; transactions = map seen (of hosted.transactions place) }) (slice_get hosted.heads place)
+realm hosted place = option_map (λ head. state_of place head (tables_at place hosted)) (slice_get hosted.heads place)
+
+-- how many transactions more it can have without memory
+abbrev pub free_in : ℕ → Hosted → ℕ
+free_in place hosted = (tables_at place hosted).transactions.free
 
 -- a start has an epoch from 1 on
 abbrev pub HasEpoch : Start → Type 0
@@ -35,14 +42,14 @@ HasEpoch start = 0 < start.epoch
 abbrev pub HaveNames : Hosted → Type 0
 HaveNames hosted = (place other : ℕ) (this that : State) → realm hosted place ≡ Some this → realm hosted other ≡ Some that → this.head.name ≡ that.head.name → place ≡ other
 
--- how much can be there without memory: connections, transactions, and noted turns
+-- how much a realm can have without memory: connections, transactions, and noted turns
 pub record Capacity : Type 0 where
   pub connections : ℕ
   pub transactions : ℕ
   pub turns : ℕ
 
-abbrev pub room_in : Hosted → Capacity
-room_in hosted = record { connections = capacity hosted.connections; transactions = capacity hosted.transactions; turns = hosted.turns }
+abbrev pub room_in : ℕ → Hosted → Capacity
+room_in place hosted = record { connections = capacity (tables_at place hosted).connections; transactions = capacity (tables_at place hosted).transactions; turns = hosted.turns }
 
 -- ONE EVENT: its realm goes by its own machine, every other realm stays, and one for a realm that is not there does nothing
 pub record Steps (old new : Hosted) (place : ℕ) (event : Event) (outcome : Outcome) (answer : Answer) : Type 0 where
@@ -52,7 +59,7 @@ pub record Steps (old new : Hosted) (place : ℕ) (event : Event) (outcome : Out
 
 -- this is a Room of this event, in this state
 pub record IsRoomFor (hosted : Hosted) (place : ℕ) (event : Event) (room : Granted) : Type 0 where
-  pub suits : (state : State) → realm hosted place ≡ Some state → Suits state hosted.connections.free hosted.transactions.free (of hosted.transactions place) event room
+  pub suits : (state : State) → realm hosted place ≡ Some state → Suits state (tables_at place hosted).connections.free (tables_at place hosted).transactions.free (of (tables_at place hosted).transactions place) event room
   pub turns : (state : State) → realm hosted place ≡ Some state → length state.connections ≤ hosted.turns
   pub nothing : realm hosted place ≡ None → room.change ≡ None
 

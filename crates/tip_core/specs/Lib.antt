@@ -1,4 +1,5 @@
 pub mod Hosted
+pub mod Starting
 pub mod Ordering
 pub mod Recovering
 pub mod Renewing

@@ -1,4 +1,4 @@
-//! The machines of all realms, over tables that the realms share. Contracts see them realm by realm.
+//! The machines of all realms, each over tables of its own. Contracts see them realm by realm.
 #![tactic(auto)]
 
 mod happened;

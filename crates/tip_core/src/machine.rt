@@ -11,15 +11,16 @@ ghost use Rattle.tip_machine.specs.Types.{seen};
 ghost use Rattle.tip_recovery.specs.Adopting.{are_adopted, loaded};
 ghost use Rattle.tip_rows.specs.Logs.{last_epoch};
 ghost use Rattle.tip_table.specs.Kept.{of};
-ghost use Rattle.tip_rules.specs.Works.{state_in};
-ghost use Rattle.tip_core.specs.Hosted.{realm as realm_at, room_in, may_take_in, must_wait_in, standing_in, HaveNames, IsRoomFor, Steps};
+ghost use Rattle.tip_rules.specs.Works.{state_in, tables_in};
+ghost use Rattle.tip_core.specs.Hosted.{realm as realm_at, free_in, room_in, tables_at, may_take_in, must_wait_in, standing_in, HaveNames, IsRoomFor, Steps};
+ghost use Rattle.tip_core.specs.Starting.{AreEmpty};
 ghost use Rattle.tip_core.specs.Ordering.{AreKnown};
 ghost use Rattle.tip_core.specs.Recovering.{IsOf, taking_up};
 ghost use Rattle.tip_core.specs.Renewing.{HasRoom};
 ghost use Rattle.tip_core.specs.Usages.{is_owed, is_with_superior, usage_of};
 
 use crate::happened::Happened;
-use crate::recovering::reopen_all;
+use crate::recovering::reopen_in;
 use crate::renewing::{Left, Parting, renew, room_to_renew};
 use crate::starts::Starts;
 use crate::usage::{Usage, count_committed, count_in_doubt, is_owed, is_with_superior};
@@ -30,8 +31,8 @@ use tip_machine::{Connection, Event, Head, Outcome, Seat, Start, Transaction};
 use tip_outlook::Turns;
 use tip_recovery::Recovery;
 use tip_rows::Key;
-use tip_rules::{Realms, Room, Standing};
-use tip_table::{Items, Table};
+use tip_rules::{Realms, Room, Standing, Tables};
+use tip_table::Items;
 
 /// All realms of the process, each by its place in the order of declaration.
 #[derive(Drop)]
@@ -41,6 +42,7 @@ pub struct Core {
 }
 
 impl Model for Core {
+    ghost use Rattle.std.specs.Prelude.{◌≡◌, length};
     ghost use Rattle.tip_core.specs.Hosted.{HaveNames, Hosted};
     ghost use Rattle.tip_rules.specs.Works.{HaveCounts};
 
@@ -48,17 +50,15 @@ impl Model for Core {
 
     ghost view = { λ c. record {
       heads = c.realms.heads.items;
-      connections = c.realms.connections;
-      transactions = c.realms.transactions;
+      tables = c.realms.tables.items;
       turns = c.turns.capacity;
     } };
 
     ghost invariant = { λ c. HaveCounts c.realms × HaveNames (record {
       heads = c.realms.heads.items;
-      connections = c.realms.connections;
-      transactions = c.realms.transactions;
+      tables = c.realms.tables.items;
       turns = c.turns.capacity;
-    }) };
+    }) × (length c.realms.tables.items ≡ length c.realms.heads.items) };
 }
 
 impl Core {
@@ -68,7 +68,11 @@ impl Core {
         ensures { (place : ℕ) → realm_at result place ≡ None }
     {
         Core {
-            realms: realms_of(alloc, Vec::new(alloc)),
+            realms: Realms {
+                heads: Vec::new(alloc),
+                tables: Vec::new(alloc),
+                alloc,
+            },
             turns: Turns::new(alloc),
         }
     }
@@ -80,42 +84,54 @@ impl Core {
             ≡ option_map (λ start. started (starting start)) (slice_get starts place)) }
         ensures named { IfOk result HaveNames }
     {
+        let heads = heads_of(alloc, starts.into_vec())?;
+        let tables = tables_of(alloc, heads.len())?;
         Ok(Core {
-            realms: realms_of(alloc, heads_of(alloc, starts.into_vec())?),
+            realms: Realms {
+                heads,
+                tables,
+                alloc,
+            },
             turns: Turns::new(alloc),
         })
     }
 
-    /// Room for so many transactions more. The realms stay as they are.
-    pub fn reserve(&mut self, transactions: usize) -> Result<(), AllocError>
+    /// Room for so many transactions more of a realm. The realms stay as they are.
+    pub fn reserve(&mut self, realm: usize, transactions: usize) -> Result<(), AllocError>
         requires { Always }
         ensures realms { (place : ℕ) → realm_at self.new place ≡ realm_at self.old place }
-        ensures ok { OnOk result (transactions ≤ self.new.transactions.free) }
+        ensures ok { OnOk result
+            (realm_at self.old realm ≢ None → transactions ≤ free_in realm self.new) }
+        ensures others { (other : ℕ) → other ≢ realm →
+            free_in other self.new ≡ free_in other self.old }
         ensures named { HaveNames self.new }
     {
-        self.realms.transactions.reserve_for(transactions)
+        if realm >= self.realms.heads.len() {
+            return Ok(());
+        }
+        reserve(&mut self.realms, realm, transactions)
     }
 
     /// The transactions that recovery makes of a realm's rows join it, in room that is there.
     pub fn take_up(&mut self, realm: usize, recovery: Recovery)
-        requires room { length recovery.rows ≤ self.old.transactions.free }
+        requires room { length recovery.rows ≤ free_in realm self.old }
         requires adopted { are_adopted recovery.rows ≡ true }
         ensures own { (state : State) → realm_at self.old realm ≡ Some state →
             IsOf recovery state.head →
             realm_at self.new realm ≡ Some (taking_up recovery.rows state) }
         ensures others { (other : ℕ) → other ≢ realm →
             realm_at self.new other ≡ realm_at self.old other }
-        ensures room { self.new.transactions.free
-            + length recovery.rows ≡ self.old.transactions.free }
+        ensures room { realm_at self.old realm ≢ None →
+            free_in realm self.new + length recovery.rows ≡ free_in realm self.old }
+        ensures room_of_others { (other : ℕ) → other ≢ realm →
+            free_in other self.new ≡ free_in other self.old }
         ensures named { HaveNames self.new }
     {
+        if realm >= self.realms.heads.len() {
+            return;
+        }
         let epoch = recovery.epoch();
-        reopen_all(
-            &mut self.realms.transactions,
-            realm,
-            epoch,
-            recovery.into_rows(),
-        );
+        reopen_in(&mut self.realms, realm, epoch, recovery.into_rows());
     }
 
     /// Room for a realm to start again with so many rows.
@@ -125,8 +141,9 @@ impl Core {
         realm: usize,
         rows: usize,
     ) -> Result<Parting, AllocError>
-        requires { Always }
-        ensures { IfOk result (HasRoom self.now.connections self.now.transactions realm rows) }
+        requires always { Always }
+        requires here { realm_at self.now realm ≢ None }
+        ensures { IfOk result (HasRoom (tables_at realm self.now) realm rows) }
     {
         room_to_renew(&self.realms, alloc, realm, rows)
     }
@@ -136,8 +153,7 @@ impl Core {
         requires always { Always }
         requires here { (state : State) × (realm_at self.old realm ≡ Some state)
             × (state.head.epoch < last_epoch) }
-        requires room { HasRoom self.old.connections self.old.transactions realm
-            (length recovery.rows) room }
+        requires room { HasRoom (tables_at realm self.old) realm (length recovery.rows) room }
         requires adopted { are_adopted recovery.rows ≡ true }
         ensures own { (state : State) → realm_at self.old realm ≡ Some state →
             IsOf recovery (risen state.head) → realm_at self.new realm
@@ -162,7 +178,8 @@ impl Core {
         if realm >= self.realms.heads.len() {
             return Room::nothing(alloc);
         }
-        self.turns.reserve(self.realms.connections.count(realm))?;
+        self.turns
+            .reserve(self.realms.connections(realm).count(realm))?;
         self.realms.room(alloc, realm, event)
     }
 
@@ -174,7 +191,7 @@ impl Core {
         ensures change { result.change ≡ room.change }
         ensures outcome { result.outcome ≡ outcome }
         ensures named { HaveNames self.new }
-        ensures room { room_in self.new ≡ room_in self.old }
+        ensures room { (place : ℕ) → room_in place self.new ≡ room_in place self.old }
     {
         let (mut making, change) = room.into_parts();
         if realm >= self.realms.heads.len() {
@@ -215,11 +232,12 @@ impl Core {
 
     /// The transactions of a realm, in the order made.
     pub fn transactions(&self, realm: usize) -> Items<'_, Transaction>
-        requires { Always }
+        requires always { Always }
+        requires here { realm_at self.now realm ≢ None }
         ensures { (state : State) → realm_at self.now realm ≡ Some state →
             map seen result ≡ state.transactions }
     {
-        self.realms.transactions.items(realm)
+        self.realms.transactions(realm).items(realm)
     }
 
     /// How much of its limits a realm takes up, and how far its transactions have come.
@@ -227,12 +245,13 @@ impl Core {
         ensures { result ≡ option_map usage_of (realm_at self.now realm) }
     {
         let head = self.realms.heads.get(realm)?;
+        let transactions = self.realms.transactions(realm);
         Some(Usage {
             epoch: head.epoch,
-            connections: self.realms.connections.count(realm),
-            transactions: self.realms.transactions.count(realm),
-            in_doubt: count_in_doubt(&self.realms.transactions, realm),
-            committed: count_committed(&self.realms.transactions, realm),
+            connections: self.realms.connections(realm).count(realm),
+            transactions: transactions.count(realm),
+            in_doubt: count_in_doubt(transactions, realm),
+            committed: count_committed(transactions, realm),
             entries: head.entries,
         })
     }
@@ -241,7 +260,8 @@ impl Core {
     pub fn is_with_superior(&self, realm: usize, key: Key) -> bool
         ensures { result ≡ is_with_superior key (realm_at self.now realm) }
     {
-        realm < self.realms.heads.len() && is_with_superior(&self.realms.connections, realm, key)
+        realm < self.realms.heads.len()
+            && is_with_superior(self.realms.connections(realm), realm, key)
     }
 
     /// Whether a realm's transaction still owes the commit to the subordinate of an address and identifier.
@@ -249,7 +269,7 @@ impl Core {
         ensures { result ≡ is_owed key address.now id.now (realm_at self.now realm) }
     {
         realm < self.realms.heads.len()
-            && is_owed(&self.realms.transactions, realm, key, address, id)
+            && is_owed(self.realms.transactions(realm), realm, key, address, id)
     }
 
     /// Whether a line of this seat may be taken now; else it is held until it may.
@@ -278,18 +298,29 @@ impl Core {
     }
 }
 
-/// These realms, at their start.
-fn realms_of(alloc: Global, heads: Vec<Head>) -> Realms<Connection, Transaction>
-    ensures heads { result.heads ≡ heads }
-    ensures connections { (realm : ℕ) → of result.connections realm ≡ [] }
-    ensures transactions { (realm : ℕ) → of result.transactions realm ≡ [] }
+/// Tables for so many realms, which have nothing yet.
+fn tables_of(alloc: Global, count: usize) -> Result<Vec<Tables>, AllocError>
+    ensures count { IfOk result (λ tables. length tables.items ≡ count) }
+    ensures empty { IfOk result (λ tables. AreEmpty tables.items) }
 {
-    Realms {
-        heads,
-        connections: Table::new(alloc),
-        transactions: Table::new(alloc),
-        alloc,
+    let mut tables = Vec::with_capacity(alloc, count)?;
+    for _ in 0..count {
+        tables.push(Tables::new(alloc))?;
     }
+    Ok(tables)
+}
+
+/// Room for so many transactions more of a realm.
+fn reserve(realms: &mut Realms, realm: usize, transactions: usize) -> Result<(), AllocError>
+    requires { realm < length realms.old.tables.items }
+    ensures ok { OnOk result (transactions ≤ (tables_in realm realms.new).transactions.free) }
+    ensures same { state_in realm realms.new ≡ state_in realm realms.old }
+    ensures heads { realms.new.heads ≡ realms.old.heads }
+    ensures others { (other : ℕ) → other ≢ realm →
+        tables_in other realms.new ≡ tables_in other realms.old }
+    ensures count { length realms.new.tables.items ≡ length realms.old.tables.items }
+{
+    realms.tables[realm].transactions.reserve_for(transactions)
 }
 
 /// Each realm's head at its start.
@@ -306,11 +337,12 @@ fn heads_of(alloc: Global, starts: Vec<Start>) -> Result<Vec<Head>, AllocError>
 /// Notes the turns of the connections that are on the transactions which an event concerns.
 fn note_turns(turns: &mut Turns, realms: &Realms, realm: usize, event: &Event)
     requires here { realm < length realms.now.heads.items }
+    requires tables { realm < length realms.now.tables.items }
     requires counts { HasCounts (state_in realm realms.now) }
-    requires room { length (of realms.now.connections realm) ≤ turns.old.capacity }
+    requires room { length (state_in realm realms.now).connections ≤ turns.old.capacity }
     ensures turns { AreKnown (state_in realm realms.now) event.now turns.new.turns }
     ensures room { turns.new.capacity ≡ turns.old.capacity }
 {
     let concerned = realms.concerned(realm, event);
-    turns.note(realm, &realms.connections, concerned);
+    turns.note(realm, realms.connections(realm), concerned);
 }

@@ -9,9 +9,9 @@ ghost use Rattle.tip_recovery.specs.Adopting.{are_adopted, loaded};
 ghost use Rattle.tip_rows.specs.Logs.{last_epoch};
 ghost use Rattle.tip_core.specs.Recovering.{IsOf};
 ghost use Rattle.tip_core.specs.Renewing.{HasRoom};
-ghost use Rattle.tip_rules.specs.Works.{state_in};
+ghost use Rattle.tip_rules.specs.Works.{state_in, tables_in};
 
-use crate::recovering::reopen_all;
+use crate::recovering::reopen_in;
 use std::alloc::{AllocError, Global};
 use std::mem;
 use tip_machine::{Connection, Transaction};
@@ -43,14 +43,17 @@ pub fn room_to_renew(
     realm: usize,
     rows: usize,
 ) -> Result<Parting, AllocError>
-    ensures { IfOk result (HasRoom realms.now.connections realms.now.transactions realm rows) }
+    requires { realm < length realms.now.tables.items }
+    ensures { IfOk result (HasRoom (tables_in realm realms.now) realm rows) }
 {
+    let connections = realms.connections(realm);
+    let transactions = realms.transactions(realm);
     Ok(Parting {
-        connections: realms.connections.with_room(alloc, 0)?,
-        transactions: realms.transactions.with_room(alloc, rows)?,
+        connections: connections.with_room(alloc, 0)?,
+        transactions: transactions.with_room(alloc, rows)?,
         left: Left {
-            connections: Vec::with_capacity(alloc, realms.connections.count(realm))?,
-            transactions: Vec::with_capacity(alloc, realms.transactions.count(realm))?,
+            connections: Vec::with_capacity(alloc, connections.count(realm))?,
+            transactions: Vec::with_capacity(alloc, transactions.count(realm))?,
         },
     })
 }
@@ -59,24 +62,26 @@ pub fn room_to_renew(
 pub fn renew(realms: &mut Realms, realm: usize, recovery: Recovery, room: Parting) -> Left
     requires here { realm < length realms.old.heads.items }
     requires epoch { (state_in realm realms.old).head.epoch < last_epoch }
-    requires room { HasRoom realms.old.connections realms.old.transactions realm
-        (length recovery.rows) room }
+    requires tables { realm < length realms.old.tables.items }
+    requires room { HasRoom (tables_in realm realms.old) realm (length recovery.rows) room }
     requires adopted { are_adopted recovery.rows ≡ true }
     ensures own { IsOf recovery (risen (state_in realm realms.old).head) →
         state_in realm realms.new
         ≡ restarted (risen (state_in realm realms.old).head) (map loaded recovery.rows) }
     ensures head { (state_in realm realms.new).head ≡ risen (state_in realm realms.old).head }
-    ensures none { of realms.new.connections realm ≡ [] }
+    ensures none { of (tables_in realm realms.new).connections realm ≡ [] }
     ensures others { (other : ℕ) → other ≢ realm →
         state_in other realms.new ≡ state_in other realms.old }
     ensures count { length realms.new.heads.items ≡ length realms.old.heads.items }
-    ensures connections { result.connections.items ≡ of realms.old.connections realm }
+    ensures tables { length realms.new.tables.items ≡ length realms.old.tables.items }
+    ensures connections { result.connections.items
+        ≡ of (tables_in realm realms.old).connections realm }
     ensures transactions { map seen result.transactions.items
         ≡ (state_in realm realms.old).transactions }
 {
     let left = clear(realms, realm, room);
     let epoch = recovery.epoch();
-    reopen_all(&mut realms.transactions, realm, epoch, recovery.into_rows());
+    reopen_in(realms, realm, epoch, recovery.into_rows());
     left
 }
 
@@ -84,19 +89,21 @@ pub fn renew(realms: &mut Realms, realm: usize, recovery: Recovery, room: Partin
 fn clear(realms: &mut Realms, realm: usize, room: Parting) -> Left
     requires here { realm < length realms.old.heads.items }
     requires epoch { (state_in realm realms.old).head.epoch < last_epoch }
-    requires room { (rows : ℕ)
-        × HasRoom realms.old.connections realms.old.transactions realm rows room }
+    requires tables { realm < length realms.old.tables.items }
+    requires room { (rows : ℕ) × HasRoom (tables_in realm realms.old) realm rows room }
     ensures own { state_in realm realms.new ≡ started (risen (state_in realm realms.old).head) }
-    ensures none { of realms.new.connections realm ≡ [] }
-    ensures no_transactions { of realms.new.transactions realm ≡ [] }
+    ensures none { of (tables_in realm realms.new).connections realm ≡ [] }
+    ensures no_transactions { of (tables_in realm realms.new).transactions realm ≡ [] }
     ensures others { (other : ℕ) → other ≢ realm →
         state_in other realms.new ≡ state_in other realms.old }
     ensures count { length realms.new.heads.items ≡ length realms.old.heads.items }
-    ensures connections { result.connections.items ≡ of realms.old.connections realm }
-    ensures transactions { result.transactions.items ≡ of realms.old.transactions realm }
-    ensures room { (rows : ℕ) →
-        HasRoom realms.old.connections realms.old.transactions realm rows room →
-        rows ≤ realms.new.transactions.free }
+    ensures tables { length realms.new.tables.items ≡ length realms.old.tables.items }
+    ensures connections { result.connections.items
+        ≡ of (tables_in realm realms.old).connections realm }
+    ensures transactions { result.transactions.items
+        ≡ of (tables_in realm realms.old).transactions realm }
+    ensures room { (rows : ℕ) → HasRoom (tables_in realm realms.old) realm rows room →
+        rows ≤ (tables_in realm realms.new).transactions.free }
 {
     let Parting {
         connections,
@@ -107,9 +114,11 @@ fn clear(realms: &mut Realms, realm: usize, room: Parting) -> Left
     head.epoch += 1;
     head.given = 0;
     head.entries = 0;
-    let before = mem::replace(&mut realms.connections, Table::new(realms.alloc));
-    realms.connections = before.part(realm, connections, &mut left.connections);
-    let before = mem::replace(&mut realms.transactions, Table::new(realms.alloc));
-    realms.transactions = before.part(realm, transactions, &mut left.transactions);
+    let alloc = realms.alloc;
+    let own = &mut realms.tables[realm];
+    let before = mem::replace(&mut own.connections, Table::new(alloc));
+    own.connections = before.part(realm, connections, &mut left.connections);
+    let before = mem::replace(&mut own.transactions, Table::new(alloc));
+    own.transactions = before.part(realm, transactions, &mut left.transactions);
     left
 }

@@ -1,5 +1,5 @@
 //! What a realm would let go.
-ghost use Rattle.std.specs.Prelude.{◌≡◌, [], None, Some, IfOk};
+ghost use Rattle.std.specs.Prelude.{◌≡◌, ◌≢◌, [], None, Some, IfOk};
 ghost use Rattle.std.specs.List.{flat_map};
 ghost use Rattle.tip_branch.specs.Always.{Always};
 ghost use Rattle.tip_core.specs.Hosted.{realm as realm_at};
@@ -33,6 +33,7 @@ impl<S: RowLog + Drop> Host<S> {
 
 /// What is noted of the parties that a realm has and that are not out.
 fn notes_here(alloc: Global, core: &Core, realm: usize) -> Result<Vec<PartyNote>, AllocError>
+    requires { realm_at core.now realm ≢ None }
     ensures { (state : State) → realm_at core.now realm ≡ Some state →
         IfOk result (λ notes. flat_map drops_of notes.items ≡ drops_here state) }
 {

@@ -23,6 +23,7 @@ use Rattle.tip_outlook.specs.Searches.{HeldTransaction}
 use Rattle.tip_rules.specs.Makings.{Made}
 use Rattle.tip_rules.specs.Rooms.{room_for}
 use Rattle.tip_rules.specs.declared.realms.Realms as realms
+use Rattle.tip_rules.specs.declared.realms.Tables as tables
 use Rattle.tip_rules.specs.declared.work.Work as declared
 
 abbrev pub Held : Type 0
@@ -48,17 +49,32 @@ realm_of realm held = record { head = slice_index_or held.heads.items realm no_h
 abbrev pub work_of : Held → Work
 work_of held = record { state = realm_of held.realm held; answer = held.making.answer }
 
--- The tables of all realms between two events
+-- The realms between two events
 
 abbrev pub Realms : Type 0
 Realms = realms.Realms Connection HeldTransaction
 
-abbrev pub state_in : ℕ → Realms → State
-state_in realm realms = record { head = slice_index_or realms.heads.items realm no_head; connections = of realms.connections realm; transactions = map seen (of realms.transactions realm) }
+abbrev pub Tables : Type 0
+Tables = tables.Tables Connection HeldTransaction
 
--- lent to the work of an event
+-- stand where there is no realm
+abbrev pub no_tables : Tables
+no_tables = record { connections = record { entries = []; free = 0 }; transactions = record { entries = []; free = 0 } }
+
+-- what a realm has is in its own tables
+abbrev pub tables_in : ℕ → Realms → Tables
+tables_in realm realms = slice_index_or realms.tables.items realm no_tables
+
+-- the realm of this head and these tables
+abbrev pub state_of : ℕ → Head → Tables → State
+state_of realm head tables = record { head = head; connections = of tables.connections realm; transactions = map seen (of tables.transactions realm) }
+
+abbrev pub state_in : ℕ → Realms → State
+state_in realm realms = state_of realm (slice_index_or realms.heads.items realm no_head) (tables_in realm realms)
+
+-- its tables are lent to the work of an event
 abbrev pub working : ℕ → Outcome → Made → Realms → Held
-working realm outcome making realms = record { heads = realms.heads; connections = realms.connections; transactions = realms.transactions; realm = realm; outcome = outcome; making = making }
+working realm outcome making realms = record { heads = realms.heads; connections = (tables_in realm realms).connections; transactions = (tables_in realm realms).transactions; realm = realm; outcome = outcome; making = making }
 
 -- each realm's counts are as they can be
 abbrev pub HaveCounts : Realms → Type 0

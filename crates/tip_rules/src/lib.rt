@@ -1,5 +1,4 @@
-//! The rules of a realm's machine, over tables that all realms share: each does in the realm at hand what the definition of its
-//! name says.
+//! The rules of a realm's machine, over the realm's tables: each does in the realm at hand what the definition of its name says.
 #![tactic(auto)]
 
 mod beginning;
@@ -30,6 +29,6 @@ mod wanting;
 mod work;
 
 pub use making::Making;
-pub use realms::Realms;
+pub use realms::{Realms, Tables};
 pub use room::Room;
 pub use standing::Standing;

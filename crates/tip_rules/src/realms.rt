@@ -1,5 +1,5 @@
-//! The tables of all realms, which are lent to the work of one event.
-ghost use Rattle.std.specs.Prelude.{◌≡◌, ◌<◌, ℕ, length, IfOk};
+//! The realms, each with tables of its own, which are lent to the work of one event.
+ghost use Rattle.std.specs.Prelude.{◌≡◌, ◌≢◌, ◌<◌, ℕ, [], length, IfOk};
 ghost use Rattle.std.specs.Option.{option_and_then};
 ghost use Rattle.tip_table.specs.Kept.{of};
 ghost use Rattle.tip_machine.specs.Answers.{silence};
@@ -10,7 +10,7 @@ ghost use Rattle.tip_machine.specs.Requests.{may_take_on, must_wait_on, owner};
 ghost use Rattle.tip_machine.specs.States.{identified_by, seated};
 ghost use Rattle.tip_rules.specs.Needs.{HasNeeds, Suits, happened};
 ghost use Rattle.tip_rules.specs.Standing.{standing_on};
-ghost use Rattle.tip_rules.specs.Works.{Does, state_in, working};
+ghost use Rattle.tip_rules.specs.Works.{Does, state_in, tables_in, working};
 
 use crate::finding::key_named;
 use crate::making::Making;
@@ -27,12 +27,32 @@ use tip_machine::{Concerned, Connection, Event, Head, Heard, Outcome, Role, Seat
 use tip_rows::Key;
 use tip_table::{Linked, Table};
 
-/// What is declared and counted of each realm, and the tables of all connections and transactions.
+/// The connections and the transactions of one realm.
+#[derive(Drop)]
+pub struct Tables<C: Linked = Connection, T: Linked = Transaction> {
+    pub connections: Table<C>,
+    pub transactions: Table<T>,
+}
+
+impl<C: Linked + Drop, T: Linked + Drop> Tables<C, T> {
+    /// A realm that has none. It takes no memory.
+    pub fn new(alloc: Global) -> Self
+        ensures connections { (realm : ℕ) → of result.connections realm ≡ [] }
+        ensures transactions { (realm : ℕ) → of result.transactions realm ≡ [] }
+    {
+        Tables {
+            connections: Table::new(alloc),
+            transactions: Table::new(alloc),
+        }
+    }
+}
+
+/// What is declared and counted of each realm, and its tables: as many as there are realms. What a realm has makes no event of
+/// another dearer.
 #[derive(Drop)]
 pub struct Realms<C: Linked = Connection, T: Linked = Transaction> {
     pub heads: Vec<Head>,
-    pub connections: Table<C>,
-    pub transactions: Table<T>,
+    pub tables: Vec<Tables<C, T>>,
     pub alloc: Global,
 }
 
@@ -40,11 +60,15 @@ impl Realms<Connection, Transaction> {
     /// Room for an event of a realm. The realms stay as they are.
     pub fn room(&mut self, alloc: Global, realm: usize, event: &Event) -> Result<Room, AllocError>
         requires here { realm < length self.old.heads.items }
+        requires tables { realm < length self.old.tables.items }
         requires counts { HasCounts (state_in realm self.old) }
-        ensures ok { IfOk result (Suits (state_in realm self.new) self.new.connections.free
-            self.new.transactions.free (of self.new.transactions realm) event.now) }
+        ensures ok { IfOk result (Suits (state_in realm self.new)
+            (tables_in realm self.new).connections.free
+            (tables_in realm self.new).transactions.free
+            (of (tables_in realm self.new).transactions realm) event.now) }
         ensures heads { self.new.heads ≡ self.old.heads }
         ensures realms { (place : ℕ) → state_in place self.new ≡ state_in place self.old }
+        ensures count { length self.new.tables.items ≡ length self.old.tables.items }
     {
         let mut work = self.lend(realm, Outcome::NoChange, Making::idle(self.alloc));
         let room = work.prepare(alloc, event);
@@ -55,12 +79,16 @@ impl Realms<Connection, Transaction> {
     /// One event of a realm, which has what it needs, with what became of the change that it wanted.
     pub fn step(&mut self, realm: usize, event: Event, outcome: Outcome, making: Making) -> Making
         requires here { realm < length self.old.heads.items }
+        requires tables { realm < length self.old.tables.items }
         requires counts { HasCounts (state_in realm self.old) }
         requires silent { making.answer ≡ silence }
         requires needs { HasNeeds event (working realm outcome making self.old) }
-        ensures { Does (working realm outcome making self.old)
+        ensures does { Does (working realm outcome making self.old)
             (working realm outcome result self.new)
             (happened (state_in realm self.old) event outcome) }
+        ensures others { (other : ℕ) → other ≢ realm →
+            tables_in other self.new ≡ tables_in other self.old }
+        ensures count { length self.new.tables.items ≡ length self.old.tables.items }
     {
         let mut work = self.lend(realm, outcome, making);
         work.step(event);
@@ -71,11 +99,13 @@ impl Realms<Connection, Transaction> {
     #[tactic(auto, using(crate::proofs::Lending::seating))]
     pub fn may_take(&self, realm: usize, seat: Seat) -> bool
         requires here { realm < length self.now.heads.items }
+        requires tables { realm < length self.now.tables.items }
         requires counts { HasCounts (state_in realm self.now) }
         ensures { result ≡ may_take_on (seated seat (state_in realm self.now)) }
     {
-        match seat_place(&self.heads[realm], &self.connections, realm, seat) {
-            Some(place) => self.connections.item(place).may_take(),
+        let connections = self.connections(realm);
+        match seat_place(&self.heads[realm], connections, realm, seat) {
+            Some(place) => connections.item(place).may_take(),
             None => false,
         }
     }
@@ -84,11 +114,13 @@ impl Realms<Connection, Transaction> {
     #[tactic(auto, using(crate::proofs::Lending::waiting))]
     pub fn must_wait(&self, realm: usize, seat: Seat) -> bool
         requires here { realm < length self.now.heads.items }
+        requires tables { realm < length self.now.tables.items }
         requires counts { HasCounts (state_in realm self.now) }
         ensures { result ≡ must_wait_on (seated seat (state_in realm self.now)) }
     {
-        match seat_place(&self.heads[realm], &self.connections, realm, seat) {
-            Some(place) => !self.connections.item(place).may_take(),
+        let connections = self.connections(realm);
+        match seat_place(&self.heads[realm], connections, realm, seat) {
+            Some(place) => !connections.item(place).may_take(),
             None => false,
         }
     }
@@ -97,11 +129,13 @@ impl Realms<Connection, Transaction> {
     #[tactic(auto, using(crate::proofs::Lending::standing))]
     pub fn standing(&self, realm: usize, seat: Seat) -> Standing
         requires here { realm < length self.now.heads.items }
+        requires tables { realm < length self.now.tables.items }
         requires counts { HasCounts (state_in realm self.now) }
         ensures { result ≡ standing_on (seated seat (state_in realm self.now)) }
     {
-        match seat_place(&self.heads[realm], &self.connections, realm, seat) {
-            Some(place) => standing_of(self.connections.item(place)),
+        let connections = self.connections(realm);
+        match seat_place(&self.heads[realm], connections, realm, seat) {
+            Some(place) => standing_of(connections.item(place)),
             None => Standing::Gone,
         }
     }
@@ -109,6 +143,7 @@ impl Realms<Connection, Transaction> {
     /// The transactions that an event concerns.
     pub fn concerned(&self, realm: usize, event: &Event) -> Concerned
         requires here { realm < length self.now.heads.items }
+        requires tables { realm < length self.now.tables.items }
         requires counts { HasCounts (state_in realm self.now) }
         ensures { result ≡ concerned (state_in realm self.now) event.now }
     {
@@ -138,16 +173,19 @@ impl Realms<Connection, Transaction> {
     #[tactic(auto, using(crate::proofs::Lending::being_on))]
     fn key_on(&self, realm: usize, seat: Seat) -> Option<Key>
         requires here { realm < length self.now.heads.items }
+        requires tables { realm < length self.now.tables.items }
         requires counts { HasCounts (state_in realm self.now) }
         ensures { result ≡ key_on (seated seat (state_in realm self.now)) }
     {
-        let place = seat_place(&self.heads[realm], &self.connections, realm, seat)?;
-        key_of(self.connections.item(place).role)
+        let connections = self.connections(realm);
+        let place = seat_place(&self.heads[realm], connections, realm, seat)?;
+        key_of(connections.item(place).role)
     }
 
     /// The transaction that a line on the connection of a seat concerns beside that connection's own.
     fn named_by(&self, realm: usize, seat: Seat, heard: &Heard) -> Option<Key>
         requires here { realm < length self.now.heads.items }
+        requires tables { realm < length self.now.tables.items }
         requires counts { HasCounts (state_in realm self.now) }
         ensures { result
             ≡ named_by heard.now (seated seat (state_in realm self.now)) (state_in realm self.now) }
@@ -165,27 +203,32 @@ impl Realms<Connection, Transaction> {
     #[tactic(auto, using(crate::proofs::Lending::asking))]
     fn queried(&self, realm: usize, seat: Seat) -> Option<Key>
         requires here { realm < length self.now.heads.items }
+        requires tables { realm < length self.now.tables.items }
         requires counts { HasCounts (state_in realm self.now) }
         ensures { result ≡ option_and_then (λ connection. key_queried connection.awaited)
             (seated seat (state_in realm self.now)) }
     {
-        let place = seat_place(&self.heads[realm], &self.connections, realm, seat)?;
-        key_queried(&self.connections.item(place).awaited)
+        let connections = self.connections(realm);
+        let place = seat_place(&self.heads[realm], connections, realm, seat)?;
+        key_queried(&connections.item(place).awaited)
     }
 
     /// The transaction of an identifier.
     #[tactic(auto, using(crate::proofs::Lending::identifying))]
     fn identified(&self, realm: usize, id: &Id) -> Option<Key>
         requires here { realm < length self.now.heads.items }
+        requires tables { realm < length self.now.tables.items }
         ensures { result ≡ key_found (identified_by id.now (state_in realm self.now)) }
     {
-        key_named(&self.heads[realm].name, &self.transactions, realm, id)
+        let transactions = self.transactions(realm);
+        key_named(&self.heads[realm].name, transactions, realm, id)
     }
 
     /// The transaction that gave a party out in this start.
     #[tactic(auto, using(crate::proofs::Lending::owning))]
     fn owner(&self, realm: usize, party: &HeldParty) -> Option<Key>
         requires here { realm < length self.now.heads.items }
+        requires tables { realm < length self.now.tables.items }
         ensures { result ≡ key_found (owner party.now (state_in realm self.now)) }
     {
         let party = party.party();
@@ -195,19 +238,43 @@ impl Realms<Connection, Transaction> {
         self.identified(realm, party.id())
     }
 
-    /// Lends the tables to the work of an event, with an answer to be made.
+    /// The connections of a realm.
+    pub fn connections(&self, realm: usize) -> &Table<Connection>
+        requires { realm < length self.now.tables.items }
+        ensures { result.now ≡ (tables_in realm self.now).connections }
+    {
+        &self.tables[realm].connections
+    }
+
+    /// The transactions of a realm.
+    pub fn transactions(&self, realm: usize) -> &Table<Transaction>
+        requires { realm < length self.now.tables.items }
+        ensures { result.now ≡ (tables_in realm self.now).transactions }
+    {
+        &self.tables[realm].transactions
+    }
+
+    /// Lends its tables to the work of an event of a realm, with an answer to be made.
     fn lend(
         &mut self,
         realm: usize,
         outcome: Outcome,
         making: Making,
     ) -> Work<Connection, Transaction, Making>
-        ensures { result ≡ working realm outcome making self.old }
+        requires { realm < length self.old.tables.items }
+        ensures lent { result ≡ working realm outcome making self.old }
+        ensures others { (other : ℕ) → other ≢ realm →
+            tables_in other self.new ≡ tables_in other self.old }
+        ensures count { length self.new.tables.items ≡ length self.old.tables.items }
     {
+        let Tables {
+            connections,
+            transactions,
+        } = mem::replace(&mut self.tables[realm], Tables::new(self.alloc));
         Work {
             heads: mem::replace(&mut self.heads, Vec::new(self.alloc)),
-            connections: mem::replace(&mut self.connections, Table::new(self.alloc)),
-            transactions: mem::replace(&mut self.transactions, Table::new(self.alloc)),
+            connections,
+            transactions,
             realm,
             outcome,
             making,
@@ -216,20 +283,27 @@ impl Realms<Connection, Transaction> {
 
     /// Takes the tables back from the work of an event, and hands its answer on.
     fn take_back(&mut self, work: Work<Connection, Transaction, Making>) -> Making
-        ensures { working work.realm work.outcome result self.new ≡ work }
+        requires { work.realm < length self.old.tables.items }
+        ensures taken { working work.realm work.outcome result self.new ≡ work }
+        ensures others { (other : ℕ) → other ≢ work.realm →
+            tables_in other self.new ≡ tables_in other self.old }
+        ensures count { length self.new.tables.items ≡ length self.old.tables.items }
     {
         let Work {
             heads,
-            connections,
-            transactions,
+            mut connections,
+            mut transactions,
+            realm,
             making,
             ..
         } = work;
+        connections.relink();
+        transactions.relink();
         self.heads = heads;
-        self.connections = connections;
-        self.transactions = transactions;
-        self.connections.relink();
-        self.transactions.relink();
+        self.tables[realm] = Tables {
+            connections,
+            transactions,
+        };
         making
     }
 }

@@ -1,4 +1,4 @@
-//! What an event has done so far: the tables of all realms, and the answer in the making for the event of one of them.
+//! What an event has done so far: the tables of its realm, and the answer in the making.
 ghost use Rattle.std.specs.Prelude.{◌≡◌, ◌≢◌, ◌↔◌, ℕ, ◌+◌, ◌<◌, ◌≤◌, [], ◌∷◌, ◌++◌, length, map, None, Some, IfSome, IsSome, is_some};
 ghost use Rattle.std.specs.List.{find, list_any};
 ghost use Rattle.tip_txn.specs.Parts.{acknowledged, answer_at, answered, changed_at, named};
@@ -26,7 +26,7 @@ use tip_rows::Key;
 use tip_table::{Linked, Table};
 use tip_txn::{Ballot, Part, Phase, Txn};
 
-/// The tables of all realms, and the answer in the making.
+/// What is declared and counted of each realm, the tables of the one whose event is at hand, and the answer in the making.
 #[derive(Drop)]
 pub struct Work<C: Linked = Connection, T: Linked = Transaction, M = Making> {
     pub heads: Vec<Head>,

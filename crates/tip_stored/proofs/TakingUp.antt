@@ -15,9 +15,9 @@ use Rattle.tip_recovery.specs.Adopting.{Recovery, adopted_all, adopted_for, adop
 use Rattle.tip_recovery.specs.declared.unfinished.AdoptFault.{AdoptFault}
 use Rattle.tip_recovery.specs.declared.unfinished.AdoptFault.TheVariants.{NotInDoubt}
 use Rattle.tip_table.specs.Lists.{changed}
-use Rattle.tip_core.specs.Hosted.{Hosted, realm}
+use Rattle.tip_core.specs.Hosted.{Hosted, free_in, realm}
 use Rattle.tip_core.specs.Recovering.{IsOf, taking_up}
-use Rattle.tip_stored.specs.Recovering.{AreAnew, HasBegun, HaveBegun, adopted_at, all_adopted, count_rows, recovered, refusal_at}
+use Rattle.tip_stored.specs.Recovering.{AreAnew, HasBegun, HaveBegun, HaveRoom, adopted_at, all_adopted, recovered, refusal_at}
 
 -- what stands behind the front of a list
 pub get-behind : {T : Type 0} (xs ys : List T) (x : T) → slice_get (xs ++ x ∷ ys) (length xs) ≡ Some x
@@ -96,10 +96,14 @@ length-changed : {T : Type 0} (test : T → Bool) (change : T → T) (xs : List 
 length-changed test change [] = refl
 length-changed test change (x ∷ xs) = grind (arith, length-changed test change xs)
 
-count-adopted_at : (place : ℕ) (id : List ℕ) (boxes : List Badge) (realms : List Recovery) → count_rows (adopted_at place id boxes realms) ≡ count_rows realms
-count-adopted_at place id boxes [] = refl
-count-adopted_at zero id boxes (r ∷ realms) = ap (λ n. n + count_rows realms) (length-changed (is_named id) (adopting boxes) r.rows)
-count-adopted_at (suc place) id boxes (r ∷ realms) = ap (λ n. length r.rows + n) (count-adopted_at place id boxes realms)
+room-adopted_at : (core : Hosted) (place : ℕ) (id : List ℕ) (boxes : List Badge) (realms : List Recovery) → HaveRoom core realms → HaveRoom core (adopted_at place id boxes realms)
+room-adopted_at core place id boxes realms room at recovery here = let was = fewer place at realms here in subst (λ n. n ≤ free_in at core) (sym was.2) (room at was.0 was.1) where
+  fewer : (place at : ℕ) (realms : List Recovery) → slice_get (adopted_at place id boxes realms) at ≡ Some recovery → (old : Recovery) × (slice_get realms at ≡ Some old) × (length recovery.rows ≡ length old.rows)
+  fewer place at [] here = absurd (none-some recovery here)
+  fewer zero zero (r ∷ realms) here = (r, refl, ap (λ (x : Recovery). length x.rows) (sym (same_Some _ recovery here)) ∙ length-changed (is_named id) (adopting boxes) r.rows)
+  fewer zero (suc at) (r ∷ realms) here = (recovery, here, refl)
+  fewer (suc place) zero (r ∷ realms) here = (recovery, here, refl)
+  fewer (suc place) (suc at) (r ∷ realms) here = fewer place at realms here
 
 begun-adopted_at : (state : Option State) (place at : ℕ) (id : List ℕ) (boxes : List Badge) (realms : List Recovery) → HasBegun state (slice_get realms at) → HasBegun state (slice_get (adopted_at place id boxes realms) at)
 begun-adopted_at state place at id boxes [] begun = begun
@@ -112,7 +116,7 @@ begun-adopted_at state (suc place) (suc at) id boxes (r ∷ realms) begun = begu
 pub still_begun : {T E : Type 0} (result : Result T E) (core : Hosted) (place : ℕ) (id : List ℕ) (boxes : List Badge) (old new : List Recovery) → HaveBegun core old → OnOk result ((refusal_at place id boxes old ≡ None) × (new ≡ adopted_at place id boxes old)) → OnErr result (new ≡ old) → HaveBegun core new
 still_begun (Ok x) core place id boxes old new begun ok err = rw ok.1 (record {
   each = λ at. begun-adopted_at (realm core at) place at id boxes old (begun.each at);
-  room = subst (λ n. n ≤ core.transactions.free) (sym (count-adopted_at place id boxes old)) begun.room;
+  room = room-adopted_at core place id boxes old begun.room;
   names = begun.names;
 })
 still_begun (Err e) core place id boxes old new begun ok err = rw err begun
@@ -132,10 +136,14 @@ pub record IsLike (new old : Recovery) : Type 0 where
   pub count : length new.rows ≡ length old.rows
 
 module _ (new old : Recovery) (like : IsLike new old) where
-  count-set : (place : ℕ) (realms : List Recovery) → slice_get realms place ≡ Some old → count_rows (slice_set realms place new) ≡ count_rows realms
-  count-set place [] here = refl
-  count-set zero (r ∷ realms) here = ap (λ n. n + count_rows realms) (like.count ∙ ap (λ (x : Recovery). length x.rows) (sym (same_Some r old here)))
-  count-set (suc place) (r ∷ realms) here = ap (λ n. length r.rows + n) (count-set place realms here)
+  room-set : (core : Hosted) (place : ℕ) (realms : List Recovery) → slice_get realms place ≡ Some old → HaveRoom core realms → HaveRoom core (slice_set realms place new)
+  room-set core place realms here room at recovery is = let was = fewer place at realms here is in subst (λ n. n ≤ free_in at core) (sym was.2) (room at was.0 was.1) where
+    fewer : (place at : ℕ) (realms : List Recovery) → slice_get realms place ≡ Some old → slice_get (slice_set realms place new) at ≡ Some recovery → (it : Recovery) × (slice_get realms at ≡ Some it) × (length recovery.rows ≡ length it.rows)
+    fewer place at [] here is = absurd (none-some recovery is)
+    fewer zero zero (r ∷ realms) here is = (r, refl, ap (λ (x : Recovery). length x.rows) (sym (same_Some new recovery is)) ∙ like.count ∙ ap (λ (x : Recovery). length x.rows) (sym (same_Some r old here)))
+    fewer zero (suc at) (r ∷ realms) here is = (recovery, is, refl)
+    fewer (suc place) zero (r ∷ realms) here is = (recovery, is, refl)
+    fewer (suc place) (suc at) (r ∷ realms) here is = fewer place at realms here is
 
   begun-set : (state : Option State) (place at : ℕ) (realms : List Recovery) → slice_get realms place ≡ Some old → HasBegun state (slice_get realms at) → HasBegun state (slice_get (slice_set realms place new) at)
   begun-set state place at [] here begun = begun
@@ -149,6 +157,6 @@ module _ (new old : Recovery) (like : IsLike new old) where
       let here : slice_get realms place ≡ Some old = slice_get-get_or realms place old within ∙ ap Some (sym is) in
       record {
         each = λ at. begun-set (realm core at) place at realms here (begun.each at);
-        room = subst (λ n. n ≤ core.transactions.free) (sym (count-set place realms here)) begun.room;
+        room = room-set core place realms here begun.room;
         names = begun.names;
       }

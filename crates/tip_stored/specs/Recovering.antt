@@ -1,5 +1,5 @@
 -- A stored core before it begins: its realms have just started, and their rows wait for boxes.
-use Rattle.std.specs.Prelude.{◌≡◌, ℕ, zero, suc, ◌+◌, ◌≤◌, Bool, List, [], ◌∷◌, length, map, Option, None, Some, slice_get}
+use Rattle.std.specs.Prelude.{◌≡◌, ℕ, zero, suc, ◌≤◌, Bool, List, [], ◌∷◌, length, map, Option, None, Some, slice_get}
 use Rattle.std.specs.List.{list_all}
 use Rattle.std.specs.Option.{option_map_or}
 use Rattle.tip_branch.specs.declared.branch.Badge.{Badge}
@@ -10,7 +10,7 @@ use Rattle.tip_machine.specs.declared.head.Start.{Start}
 use Rattle.tip_recovery.specs.Adopting.{Recovery, adopted_all, adopted_for, are_adopted, are_for_all, fit, given, loaded, refusal_of}
 use Rattle.tip_recovery.specs.declared.unfinished.AdoptFault.{AdoptFault}
 use Rattle.tip_recovery.specs.declared.unfinished.AdoptFault.TheVariants.{NotInDoubt}
-use Rattle.tip_core.specs.Hosted.{HaveNames, Hosted, realm}
+use Rattle.tip_core.specs.Hosted.{HaveNames, Hosted, free_in, realm}
 use Rattle.tip_core.specs.Recovering.{IsOf}
 
 -- the realms in the order of declaration: as they have started, and as they are to be taken up
@@ -55,17 +55,17 @@ abbrev pub HasBegun : Option State → Option Recovery → Type 0
 HasBegun state None = state ≡ None
 HasBegun state (Some recovery) = (start : Start) × (state ≡ Some (started (starting start))) × IsOf recovery (starting start)
 
-abbrev pub count_rows : List Recovery → ℕ
-count_rows [] = 0
-count_rows (recovery ∷ realms) = length recovery.rows + count_rows realms
+-- there is room for the transactions of each realm's rows
+abbrev pub HaveRoom : Hosted → List Recovery → Type 0
+HaveRoom core realms = (place : ℕ) (recovery : Recovery) → slice_get realms place ≡ Some recovery → length recovery.rows ≤ free_in place core
 
 -- each realm begins in the epoch of its rows, and no connection and no entry was counted yet; there are no rows of any other
 pub record AreAnew (realms : List Recovery) (core : Hosted) : Type 0 where
   pub each : (place : ℕ) (state : State) → realm core place ≡ Some state → (recovery : Recovery) × (slice_get realms place ≡ Some recovery) × (state.head.epoch ≡ recovery.epoch) × (state.head.given ≡ 0) × (state.head.entries ≡ 0)
   pub others : (place : ℕ) → realm core place ≡ None → slice_get realms place ≡ None
 
--- each realm has just started, and there is room for the transactions of all rows
+-- each realm has just started, and there is room for the transactions of its rows
 pub record HaveBegun (core : Hosted) (realms : List Recovery) : Type 0 where
   pub each : (place : ℕ) → HasBegun (realm core place) (slice_get realms place)
-  pub room : count_rows realms ≤ core.transactions.free
+  pub room : HaveRoom core realms
   pub names : HaveNames core

@@ -1,11 +1,12 @@
 //! Realms that are loaded from a store.
-ghost use Rattle.std.specs.Prelude.{◌≡◌, ℕ, ◌<◌, List, [], ◌∷◌, ◌++◌, false, true, option_map, not, slice_get, IfErr, IfOk, OnErr, OnOk};
+ghost use Rattle.std.specs.Prelude.{◌≡◌, ◌≢◌, ℕ, ◌<◌, ◌≤◌, length, None, Some, List, [], ◌∷◌, ◌++◌, false, true, option_map, not, slice_get, IfErr, IfOk, OnErr, OnOk};
 ghost use Rattle.std.specs.List.{list_all};
 ghost use Rattle.tip_branch.specs.Always.{Always};
 ghost use Rattle.tip_machine.specs.Heads.{is_other, starting};
 ghost use Rattle.tip_machine.specs.States.{started};
-ghost use Rattle.tip_core.specs.Hosted.{realm as realm_at};
-ghost use Rattle.tip_stored.specs.Recovering.{HaveBegun, count_rows};
+ghost use Rattle.tip_core.specs.Hosted.{HaveNames, free_in, realm as realm_at};
+ghost use Rattle.tip_recovery.specs.Adopting.{Recovery as Reading};
+ghost use Rattle.tip_stored.specs.Recovering.{HaveBegun};
 ghost use Rattle.tip_rows.specs.Logs.{IsAtEnd, IsSettled, Log, is_rising};
 ghost use Rattle.tip_stored.specs.Loading.{AreKnown, AreOpened, AreRead, AreTheirs, Goes, Loads, IsIts, IsKnown, IsOnTheWay, IsRead, IsReason, IsReasonToRead, IsReasonToReadAll, Never, Stays, is_refusal_to_load, are_hostable, is_bad_realm, known_all, names_differ, names_of, opened, refused_by, spec_of, starts_of};
 
@@ -262,7 +263,7 @@ fn add_start(starts: &mut Starts, start: Start) -> Result<(), AllocError>
     }
 }
 
-/// These realms start in place of those of a core, and there is room for the transactions of all rows.
+/// These realms start in place of those of a core, and there is room for the transactions of their rows.
 fn start_all(
     alloc: Global,
     core: Core,
@@ -278,22 +279,23 @@ fn start_all(
 {
     let starts = starts_of(alloc, specs, realms)?;
     let mut core = core.start(alloc, starts)?;
-    core.reserve(count_rows(realms)?)?;
+    reserve_all(&mut core, realms)?;
     Ok(core)
 }
 
-/// How many rows there are; more than can be counted find no memory.
-fn count_rows(realms: &[Recovery]) -> Result<usize, AllocError>
-    ensures { IfOk result (λ count. count ≡ count_rows realms.now) }
+/// Each realm gets room for the transactions of its rows.
+fn reserve_all(core: &mut Core, realms: &[Recovery]) -> Result<(), AllocError>
+    requires { HaveNames core.old }
+    ensures realms { (place : ℕ) → realm_at core.new place ≡ realm_at core.old place }
+    ensures room { OnOk result ((place : ℕ) (recovery : Reading) →
+        slice_get realms.now place ≡ Some recovery → realm_at core.old place ≢ None →
+        length recovery.rows ≤ free_in place core.new) }
+    ensures names { HaveNames core.new }
 {
-    let mut count: usize = 0;
-    for recovery in realms {
-        count = match count.checked_add(recovery.rows().len()) {
-            Some(more) => more,
-            None => return Err(AllocError),
-        };
+    for (place, recovery) in realms.iter().enumerate() {
+        core.reserve(place, recovery.rows().len())?;
     }
-    Ok(count)
+    Ok(())
 }
 
 /// Whether these are at most 64 realms, each with a name of its own.

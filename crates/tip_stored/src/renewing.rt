@@ -1,7 +1,7 @@
 //! A realm that starts again while the others run.
 ghost use Rattle.std.specs.Prelude.{◌≡◌, ◌≢◌, ◌↔◌, ◌<◌, ◌+◌, ℕ, None, Some, Err, false, true, length, map, IfErr, IfOk, OnOk};
 ghost use Rattle.tip_branch.specs.Always.{Always};
-ghost use Rattle.tip_core.specs.Hosted.{realm as realm_at, HaveNames};
+ghost use Rattle.tip_core.specs.Hosted.{realm as realm_at, HaveNames, tables_at};
 ghost use Rattle.tip_core.specs.Renewing.{HasRoom};
 ghost use Rattle.tip_machine.specs.Moves.{risen};
 ghost use Rattle.tip_machine.specs.Recovery.{restarted};
@@ -179,8 +179,8 @@ impl<S: RowLog> StoredCore<S, Core> {
         ensures epoch { (state : State) → realm_at self.old.core realm ≡ Some state → OnOk result
             ((recovery.now.epoch ≡ state.head.epoch) × (state.head.epoch < last_epoch)) }
         ensures adopted { OnOk result (are_adopted recovery.now.rows ≡ true) }
-        ensures room { IfOk result (HasRoom self.old.core.connections
-            self.old.core.transactions realm (length recovery.now.rows)) }
+        ensures room { IfOk result
+            (HasRoom (tables_at realm self.old.core) realm (length recovery.now.rows)) }
         ensures reason { (log : Log) (state : State) → S.keeping.stands self.old.store log →
             realm_at self.old.core realm ≡ Some state → S.keeping.is_true self.new.store →
             IfErr result (IsReasonToRenew log state recovery.now) }
@@ -224,8 +224,8 @@ impl<S: RowLog> StoredCore<S, Core> {
             × (recovery.realm ≡ state.head.name) × (recovery.epoch ≡ state.head.epoch)
             × (state.head.epoch < last_epoch) }
         requires adopted { are_adopted recovery.rows ≡ true }
-        requires room { HasRoom self.old.core.connections self.old.core.transactions realm
-            (length recovery.rows) room }
+        requires room { HasRoom (tables_at realm self.old.core) realm (length recovery.rows)
+            room }
         ensures store { (state : State) → realm_at self.old.core realm ≡ Some state →
             Rises S.keeping (λ fault. fault.0)
             state.head.name result self.old.store self.new.store }
@@ -265,8 +265,7 @@ fn start_again(core: &mut Core, realm: usize, mut recovery: Recovery, room: Part
         × (recovery.realm ≡ state.head.name) × (recovery.epoch ≡ state.head.epoch)
         × (state.head.epoch < last_epoch) }
     requires adopted { are_adopted recovery.rows ≡ true }
-    requires room { HasRoom core.old.connections core.old.transactions realm (length recovery.rows)
-        room }
+    requires room { HasRoom (tables_at realm core.old) realm (length recovery.rows) room }
     ensures own { (state : State) → realm_at core.old realm ≡ Some state → realm_at core.new realm
         ≡ Some (restarted (risen state.head) (map loaded recovery.rows)) }
     ensures others { (other : ℕ) → other ≢ realm →

@@ -1,4 +1,4 @@
-use Rattle.std.proofs.Common.{◌≡◌, ◌++◌, ◌∷◌, ◌∙◌, ℕ, List, Some, ap, arith, length, subst, sym, inl, inr}
+use Rattle.std.proofs.Common.{◌≡◌, ◌++◌, ◌∷◌, ◌∙◌, ◌≤◌, ℕ, List, Some, ap, arith, length, subst, sym, inl, inr}
 use Rattle.std.specs.Prelude.{slice_get}
 use Rattle.std.proofs.lemmas.Grind.{common_steps}
 use Rattle.std.proofs.lemmas.Bool.{cases_eq}
@@ -20,8 +20,15 @@ loop-recovery-preserved g c =
       ];
       to_come = λ at more. c.take_up.ensures.others at (λ same. omega (arith, same)) ∙ c.loop-recovery.invariant.to_come at (omega arith);
       names = c.take_up.ensures.named;
-      room = grind (arith, common_steps);
+      room = λ at more. c.take_up.ensures.room_of_others at (λ same. omega (arith, same)) ∙ c.loop-recovery.invariant.room at (omega arith);
     }
+
+-- there is room for its own rows
+pub take_up-requires-clause-room : goal.take_up-requires-clause-room
+take_up-requires-clause-room g c =
+    let whole : c.loop-recovery.yielded ++ c.in-Some.recovery ∷ c.next.new.self.rest.items ≡ c.args.realms.items = ap (λ (realms : List Recovery). c.loop-recovery.yielded ++ realms) (sym c.in-Some.ensures.steps.0) ∙ c.loop-recovery.invariant.whole in
+    let here : slice_get c.args.realms.items c.loop-recovery.place ≡ Some c.in-Some.recovery = rw (← whole, c.loop-recovery.invariant.counted) (get-behind c.loop-recovery.yielded c.next.new.self.rest.items c.in-Some.recovery) in
+    subst (λ n. length c.in-Some.recovery.rows ≤ n) (sym (c.loop-recovery.invariant.room c.loop-recovery.place (omega arith))) (c.requires.begun.room c.loop-recovery.place c.in-Some.recovery here)
 
 pub returns-clause-realms : goal.returns-clause-realms
 returns-clause-realms g c =
