@@ -21,7 +21,7 @@ use Rattle.tip_machine.specs.States.{State, started}
 use Rattle.tip_recovery.specs.Adopting.{Recovery, Unfinished, adopted_all, are_adopted, are_for, are_for_all, loaded, stored_of, unadopted, waits, with_boxes}
 use Rattle.tip_recovery.proofs.Looking.{stored-unadopted}
 use Rattle.tip_rows.specs.Keys.{Key}
-use Rattle.tip_rows.specs.Logs.{IsPart, Keeping, Log, last_epoch, raised_number}
+use Rattle.tip_rows.specs.Logs.{IsPart, Keeping, Log, counted, last_epoch, raised_number}
 use Rattle.tip_rows.specs.Rows.{branches_of}
 use Rattle.tip_rows.specs.declared.row.Row.{Row}
 use Rattle.tip_stored.proofs.Opening.{named_at, read_at, start_at}
@@ -31,7 +31,9 @@ use Rattle.tip_stored.specs.Recovering.{Recovering, adopted_each, all_adopted, a
 use Rattle.tip_stored.specs.declared.realm_spec.RealmSpec.{RealmSpec}
 use Rattle.tip_run.proofs.Given.{boxes_at, given_all, given_boxes, given_stored, gives}
 use Rattle.tip_run.specs.Giving.{AreEachGiven, AreGiven}
-use Rattle.tip_run.specs.Halts.{HandsBack, IsWhyNotBegun, IsWhyNotRestarted, MayBeLeft}
+use Rattle.tip_run.specs.Halts.{HandsBack, IsWhyNotBegun, IsWhyNotHappened, IsWhyNotRestarted, MayBeLeft, is_refusal}
+use Rattle.tip_run.specs.declared.halt.RunFault.{RunFault}
+use Rattle.tip_run.specs.declared.halt.RunFault.TheVariants as fault
 use Rattle.tip_run.specs.Starts.{AreDeclared, HasBoxes, HasStarted, IsBegun, IsRestarted, first_of}
 use Rattle.tip_run.specs.declared.halt.Stuck.{Stuck}
 
@@ -182,10 +184,11 @@ module _ {S : Type 0} (kept : Keeping S) (old : Host S) (specs : List RealmSpec)
   not_again (Err stuck) why = inr (specs, declared, subst (λ s. IsWhyNotBegun kept specs s boxes stuck.store stuck.fault) same why)
 
   -- the store of a start that was not made
-  pub hands_back : {T : Type 0} (result : Result T (Stuck S)) → IfErr result (λ stuck. kept.is_true stuck.store → kept.is_true store) → ((log : Log) → kept.stands store log → IfErr result (λ stuck. (now : Log) × IsOnTheWay (names_of specs) log now × kept.stands stuck.store now)) → IfErr result (λ stuck. HandsBack kept old true stuck.store)
-  hands_back (Ok host) truth rows = tt
-  hands_back (Err stuck) truth rows = record {
+  pub hands_back : {T : Type 0} (result : Result T (Stuck S)) → IfErr result (λ stuck. kept.is_true stuck.store → kept.is_true store) → ((log : Log) → kept.stands store log → IfErr result (λ stuck. (now : Log) × IsOnTheWay (names_of specs) log now × kept.stands stuck.store now)) → IfErr result (λ stuck. kept.faults stuck.store ≡ counted (is_refusal stuck.fault) (kept.faults store)) → IfErr result (λ stuck. HandsBack kept old true stuck.store stuck.fault)
+  hands_back (Ok host) truth rows counts = tt
+  hands_back (Err stuck) truth rows counts = record {
     truth = λ reliable. subst kept.is_true same (truth reliable);
+    counts = counts ∙ ap (λ s. counted (is_refusal stuck.fault) (kept.faults s)) same;
     rows = λ log stood.
         let way = rows log (subst (λ s. kept.stands s log) (sym same) stood) in
         (way.0, inr (specs, declared, way.1), way.2);
@@ -196,12 +199,26 @@ module _ {S : Type 0} (kept : Keeping S) (specs : List RealmSpec) (store : S) (l
   pub loaded_true : kept.is_true left → kept.is_true store
   loaded_true truth = loads.ok.truth (subst kept.is_true same truth)
 
+  pub loaded_counts : kept.faults left ≡ kept.faults store
+  loaded_counts = ap kept.faults same ∙ loads.ok.counts
+
   pub loaded_rows : (log : Log) → kept.stands store log → (now : Log) × IsOnTheWay (names_of specs) log now × kept.stands left now
   loaded_rows log stood = let way = loads.ok.rows log stood in (way.0, inr way.1, subst (λ s. kept.stands s way.0) (sym same) way.2)
 
 -- The store of a host that ends, since a move was not made: it is as it was, or may be relied on no less
-pub ended_back : {S : Type 0} (kept : Keeping S) (old : Host S) (restarts : Bool) (left : S) → (kept.is_true left → kept.is_true old.stored.store) → ((log : Log) → kept.stands old.stored.store log → kept.stands left log) → HandsBack kept old restarts left
-ended_back kept old restarts left truth rows = record { truth = truth; rows = λ log stood. (log, same restarts log, rows log stood) } where
+pub ended_back : {S : Type 0} (kept : Keeping S) (old : Host S) (restarts : Bool) (left : S) (why : RunFault) → (kept.is_true left → kept.is_true old.stored.store) → ((log : Log) → kept.stands old.stored.store log → kept.stands left log) → kept.faults left ≡ counted (is_refusal why) (kept.faults old.stored.store) → HandsBack kept old restarts left why
+ended_back kept old restarts left why truth rows counts = record { truth = truth; counts = counts; rows = λ log stood. (log, same restarts log, rows log stood) } where
   same : (restarts : Bool) (log : Log) → MayBeLeft old restarts log log
   same true log = inl refl
   same false log = refl
+
+-- an event that did not happen was refused by no store
+pub not_refused : (why : RunFault) → IsWhyNotHappened why → is_refusal why ≡ false
+not_refused fault.Memory happened = refl
+not_refused (fault.Load why) happened = absurd happened
+not_refused (fault.Renew why) happened = absurd happened
+not_refused fault.Boxes happened = absurd happened
+
+-- so its store has counted nothing
+pub ended_uncounted : {S : Type 0} (kept : Keeping S) (old left : S) (why : RunFault) → left ≡ old → IsWhyNotHappened why → kept.faults left ≡ counted (is_refusal why) (kept.faults old)
+ended_uncounted kept old left why same happened = ap kept.faults same ∙ ap (λ refused. counted refused (kept.faults old)) (sym (not_refused why happened))

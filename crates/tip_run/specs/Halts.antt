@@ -8,11 +8,11 @@ use Rattle.tip_kept.specs.Keeping.{rows_at}
 use Rattle.tip_machine.specs.States.{State}
 use Rattle.tip_recovery.specs.Adopting.{Recovery, adopted_all, are_for_all}
 use Rattle.tip_rows.specs.Keys.{Key}
-use Rattle.tip_rows.specs.Logs.{Keeping, Log}
+use Rattle.tip_rows.specs.Logs.{Keeping, Log, counted}
 use Rattle.tip_rows.specs.declared.row.Row.{Row}
-use Rattle.tip_stored.specs.Loading.{IsOnTheWay, IsRead, Loads, names_of}
+use Rattle.tip_stored.specs.Loading.{IsOnTheWay, IsRead, Loads, is_refusal_to_load, names_of}
 use Rattle.tip_stored.specs.Recovering.{Recovering, are_for_each}
-use Rattle.tip_stored.specs.Renewing.{IsReasonToDoubt}
+use Rattle.tip_stored.specs.Renewing.{IsReasonToDoubt, is_refused}
 use Rattle.tip_stored.specs.declared.realm_spec.RealmSpec.{RealmSpec}
 use Rattle.tip_stored.specs.declared.renewing.RenewFault.{RenewFault}
 use Rattle.tip_stored.specs.declared.renewing.RenewFault.TheVariants as renewal
@@ -76,9 +76,18 @@ abbrev pub MayBeLeft : {S : Type 0} → Host S → Bool → Log → Log → Type
 MayBeLeft old true log now = (now ≡ log) ⊎ ((specs : List RealmSpec) × AreDeclared old specs × IsOnTheWay (names_of specs) log now)
 MayBeLeft old false log now = now ≡ log
 
--- THE STORE IS HANDED BACK: who relies on it may rely on what it was before the move
-pub record HandsBack {S : Type 0} (kept : Keeping S) (old : Host S) (restarts : Bool) (left : S) : Type 0 where
+-- it is the store that has refused
+abbrev pub is_refusal : RunFault → Bool
+is_refusal (fault.Load why) = is_refusal_to_load why
+is_refusal (fault.Renew why) = is_refused why
+is_refusal fault.Boxes = false
+is_refusal fault.Memory = false
+
+-- THE STORE IS HANDED BACK: who relies on it may rely on what it was before the move, and it has counted a refusal exactly where that
+-- is why the move was not made
+pub record HandsBack {S : Type 0} (kept : Keeping S) (old : Host S) (restarts : Bool) (left : S) (why : RunFault) : Type 0 where
   pub truth : kept.is_true left → kept.is_true old.stored.store
+  pub counts : kept.faults left ≡ counted (is_refusal why) (kept.faults old.stored.store)
   pub rows : (log : Log) → kept.stands old.stored.store log → (now : Log) × MayBeLeft old restarts log now × kept.stands left now
 
 -- A RUN THAT HAS HALTED: all moves before were made, and the next one was not, for a reason; what the pass had noted is handed out,
@@ -90,4 +99,4 @@ pub record HasHalted {S : Type 0} (kept : Keeping S) (old : Running S) (moves : 
   pub next : Move
   pub is_next : slice_get moves (length halt.shown.items) ≡ Some next
   pub why : IsWhyNotMade kept between next halt.store halt.fault
-  pub back : HandsBack kept between.host (is_restart next) halt.store
+  pub back : HandsBack kept between.host (is_restart next) halt.store halt.fault

@@ -63,7 +63,8 @@ impl<S: RowLog + Drop> Running<S> {
         ensures why { IfErr result
             (λ halt. IsWhyNotMade S.keeping self next halt.0.store halt.0.fault) }
         ensures back { IfErr result
-            (λ halt. HandsBack S.keeping self.host (is_restart next) halt.0.store) }
+            (λ halt. HandsBack S.keeping self.host (is_restart next) halt.0.store
+            halt.0.fault) }
         ensures pass { IfErr result (λ halt. halt.1.noted ≡ self.noted) }
         ensures same { OnErr result (shown.new.items ≡ shown.old.items) }
     {
@@ -105,7 +106,7 @@ fn made<S: RowLog + Drop>(
     ensures why { IfErr result (λ stuck. IsWhyNotMade S.keeping
         (at_work host pass.old.noted earlier.old.items) next stuck.store stuck.fault) }
     ensures back { IfErr result
-        (λ stuck. HandsBack S.keeping host (is_restart next) stuck.store) }
+        (λ stuck. HandsBack S.keeping host (is_restart next) stuck.store stuck.fault) }
     ensures pass { OnErr result (pass.new.noted ≡ pass.old.noted) }
 {
     match next {

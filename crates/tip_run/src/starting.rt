@@ -3,9 +3,9 @@ ghost use Rattle.std.specs.Prelude.{◌≡◌, ◌++◌, ◌∷◌, [], List, ma
 ghost use Rattle.tip_branch.specs.Always.{Always};
 ghost use Rattle.tip_honest.specs.Honesty.{Journal};
 ghost use Rattle.tip_host.specs.Entries.{Noted};
-ghost use Rattle.tip_rows.specs.Logs.{Log};
+ghost use Rattle.tip_rows.specs.Logs.{Log, counted};
 ghost use Rattle.tip_stored.specs.Loading.{IsOnTheWay, names_of};
-ghost use Rattle.tip_run.specs.Halts.{HandsBack, IsWhyNotBegun, IsWhyNotRenewed, IsWhyNotRestarted};
+ghost use Rattle.tip_run.specs.Halts.{HandsBack, IsWhyNotBegun, IsWhyNotRenewed, IsWhyNotRestarted, is_refusal};
 ghost use Rattle.tip_run.specs.Moves.{IsRenewed, at_work};
 ghost use Rattle.tip_run.specs.Running.{IsAtRest};
 ghost use Rattle.tip_run.specs.Starts.{HasBoxes, IsBegun, IsRestarted};
@@ -35,7 +35,8 @@ pub(crate) fn restart<S: RowLog + Drop>(
         (earlier.new.items ≡ earlier.old.items ++ host.books.journals ∷ []) }
     ensures why { IfErr result (λ stuck. IsWhyNotRestarted S.keeping host
         (map (λ lots. lots.items) boxes.items) stuck.store stuck.fault) }
-    ensures back { IfErr result (λ stuck. HandsBack S.keeping host true stuck.store) }
+    ensures back { IfErr result
+        (λ stuck. HandsBack S.keeping host true stuck.store stuck.fault) }
 {
     if earlier.reserve(1).is_err() {
         return Err(Stuck::at(host, RunFault::Memory));
@@ -66,6 +67,8 @@ fn begin<S: RowLog + Drop>(
         (map (λ lots. lots.items) boxes.items) stuck.store stuck.fault) }
     ensures truth { IfErr result
         (λ stuck. S.keeping.is_true stuck.store → S.keeping.is_true store) }
+    ensures counts { IfErr result (λ stuck. S.keeping.faults stuck.store
+        ≡ counted (is_refusal stuck.fault) (S.keeping.faults store)) }
     ensures rows { (log : Log) → S.keeping.stands store log → IfErr result (λ stuck. (now : Log)
         × IsOnTheWay (names_of specs.items) log now × S.keeping.stands stuck.store now) }
 {
@@ -110,6 +113,8 @@ pub(crate) fn renew<S: RowLog + Drop>(
         (IsWhyNotRenewed S.keeping host.old realm boxes.items host.new.stored.store) }
     ensures truth { OnErr result (S.keeping.is_true host.new.stored.store →
         S.keeping.is_true host.old.stored.store) }
+    ensures counts { IfErr result (λ why. S.keeping.faults host.new.stored.store
+        ≡ counted (is_refusal why) (S.keeping.faults host.old.stored.store)) }
     ensures rows { (log : Log) → S.keeping.stands host.old.stored.store log →
         OnErr result (S.keeping.stands host.new.stored.store log) }
 {

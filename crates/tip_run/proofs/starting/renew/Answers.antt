@@ -12,6 +12,8 @@ use Rattle.tip_host.specs.Renewals.{IsReason}
 use Rattle.tip_kept.specs.Keeping.{rows_at}
 use Rattle.tip_outbox.specs.Waiting.{waiting}
 use Rattle.tip_recovery.specs.Adopting.{loaded}
+use Rattle.tip_rows.specs.Logs.{counted}
+use Rattle.tip_stored.specs.Renewing.{is_refused}
 use Rattle.tip_table.specs.Kept.{of}
 use Rattle.tip_run.proofs.Begun.{is_there, reads_still}
 use Rattle.tip_run.proofs.starting.renew.Goals as goal
@@ -71,3 +73,17 @@ returns-clause-why g c = (
         λ is. true≢false (sym (c.in-Err-renew.ensures.stopping.0 is) ∙ ap (λ h. h.stored.is_stopped) rest ∙ c.requires.rest.running),
       ),
 )
+
+-- What the store has counted
+
+pub returns-in-Err-clause-counts : goal.returns-in-Err-clause-counts
+returns-in-Err-clause-counts g c = c.in-Err.ensures.store.counts
+
+pub returns-then-not-adopt_all-clause-counts : goal.returns-then-not-adopt_all-clause-counts
+returns-then-not-adopt_all-clause-counts g c = c.in-Ok.ensures.store.counts
+
+pub returns-clause-counts : goal.returns-clause-counts
+returns-clause-counts g c =
+    let there = is_there (realm c.args.host.now.stored.core c.args.realm) c.in-Ok.ensures.here in
+    let now = ap (λ h. realm h.stored.core c.args.realm) c.in-Ok.ensures.rest ∙ there.1 in
+    (c.in-Err-renew.ensures.store there.0 now).counts ∙ ap (λ n. counted (is_refused c.in-Err-renew.fault) n) c.in-Ok.ensures.store.counts

@@ -1,8 +1,9 @@
 -- The host is at rest again behind the move.
-use Rattle.std.proofs.Common.{subst, sym}
+use Rattle.std.proofs.Common.{◌∙◌, ap, subst, sym}
 use Rattle.tip_run.proofs.Begun.{ended_back}
 use Rattle.tip_run.proofs.Made.{wants_memory}
-use Rattle.tip_run.specs.Halts.{HandsBack, IsWhyNotMade}
+use Rattle.tip_rows.specs.Logs.{counted}
+use Rattle.tip_run.specs.Halts.{HandsBack, IsWhyNotMade, is_refusal}
 use Rattle.tip_run.specs.Running.{Running}
 use Rattle.tip_run.specs.Runs.{is_restart}
 use Rattle.tip_run.proofs.MoveKinds.{kind}
@@ -17,8 +18,9 @@ pub returns-then-is_err-clause-back : goal.returns-then-is_err-clause-back
 returns-then-is_err-clause-back g c =
     let kept = g.S.RowLog.keeping in
     let host = c.self.inside.host in
-    subst (λ (self : Running g.row.S.Denot). HandsBack kept self.host (is_restart c.args.next) c.at.result.store) c.self.view_is
-    (ended_back kept host (is_restart c.args.next) c.at.result.store (subst kept.is_true c.at.ensures.store) (λ log. subst (λ s. kept.stands s log) (sym c.at.ensures.store)))
+    subst (λ (self : Running g.row.S.Denot). HandsBack kept self.host (is_restart c.args.next) c.at.result.store c.at.result.fault) c.self.view_is
+    (ended_back kept host (is_restart c.args.next) c.at.result.store c.at.result.fault (subst kept.is_true c.at.ensures.store) (λ log. subst (λ s. kept.stands s log) (sym c.at.ensures.store))
+    (ap kept.faults c.at.ensures.store ∙ ap (λ why. counted (is_refusal why) (kept.faults host.stored.store)) (sym c.at.ensures.fault)))
 
 pub invariant_of-result : goal.invariant_of-result
 invariant_of-result g c =
