@@ -43,7 +43,7 @@ pub fn wrong_row(
 }
 
 /// The epoch of the realm of this name, as it is stored.
-fn epoch_in(realms: &[Known], name: &str) -> Option<i64>
+pub(crate) fn epoch_in(realms: &[Known], name: &str) -> Option<i64>
     ensures { result ≡ epoch_in realms.now name.now }
 {
     let realm = realms.iter().find(|realm| realm.name.as_str() == name)?;
