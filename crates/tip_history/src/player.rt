@@ -3,7 +3,7 @@ ghost use Rattle.std.specs.Prelude.{◌≡◌, List, Some, false, true, IfOk, If
 ghost use Rattle.tip_play.specs.Leaving.{Leaves, LeavesAtFault};
 ghost use Rattle.tip_play.specs.Transcripts.{Transcribes, TranscribesOn, covers_all, in_memory};
 ghost use Rattle.tip_scene.specs.Acts.{Basis};
-ghost use Rattle.tip_scene.specs.Blaming.{Blames, IsBlamed};
+ghost use Rattle.tip_scene.specs.Blaming.{Blames, IsBlamed, Spares};
 ghost use Rattle.tip_scene.specs.Stages.{IsBasis, Trusts};
 ghost use Rattle.tip_history.specs.Histories.{AreWritten};
 ghost use Rattle.tip_history.specs.Tellings.{Tells, TellsOn};
@@ -61,6 +61,7 @@ pub fn play_on<S: RowLog + Drop, R: BufRead, W: Write>(
         IsBasis S.keeping basis store → (script : List ℕ) →
         R.remaining input.old ≡ Some script → covers_all basis script ≡ true →
         Blames S.keeping PlayFault.Store (IsBlamed S.keeping basis store) result }
+    ensures spares { Spares S.keeping PlayFault.Memory store result }
 {
     tip_play::play_on(alloc, store, input, output)
 }

@@ -1,10 +1,10 @@
 -- Why the store is blamed, from one line to the next.
-use Rattle.std.proofs.Common.{◌≡◌, Result, Ok, Err, inl, inr, sym, ap, subst}
+use Rattle.std.proofs.Common.{◌≡◌, ◌∙◌, Result, Ok, Err, inl, inr, sym, ap, subst}
 use Rattle.std.specs.Prelude.{IsErrOf}
 use Rattle.tip_rows.specs.Logs.{Keeping}
 use Rattle.tip_scene.proofs.Blaming.{refused_since}
 use Rattle.tip_scene.specs.Acts.{Basis}
-use Rattle.tip_scene.specs.Blaming.{Accuses, Blames, HasRefused, IsBlamed}
+use Rattle.tip_scene.specs.Blaming.{Accuses, Blames, HasRefused, IsBlamed, Spares}
 use Rattle.tip_scene.specs.Stages.{Trusts}
 use Rattle.tip_play.specs.Endings.{unflushed}
 use Rattle.tip_play.specs.declared.fault.PlayFault.{PlayFault}
@@ -36,3 +36,18 @@ module _ {S : Type 0} (kept : Keeping S) (basis : Basis) where
   blames_unflushed why (Err (fault.Write, store)) blames = blames
   blames_unflushed why (Err (fault.Memory, store)) blames = blames
   blames_unflushed why (Err (fault.Store, store)) blames = blames
+
+-- Memory has ended, and nothing was refused
+
+module _ {S : Type 0} (kept : Keeping S) where
+  pub spares_back : {T : Type 0} (old mid : S) (result : Result T (PlayFault × S)) → kept.faults mid ≡ kept.faults old → Spares kept fault.Memory mid result → Spares kept fault.Memory old result
+  spares_back old mid (Ok x) same spares = tt
+  spares_back old mid (Err why) same spares = λ short. spares short ∙ same
+
+  pub spares_unflushed : (old : S) (result : Result S (PlayFault × S)) → Spares kept fault.Memory old result → Spares kept fault.Memory old (unflushed result)
+  spares_unflushed old (Ok store) spares = λ is. absurd cc
+  spares_unflushed old (Err (fault.Script line, store)) spares = λ is. absurd cc
+  spares_unflushed old (Err (fault.Read, store)) spares = spares
+  spares_unflushed old (Err (fault.Write, store)) spares = spares
+  spares_unflushed old (Err (fault.Memory, store)) spares = spares
+  spares_unflushed old (Err (fault.Store, store)) spares = spares

@@ -5,7 +5,7 @@ ghost use Rattle.tip_branch.specs.Lots.{AreIn};
 ghost use Rattle.tip_branch.specs.declared.branch.Phase.TheVariants.{Active};
 ghost use Rattle.tip_script.specs.Scripts.{move_of};
 ghost use Rattle.tip_scene.specs.Acts.{Basis, Stage as AStage, acted, closing_of, is_covered};
-ghost use Rattle.tip_scene.specs.Blaming.{Blames, HasRefused, IsBlamed};
+ghost use Rattle.tip_scene.specs.Blaming.{Blames, HasRefused, IsBlamed, Spares};
 ghost use Rattle.tip_scene.specs.Boxes.{AreWilling};
 ghost use Rattle.tip_scene.specs.Leaving.{LeavesOthers, names_in};
 ghost use Rattle.tip_rows.specs.Logs.{Log};
@@ -83,6 +83,7 @@ pub fn play_on<S: RowLog + Drop, R: BufRead, W: Write>(
         IsBasis S.keeping basis store → (script : List ℕ) →
         R.remaining input.old ≡ Some script → covers_all basis script ≡ true →
         Blames S.keeping PlayFault.Store (IsBlamed S.keeping basis store) result }
+    ensures spares { Spares S.keeping PlayFault.Memory store result }
 {
     play_over(alloc, store, &ByItself, input, output)
 }
@@ -114,6 +115,7 @@ fn play_over<S: RowLog + Drop, F: Refuser<S>, R: BufRead, W: Write>(
         IsBasis S.keeping basis store → (script : List ℕ) →
         R.remaining input.old ≡ Some script → covers_all basis script ≡ true →
         Blames S.keeping PlayFault.Store (IsBlamed S.keeping basis store) result }
+    ensures spares { F.may ≡ false → Spares S.keeping PlayFault.Memory store result }
 {
     let end = play_lines(alloc, store, refuser, input, output);
     match output.flush() {
@@ -159,6 +161,7 @@ fn play_lines<S: RowLog + Drop, F: Refuser<S>, R: BufRead, W: Write>(
         IsBasis S.keeping basis store → (script : List ℕ) →
         R.remaining input.old ≡ Some script → covers_all basis script ≡ true →
         Blames S.keeping PlayFault.Store (IsBlamed S.keeping basis store) result }
+    ensures spares { F.may ≡ false → Spares S.keeping PlayFault.Memory store result }
 {
     let Ok(mut line) = ScriptLine::new(alloc) else {
         return Err((PlayFault::Memory, store));
@@ -251,6 +254,8 @@ fn next<S: RowLog + Drop, R: BufRead>(
         S.keeping.stands (store_of stage.new) log }
     ensures counts { OnOk result (S.keeping.faults (store_of stage.new)
         ≡ S.keeping.faults (store_of stage.old)) }
+    ensures spared { IsErrOf result PlayFault.Memory →
+        S.keeping.faults (store_of stage.new) ≡ S.keeping.faults (store_of stage.old) }
     ensures blames { (basis : Basis) (now : AStage) →
         IsStage S.keeping basis stage.old now → IsErrOf result PlayFault.Store →
         S.keeping.is_true (store_of stage.new) →
@@ -332,6 +337,7 @@ fn act<S: RowLog + Drop, F: Refuser<S>, W: Write>(
         LeavesAtLine S.keeping basis now line.now stage result }
     ensures counts { F.may ≡ false → IfOk result (λ now. S.keeping.faults (store_of now)
         ≡ S.keeping.faults (store_of stage)) }
+    ensures spares { F.may ≡ false → Spares S.keeping PlayFault.Memory (store_of stage) result }
     ensures blames { F.may ≡ false → (basis : Basis) (now : AStage) →
         IsStage S.keeping basis stage now →
         wanted_by basis now (move_of line.now) ≤ length pool.old.items →
@@ -375,6 +381,7 @@ fn finish<S: RowLog + Drop, W: Write>(
     ensures blames { (basis : Basis) (now : AStage) → IsStage S.keeping basis stage now →
         wanted_at_start basis now ≤ length pool.old.items →
         Blames S.keeping PlayFault.Store (IsBlamed S.keeping basis (store_of stage)) result }
+    ensures spares { Spares S.keeping PlayFault.Memory (store_of stage) result }
 {
     printed.clear();
     match stage.finish(alloc, pool, printed) {

@@ -29,7 +29,7 @@ use Rattle.tip_core.specs.Hosted.{realm}
 use Rattle.tip_machine.specs.States.{State, started}
 use Rattle.tip_scene.proofs.Again.{after, boxes_of_recovery, boxes_of_rows, boxes_unadopted, mapped_at, same_lists, unmapped_at}
 use Rattle.tip_scene.specs.Acts.{Basis, Declaring, Playing, Stage}
-use Rattle.tip_scene.specs.Blaming.{Accuses, AreUnread, Blames, CannotStart, HasRefused, IsAtFault, IsBlamed, IsNotRenewed, judged, specs_in}
+use Rattle.tip_scene.specs.Blaming.{Accuses, AreUnread, Blames, CannotStart, HasRefused, IsAtFault, IsBlamed, IsNotRenewed, Spares, blamed, judged, specs_in}
 use Rattle.tip_scene.specs.Boxes.{box_count, boxes_for, branch_count, row_count}
 use Rattle.tip_scene.specs.Faults.{of_act_fault}
 use Rattle.tip_scene.specs.Rising.{AreWaiting, IsWilling}
@@ -79,6 +79,46 @@ module _ {S : Type 0} (kept : Keeping S) (old new : S) (may : Bool) (before afte
     by false true off (Err line.Memory) is = absurd cc
     by false true off (Err line.Store) is = absurd cc
 
+  -- one that has ended for want of memory was refused nothing
+  pub judged_spares : may ≡ false → before ≡ kept.faults old → after ≡ kept.faults new → judged may (before == after) end ≡ Err line.Memory → kept.faults new ≡ kept.faults old
+  judged_spares off was now short = by may (before == after) off refl end short where
+    by : (m same : Bool) → m ≡ false → (before == after) ≡ same → (end : Result (Unit {0}) LineFault) → judged m same end ≡ Err line.Memory → kept.faults new ≡ kept.faults old
+    by true same off e end is = absurd (false≢true (sym off))
+    by false true off e end is = sym now ∙ sym ((unsigned_Decides before after).0 e) ∙ was
+    by false false off e (Ok done) is = absurd cc
+    by false false off e (Err line.NotUnderstood) is = absurd cc
+    by false false off e (Err line.Memory) is = absurd cc
+    by false false off e (Err line.Store) is = absurd cc
+
+-- What a fault says by the count
+
+module _ {S : Type 0} (kept : Keeping S) (old new : S) (may : Bool) (before after : ℕ) (off : may ≡ false) (was : before ≡ kept.faults old) (now : after ≡ kept.faults new) where
+  -- it blamed the store before, or the store has refused
+  pub blamed_for : (why : LineFault) → blamed may (before == after) why ≡ line.Store → (why ≡ line.Store) ⊎ HasRefused kept old new
+  blamed_for why is = by may (before == after) off refl why is where
+    by : (m same : Bool) → m ≡ false → (before == after) ≡ same → (why : LineFault) → blamed m same why ≡ line.Store → (why ≡ line.Store) ⊎ HasRefused kept old new
+    by true same off e why is = absurd (false≢true (sym off))
+    by false true off e why is = inl is
+    by false false off e line.NotUnderstood is = absurd cc
+    by false false off e line.Memory is = inr (λ same. false≢true (sym e ∙ (unsigned_Decides before after).1 (was ∙ sym same ∙ sym now)))
+    by false false off e line.Store is = inl refl
+
+  pub blamed_spares : (why : LineFault) → blamed may (before == after) why ≡ line.Memory → kept.faults new ≡ kept.faults old
+  blamed_spares why short = by may (before == after) off refl why short where
+    by : (m same : Bool) → m ≡ false → (before == after) ≡ same → (why : LineFault) → blamed m same why ≡ line.Memory → kept.faults new ≡ kept.faults old
+    by true same off e why is = absurd (false≢true (sym off))
+    by false true off e why is = sym now ∙ sym ((unsigned_Decides before after).0 e) ∙ was
+    by false false off e line.NotUnderstood is = absurd cc
+    by false false off e line.Memory is = absurd cc
+    by false false off e line.Store is = absurd cc
+
+pub blamed_not : (may same : Bool) (why : LineFault) → blamed may same why ≡ line.NotUnderstood → why ≡ line.NotUnderstood
+blamed_not true same why is = is
+blamed_not false true why is = is
+blamed_not false false line.NotUnderstood is = refl
+blamed_not false false line.Memory is = absurd cc
+blamed_not false false line.Store is = absurd cc
+
 -- one that may not stand here is none that the store is to blame for
 pub judged_not : (may same : Bool) (end : Result (Unit {0}) LineFault) → judged may same end ≡ Err line.NotUnderstood → end ≡ Err line.NotUnderstood
 judged_not true same end is = is
@@ -87,7 +127,9 @@ judged_not false true (Err line.NotUnderstood) is = refl
 judged_not false true (Err line.Memory) is = absurd cc
 judged_not false true (Err line.Store) is = absurd cc
 judged_not false false (Ok done) is = absurd cc
-judged_not false false (Err fault) is = is
+judged_not false false (Err line.NotUnderstood) is = refl
+judged_not false false (Err line.Memory) is = absurd cc
+judged_not false false (Err line.Store) is = absurd cc
 
 -- what was done is what it was
 pub serves_judged : {S : Type 0} (kept : Keeping S) (printed printed' : List ℕ) (moved : Moved) (playing : APlaying S) (may same : Bool) (end : Result (Unit {0}) LineFault) → Serves kept printed printed' moved playing end → Serves kept printed printed' moved playing (judged may same end)
@@ -97,7 +139,15 @@ serves_judged kept printed printed' moved playing false true (Err line.NotUnders
 serves_judged kept printed printed' moved playing false true (Err line.Memory) serves = tt
 serves_judged kept printed printed' moved playing false true (Err line.Store) serves = tt
 serves_judged kept printed printed' moved playing false false (Ok done) serves = tt
-serves_judged kept printed printed' moved playing false false (Err why) serves = serves
+serves_judged kept printed printed' moved playing false false (Err line.NotUnderstood) serves = serves
+serves_judged kept printed printed' moved playing false false (Err line.Memory) serves = tt
+serves_judged kept printed printed' moved playing false false (Err line.Store) serves = tt
+
+-- a fault that is no word on the line says nothing of what it did
+pub serves_not : {S : Type 0} (kept : Keeping S) (printed printed' : List ℕ) (moved : Moved) (playing : APlaying S) (why : LineFault) → (why ≡ line.NotUnderstood → ⊥) → Serves kept printed printed' moved playing (Err why)
+serves_not kept printed printed' moved playing line.NotUnderstood known = absurd (known refl)
+serves_not kept printed printed' moved playing line.Memory known = tt
+serves_not kept printed printed' moved playing line.Store known = tt
 
 pub serves_when : {S : Type 0} (kept : Keeping S) (printed printed' : List ℕ) (moved : Moved) (playing : APlaying S) {A : Type 0} (result : Result (Unit {0}) LineFault) → (IsErrOf result line.NotUnderstood → ⊥) → OnOk result A → (A → IsMoved kept playing.stored_core playing.actors.items printed printed' moved) → Serves kept printed printed' moved playing result
 serves_when kept printed printed' moved playing (Ok done) understood on_ok moves = moves on_ok
@@ -198,6 +248,10 @@ pub renew_blamed : {S : Type 0} (kept : Keeping S) (old new : S) (scene : Scene)
 renew_blamed kept old new scene place acting here (inl since) = inl since
 renew_blamed kept old new scene place acting here (inr unfit) = inr (inr (place, acting, here, unfit))
 
+pub blamed_at_fault : {S : Type 0} (kept : Keeping S) (old new : S) (now : Stage) (why : LineFault) → (why ≡ line.Store) ⊎ HasRefused kept old new → (why ≡ line.Store → IsAtFault kept old now new) → IsAtFault kept old now new
+blamed_at_fault kept old new now why (inl is) so = so is
+blamed_at_fault kept old new now why (inr since) so = inl since
+
 -- who declares a realm asks no store
 pub never_asked : (more : Option (List Declaration)) (now : List Declaration) (result : Result (Unit {0}) LineFault) (why : LineFault) → Declares more now result → result ≡ Err why → why ≡ line.Store → ⊥
 never_asked more now result why declares is same = subst (Declares more now) (is ∙ ap Err same) declares
@@ -206,9 +260,25 @@ pub act_store : (fault : ActFault) → of_act_fault fault ≡ line.Store → fau
 act_store act.Memory is = absurd cc
 act_store act.Store is = refl
 
+pub act_memory : (fault : ActFault) → of_act_fault fault ≡ line.Memory → fault ≡ act.Memory
+act_memory act.Memory is = refl
+act_memory act.Store is = absurd cc
+
 pub act_known : (fault : ActFault) → of_act_fault fault ≡ line.NotUnderstood → ⊥
 act_known act.Memory is = absurd cc
 act_known act.Store is = absurd cc
+
+-- Where memory ended nothing was refused
+
+spared_load : (fault : LoadFault) → of_load_fault fault ≡ act.Memory → is_refusal_to_load fault ≡ false
+spared_load load.Refused is = absurd cc
+spared_load load.EpochEnd is = absurd cc
+spared_load load.BadRow is = absurd cc
+spared_load load.Memory is = refl
+spared_load load.BadRealm is = absurd cc
+
+pub start_spares : {S : Type 0} (kept : Keeping S) (old new : S) (fault : LoadFault) → kept.faults new ≡ counted (is_refusal_to_load fault) (kept.faults old) → of_load_fault fault ≡ act.Memory → kept.faults new ≡ kept.faults old
+start_spares kept old new fault counts is = counts ∙ ap (λ refused. counted refused (kept.faults old)) (spared_load fault is)
 
 -- a restart keeps the rows
 pub boxes_again : (scene : Scene) → box_count None (map after scene) ≡ box_count None scene
@@ -227,6 +297,10 @@ module _ {S : Type 0} (kept : Keeping S) where
     pub risen_trusts : (old : S) (result : Result T (ActFault × S)) → IfOk result (λ x. store x ≡ mid) → IfErr result (λ fault. fault.1 ≡ mid) → (kept.is_true mid → kept.is_true old) → Trusts kept old store result
     risen_trusts old (Ok x) same back trusts = λ truth. trusts (subst kept.is_true same truth)
     risen_trusts old (Err fault) same back trusts = λ truth. trusts (subst kept.is_true back truth)
+
+    pub risen_spares : (old : S) (result : Result T (ActFault × S)) → IfErr result (λ fault. fault.1 ≡ mid) → kept.faults mid ≡ kept.faults old → Spares kept act.Memory old result
+    risen_spares old (Ok x) back same = tt
+    risen_spares old (Err fault) back same = λ short. ap kept.faults back ∙ same
 
     pub risen_so : (P : T → Type 0) (result : Result T (ActFault × S)) → IfOk result (λ x. store x ≡ mid) → (kept.is_true mid → IfOk result P) → IfOk result (λ x. kept.is_true (store x) → P x)
     risen_so P (Ok x) same all = λ truth. all (subst kept.is_true same truth)

@@ -30,8 +30,16 @@ WasSpoiled kept old new name = (log : Log) → kept.stands old log → kept.is_t
 abbrev pub AreUnread : {S : Type 0} → Keeping S → S → S → List (List ℕ) → Type 0
 AreUnread kept old new names = HasRefused kept old new ⊎ ((place : ℕ) × (name : List ℕ) × (slice_get names place ≡ Some name) × WasSpoiled kept old new name)
 
--- how a line has ended over a store that may be asked to refuse or not, whose count of refusals is the same or has changed: where it
--- may not, it is to blame exactly for a change
+-- a fault over a store that may be asked to refuse or not, whose count of refusals is the same or has changed: where it may not, a
+-- change is its refusal, and no want of memory
+abbrev pub blamed : Bool → Bool → LineFault → LineFault
+blamed true same fault = fault
+blamed false true fault = fault
+blamed false false line.NotUnderstood = line.NotUnderstood
+blamed false false line.Memory = line.Store
+blamed false false line.Store = line.Store
+
+-- how a line has ended over such a store: where it may not be asked, it is to blame exactly for a change
 abbrev pub judged : Bool → Bool → Result (Unit {0}) LineFault → Result (Unit {0}) LineFault
 judged true same end = end
 judged false true (Ok done) = Ok done
@@ -39,7 +47,7 @@ judged false true (Err line.NotUnderstood) = Err line.NotUnderstood
 judged false true (Err line.Memory) = Err line.Memory
 judged false true (Err line.Store) = Err line.Memory
 judged false false (Ok done) = Err line.Store
-judged false false (Err fault) = Err fault
+judged false false (Err fault) = Err (blamed false false fault)
 
 -- Realms that can't start, though no call was refused
 
@@ -104,3 +112,8 @@ Accuses kept blame why fault = fault.0 ≡ blame → kept.is_true fault.1 → wh
 abbrev pub Blames : {S T E : Type 0} → Keeping S → E → (S → Type 0) → Result T (E × S) → Type 0
 Blames kept blame why (Ok x) = Unit {0}
 Blames kept blame why (Err fault) = Accuses kept blame why fault
+
+-- WANT OF MEMORY IS NO WORD FOR A REFUSAL: where a fault says it, the store has refused nothing since
+abbrev pub Spares : {S T E : Type 0} → Keeping S → E → S → Result T (E × S) → Type 0
+Spares kept memory old (Ok x) = Unit {0}
+Spares kept memory old (Err fault) = fault.0 ≡ memory → kept.faults fault.1 ≡ kept.faults old

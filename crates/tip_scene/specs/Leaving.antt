@@ -1,5 +1,5 @@
 -- What a script leaves in its store.
-use Rattle.std.specs.Prelude.{◌≡◌, ◌⊎◌, ℕ, zero, suc, ◌+◌, List, [], map, Bool, false, true, Option, Some, None, Result, Ok, Err, slice_get, slice_set, if◌then◌else◌}
+use Rattle.std.specs.Prelude.{◌≡◌, ◌⊎◌, ℕ, zero, suc, ◌+◌, List, [], map, Bool, false, true, not, ◌&&◌, ◌||◌, Option, Some, None, Result, Ok, Err, slice_get, slice_set, if◌then◌else◌}
 use Rattle.std.specs.List.{list_any}
 use Rattle.std.specs.Str.{bytes_eq}
 use Rattle.tip_rows.specs.Keys.{Key}
@@ -120,14 +120,17 @@ HaltsIn kept move realm scene old new = (count : ℕ) × HaveBecome kept 0 scene
 abbrev pub HaltsAtWork : {S : Type 0} → Keeping S → Scene → Move → S → S → Type 0
 HaltsAtWork kept scene move old new = ((count : ℕ) × HaveBecome kept 0 scene (front count move scene) old new) ⊎ ((realm_of move ≡ None) × MayAllRise kept 0 scene old new)
 
--- have the realms started, or do they by this line?
-abbrev pub is_begun : Stage → Move → Bool
-is_begun (Declaring declarations) move = is_starting move
-is_begun (Playing scene) move = true
+-- have the realms started?
+abbrev pub has_begun : Stage → Bool
+has_begun (Declaring declarations) = false
+has_begun (Playing scene) = true
 
+-- do they start by this line, and have they started behind it?
 abbrev pub is_first_start : Stage → Move → Bool
-is_first_start (Declaring declarations) move = is_starting move
-is_first_start (Playing scene) move = false
+is_first_start stage move = not (has_begun stage) && is_starting move
+
+abbrev pub is_begun : Stage → Move → Bool
+is_begun stage move = has_begun stage || is_starting move
 
 -- how often they start before they do what a line says
 abbrev pub starts_before : Stage → ℕ

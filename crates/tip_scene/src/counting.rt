@@ -1,6 +1,6 @@
 //! How many boxes the rows of realms want that start.
 ghost use Rattle.std.specs.Prelude.{◌≡◌, ◌+◌, List, ℕ, [], ◌∷◌, map, option_map, IfOk, IsErrOf, OnOk};
-ghost use Rattle.tip_actor.specs.declared.fault.ActFault.TheVariants.{Store};
+ghost use Rattle.tip_actor.specs.declared.fault.ActFault.TheVariants.{Memory, Store};
 ghost use Rattle.tip_rows.specs.Keys.{Key as AKey};
 ghost use Rattle.tip_rows.specs.Logs.{IsPart, Log};
 ghost use Rattle.tip_rows.specs.declared.row.Row.{Row as ARow};
@@ -26,6 +26,8 @@ pub(crate) fn count_declared<S: RowLog + Drop>(
     ensures due { (r : List ℕ) → S.keeping.is_due store.new r ≡ S.keeping.is_due store.old r }
     ensures truth { S.keeping.is_true store.new → S.keeping.is_true store.old }
     ensures counts { OnOk result (S.keeping.faults store.new ≡ S.keeping.faults store.old) }
+    ensures spared { IsErrOf result Memory →
+        S.keeping.faults store.new ≡ S.keeping.faults store.old }
     ensures unread { IsErrOf result Store → AreUnread S.keeping store.old store.new
         (map (λ declaration. declaration.name) declarations.now) }
     ensures wanted { (scene : Scene) →
@@ -51,6 +53,8 @@ pub(crate) fn count_acting<S: RowLog + Drop>(
     ensures due { (r : List ℕ) → S.keeping.is_due store.new r ≡ S.keeping.is_due store.old r }
     ensures truth { S.keeping.is_true store.new → S.keeping.is_true store.old }
     ensures counts { OnOk result (S.keeping.faults store.new ≡ S.keeping.faults store.old) }
+    ensures spared { IsErrOf result Memory →
+        S.keeping.faults store.new ≡ S.keeping.faults store.old }
     ensures unread { IsErrOf result Store → AreUnread S.keeping store.old store.new
         (map (λ actor. actor.name) actors.now) }
     ensures wanted { (scene : Scene) → AreNamed (map (λ actor. actor.name) actors.now) scene →
@@ -76,6 +80,8 @@ fn count_more<S: RowLog + Drop>(
     ensures due { (r : List ℕ) → S.keeping.is_due store.new r ≡ S.keeping.is_due store.old r }
     ensures truth { S.keeping.is_true store.new → S.keeping.is_true store.old }
     ensures counts { OnOk result (S.keeping.faults store.new ≡ S.keeping.faults store.old) }
+    ensures spared { IsErrOf result Memory →
+        S.keeping.faults store.new ≡ S.keeping.faults store.old }
     ensures unread { IsErrOf result Store → AreUnread S.keeping store.old store.new
         (realm.now ∷ []) }
     ensures wanted { (log : Log) (epoch : ℕ) (rows : List (AKey × ARow)) →

@@ -5,7 +5,7 @@ ghost use Rattle.tip_branch.specs.Always.{Always};
 ghost use Rattle.tip_line.specs.Fields.{fields_of};
 ghost use Rattle.tip_line.specs.Words.{is_address, is_realm};
 ghost use Rattle.tip_scene.specs.Acts.{Basis, Declaring as Begins, declaration_of, declared, is_count, is_declared, is_other, labelled, scene_of, starts_text, with_labels};
-ghost use Rattle.tip_scene.specs.Blaming.{Blames, HasRefused, IsAtFault};
+ghost use Rattle.tip_scene.specs.Blaming.{Blames, HasRefused, IsAtFault, Spares};
 ghost use Rattle.tip_scene.specs.Boxes.{AreWilling, box_count};
 ghost use Rattle.tip_scene.specs.Hosting.{may_be_hosted};
 ghost use Rattle.tip_rows.specs.Logs.{Log};
@@ -133,6 +133,7 @@ impl<S: RowLog + Drop> Declared<S, Core> {
             OthersStay S.keeping 1 names self.store playing.stored_core.store) }
         ensures counts { IfOk result (λ playing. S.keeping.faults playing.stored_core.store
             ≡ S.keeping.faults self.store) }
+        ensures spares { Spares S.keeping ActFault.Memory self.store result }
         ensures blames { (basis : Basis) (declarations : List Declaration) →
             IsDeclared S.keeping basis self declarations →
             box_count None (scene_of basis declarations) ≤ length pool.old.items →
@@ -181,6 +182,8 @@ impl<S: RowLog + Drop> Declared<S, Core> {
             S.keeping.stands self.new.store log }
         ensures counts { OnOk result (S.keeping.faults self.new.store
             ≡ S.keeping.faults self.old.store) }
+        ensures spared { IsErrOf result ActFault.Memory →
+            S.keeping.faults self.new.store ≡ S.keeping.faults self.old.store }
         ensures blames { (basis : Basis) (declarations : List Declaration) →
             IsDeclared S.keeping basis self.old declarations → IsErrOf result ActFault.Store →
             S.keeping.is_true self.new.store →

@@ -10,7 +10,7 @@ ghost use Rattle.tip_script.specs.Scripts.{Renew as Renews, is_start, plans_with
 ghost use Rattle.tip_branch.specs.Lots.{AreIn};
 ghost use Rattle.tip_branch.specs.declared.branch.Phase.TheVariants.{Active};
 ghost use Rattle.tip_scene.specs.Acts.{Playing as AtWork, may_say};
-ghost use Rattle.tip_scene.specs.Blaming.{Blames, HasRefused, IsAtFault, judged};
+ghost use Rattle.tip_scene.specs.Blaming.{Blames, HasRefused, IsAtFault, Spares, blamed, judged};
 ghost use Rattle.tip_scene.specs.Boxes.{AreWilling, box_count};
 ghost use Rattle.tip_scene.specs.Leaving.{HaltsAtWork, HaltsIn, LeavesRest};
 ghost use Rattle.tip_rows.specs.Logs.{Log};
@@ -74,6 +74,8 @@ impl<S: RowLog + Drop> Playing<StoredCore<S>, Actor> {
         ensures counts { R.may ≡ false →
             IfOk result (λ playing. S.keeping.faults playing.stored_core.store
             ≡ S.keeping.faults self.stored_core.store) }
+        ensures spares { R.may ≡ false →
+            Spares S.keeping LineFault.Memory self.stored_core.store result }
         ensures blames { R.may ≡ false → (scene : Scene) →
             IsScene S.keeping self.stored_core self.actors.items scene →
             wanted_again (move_by instruction.entry) scene ≤ length pool.old.items →
@@ -130,6 +132,9 @@ impl<S: RowLog + Drop> Playing<StoredCore<S>, Actor> {
             OnOk result (LeavesRest S.keeping self.old self.new) }
         ensures counts { R.may ≡ false → OnOk result (S.keeping.faults self.new.stored_core.store
             ≡ S.keeping.faults self.old.stored_core.store) }
+        ensures spared { R.may ≡ false → IsErrOf result LineFault.Memory →
+            S.keeping.faults self.new.stored_core.store
+            ≡ S.keeping.faults self.old.stored_core.store }
         ensures blames { R.may ≡ false → (scene : Scene) → IsScene S.keeping
             self.old.stored_core self.old.actors.items scene →
             wanted_again (move_by instruction.entry) scene ≤ length pool.old.items →
@@ -179,6 +184,9 @@ impl<S: RowLog + Drop> Playing<StoredCore<S>, Actor> {
             OnOk result (LeavesRest S.keeping self.old self.new) }
         ensures counts { R.may ≡ false → OnOk result (S.keeping.faults self.new.stored_core.store
             ≡ S.keeping.faults self.old.stored_core.store) }
+        ensures spared { R.may ≡ false → IsErrOf result LineFault.Memory →
+            S.keeping.faults self.new.stored_core.store
+            ≡ S.keeping.faults self.old.stored_core.store }
         ensures blames { R.may ≡ false → (scene : Scene) → IsScene S.keeping
             self.old.stored_core self.old.actors.items scene →
             box_count (Some name.now) scene ≤ length pool.old.items →
@@ -198,15 +206,17 @@ impl<S: RowLog + Drop> Playing<StoredCore<S>, Actor> {
             return Ok(());
         };
         let stored_core = &mut self.stored_core;
+        let may = refuser.may_refuse();
         let before = stored_core.store.faults();
-        renew(actor, alloc, stored_core, place, pool, printed)?;
+        match renew(actor, alloc, stored_core, place, pool, printed) {
+            Ok(()) => {}
+            Err(fault) => {
+                let after = stored_core.store.faults();
+                return Err(blamed(LineFault::from(fault), may, before, after));
+            }
+        }
         let end = settle(actor, alloc, stored_core, place, printed);
-        judge(
-            end,
-            refuser.may_refuse(),
-            before,
-            stored_core.store.faults(),
-        )
+        judge(end, may, before, stored_core.store.faults())
     }
 
     /// Does what a line says that is of this realm, and starts none again. Its fault is judged by the store's count.
@@ -239,6 +249,9 @@ impl<S: RowLog + Drop> Playing<StoredCore<S>, Actor> {
             OnOk result (LeavesRest S.keeping self.old self.new) }
         ensures counts { R.may ≡ false → OnOk result (S.keeping.faults self.new.stored_core.store
             ≡ S.keeping.faults self.old.stored_core.store) }
+        ensures spared { R.may ≡ false → IsErrOf result LineFault.Memory →
+            S.keeping.faults self.new.stored_core.store
+            ≡ S.keeping.faults self.old.stored_core.store }
         ensures blames { R.may ≡ false → IsErrOf result LineFault.Store →
             HasRefused S.keeping self.old.stored_core.store self.new.stored_core.store }
         ensures stays { IsErrOf result LineFault.NotUnderstood →
@@ -326,6 +339,9 @@ impl<S: RowLog + Drop> Playing<StoredCore<S>, Actor> {
             S.keeping.stands self.new.stored_core.store log }
         ensures counts { OnOk result (S.keeping.faults self.new.stored_core.store
             ≡ S.keeping.faults self.old.stored_core.store) }
+        ensures spared { IsErrOf result ActFault.Memory →
+            S.keeping.faults self.new.stored_core.store
+            ≡ S.keeping.faults self.old.stored_core.store }
         ensures blames { (scene : Scene) → IsScene S.keeping
             self.old.stored_core self.old.actors.items scene → IsErrOf result ActFault.Store →
             S.keeping.is_true self.new.stored_core.store →
@@ -358,6 +374,17 @@ impl<S: RowLog + Drop> Playing<StoredCore<S>, Actor> {
     }
 }
 
+/// What has ended a line, by the count that its store keeps of the calls that it refused: where nobody can ask the store to refuse,
+/// and it has, that is no want of memory.
+fn blamed(fault: LineFault, may_refuse: bool, before: u64, after: u64) -> LineFault
+    ensures { result ≡ blamed may_refuse (before == after) fault }
+{
+    match fault {
+        LineFault::Memory if !may_refuse && before != after => LineFault::Store,
+        _ => fault,
+    }
+}
+
 /// How a line has ended, by the count that its store keeps of the calls that it refused: a store that nobody can ask to refuse is to
 /// blame where it has refused one, and nowhere else.
 fn judge(
@@ -373,8 +400,9 @@ fn judge(
     }
     match end {
         Ok(()) if before != after => Err(LineFault::Store),
+        Ok(()) => Ok(()),
         Err(LineFault::Store) if before == after => Err(LineFault::Memory),
-        _ => end,
+        Err(fault) => Err(blamed(fault, may_refuse, before, after)),
     }
 }
 

@@ -6,7 +6,7 @@ ghost use Rattle.tip_core.specs.Hosted.{realm as realm_at};
 ghost use Rattle.tip_stored.specs.Loading.{spec_of as spec_of_head};
 ghost use Rattle.tip_machine.specs.States.{State};
 ghost use Rattle.tip_scene.specs.Acts.{Playing as AtWork};
-ghost use Rattle.tip_scene.specs.Blaming.{Blames, IsAtFault};
+ghost use Rattle.tip_scene.specs.Blaming.{Blames, IsAtFault, Spares};
 ghost use Rattle.tip_scene.specs.Boxes.{AreWilling, box_count};
 ghost use Rattle.tip_scene.specs.Leaving.{LeavesRest, MayAllRise};
 ghost use Rattle.tip_scene.specs.Rising.{AreAgain, AreWaiting};
@@ -43,6 +43,7 @@ pub(crate) fn restart<S: RowLog + Drop>(
         LeavesRest S.keeping playing again) }
     ensures counts { IfOk result (λ again. S.keeping.faults again.stored_core.store
         ≡ S.keeping.faults playing.stored_core.store) }
+    ensures spares { Spares S.keeping LineFault.Memory playing.stored_core.store result }
     ensures blames { (scene : Scene) →
         IsScene S.keeping playing.stored_core playing.actors.items scene →
         box_count None scene ≤ length pool.old.items → Blames S.keeping LineFault.Store

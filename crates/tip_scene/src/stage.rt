@@ -7,7 +7,7 @@ ghost use Rattle.tip_scene.specs.Acts.{Basis, Stage as AStage, Declaring as Begi
 ghost use Rattle.tip_branch.specs.Lots.{AreIn};
 ghost use Rattle.tip_branch.specs.declared.branch.Phase.TheVariants.{Active};
 ghost use Rattle.std.specs.List.{list_all};
-ghost use Rattle.tip_scene.specs.Blaming.{Blames, HasRefused, IsBlamed, starting_from};
+ghost use Rattle.tip_scene.specs.Blaming.{Blames, HasRefused, IsBlamed, Spares, starting_from};
 ghost use Rattle.tip_scene.specs.Boxes.{AreWilling, box_count};
 ghost use Rattle.tip_scene.specs.Hosting.{may_be_hosted};
 ghost use Rattle.tip_rows.specs.Logs.{Log};
@@ -77,6 +77,8 @@ impl<S: RowLog + Drop> Stage<Declared<S>, Playing<StoredCore<S>>> {
             LeavesOthers S.keeping self now) }
         ensures counts { R.may ≡ false → IfOk result (λ now. S.keeping.faults (store_of now)
             ≡ S.keeping.faults (store_of self)) }
+        ensures spares { R.may ≡ false →
+            Spares S.keeping LineFault.Memory (store_of self) result }
         ensures blames { R.may ≡ false → (basis : Basis) (stage : AStage) →
             IsStage S.keeping basis self stage →
             wanted_by basis stage (move_of line.now) ≤ length pool.old.items →
@@ -126,6 +128,7 @@ impl<S: RowLog + Drop> Stage<Declared<S>, Playing<StoredCore<S>>> {
             IsStage S.keeping basis self stage →
             wanted_at_start basis stage ≤ length pool.old.items →
             Blames S.keeping ActFault.Store (IsBlamed S.keeping basis (store_of self)) result }
+        ensures spares { Spares S.keeping ActFault.Memory (store_of self) result }
         ensures halts { (basis : Basis) (stage : AStage) → IsStage S.keeping basis self stage →
             IfErr result (λ fault. HaltsAtEnd S.keeping stage (store_of self) fault.1) }
     {
@@ -163,6 +166,8 @@ impl<S: RowLog + Drop> Stage<Declared<S>, Playing<StoredCore<S>>> {
             S.keeping.stands (store_of self.new) log }
         ensures counts { OnOk result (S.keeping.faults (store_of self.new)
             ≡ S.keeping.faults (store_of self.old)) }
+        ensures spared { IsErrOf result ActFault.Memory →
+            S.keeping.faults (store_of self.new) ≡ S.keeping.faults (store_of self.old) }
         ensures blames { (basis : Basis) (stage : AStage) →
             IsStage S.keeping basis self.old stage → IsErrOf result ActFault.Store →
             S.keeping.is_true (store_of self.new) →
@@ -196,6 +201,8 @@ impl<S: RowLog + Drop> Stage<Declared<S>, Playing<StoredCore<S>>> {
             S.keeping.stands (store_of self.new) log }
         ensures counts { OnOk result (S.keeping.faults (store_of self.new)
             ≡ S.keeping.faults (store_of self.old)) }
+        ensures spared { IsErrOf result ActFault.Memory →
+            S.keeping.faults (store_of self.new) ≡ S.keeping.faults (store_of self.old) }
         ensures blames { (basis : Basis) (stage : AStage) →
             IsStage S.keeping basis self.old stage → IsErrOf result ActFault.Store →
             S.keeping.is_true (store_of self.new) →
@@ -225,6 +232,8 @@ impl<S: RowLog + Drop> Stage<Declared<S>, Playing<StoredCore<S>>> {
             S.keeping.stands (store_of self.new) log }
         ensures counts { OnOk result (S.keeping.faults (store_of self.new)
             ≡ S.keeping.faults (store_of self.old)) }
+        ensures spared { IsErrOf result ActFault.Memory →
+            S.keeping.faults (store_of self.new) ≡ S.keeping.faults (store_of self.old) }
         ensures blames { (basis : Basis) (stage : AStage) →
             IsStage S.keeping basis self.old stage → IsErrOf result ActFault.Store →
             S.keeping.is_true (store_of self.new) →
@@ -257,6 +266,8 @@ impl<S: RowLog + Drop> Stage<Declared<S>, Playing<StoredCore<S>>> {
             S.keeping.stands (store_of self.new) log }
         ensures counts { OnOk result (S.keeping.faults (store_of self.new)
             ≡ S.keeping.faults (store_of self.old)) }
+        ensures spared { IsErrOf result ActFault.Memory →
+            S.keeping.faults (store_of self.new) ≡ S.keeping.faults (store_of self.old) }
         ensures blames { (basis : Basis) (stage : AStage) →
             IsStage S.keeping basis self.old stage → IsErrOf result ActFault.Store →
             S.keeping.is_true (store_of self.new) →
@@ -302,6 +313,8 @@ impl<S: RowLog + Drop> Stage<Declared<S>, Playing<StoredCore<S>>> {
             LeavesOthers S.keeping self now) }
         ensures counts { R.may ≡ false → IfOk result (λ now. S.keeping.faults (store_of now)
             ≡ S.keeping.faults (store_of self)) }
+        ensures spares { R.may ≡ false →
+            Spares S.keeping LineFault.Memory (store_of self) result }
         ensures blames { R.may ≡ false → (basis : Basis) (stage : AStage) →
             IsStage S.keeping basis self stage →
             wanted_by basis stage (Some (move_by instruction.entry)) ≤ length pool.old.items →
@@ -358,6 +371,7 @@ fn declare<S: RowLog + Drop, R: Refuser<S>>(
         LeavesOthers S.keeping (AtFirst declared) now) }
     ensures counts { R.may ≡ false → IfOk result (λ now. S.keeping.faults (store_of now)
         ≡ S.keeping.faults declared.store) }
+    ensures spares { R.may ≡ false → Spares S.keeping LineFault.Memory declared.store result }
     ensures blames { R.may ≡ false → (basis : Basis) (declarations : List Declaration) →
         IsDeclared S.keeping basis declared declarations →
         wanted_by basis (Begins declarations) (Some (move_by instruction.entry))

@@ -14,7 +14,7 @@ use Rattle.tip_scene.proofs.Dealing.{join}
 use Rattle.tip_play.proofs.Making.{all_alike, all_made, fresh_active, fresh_known, fresh_of, no_other, one_alike, one_longer, one_made, read_of, when_ok}
 use Rattle.tip_play.proofs.Leaving.{at_end, fault_beyond, fault_between, fault_coming, fault_end, fault_first, fault_line}
 use Rattle.tip_play.proofs.Reading.{Goes, HasEnded, HasRead, IsCoveredBy, LeavesFrom, a_line, closes_on, ended_at, goes_front, goes_on, gone, grows_last, leaves_end, leaves_more, leaves_none, leaves_still, line_covered, line_fails, no_line, no_number, not_come, reads_none, relying, stands_so, still_going, trusts_back}
-use Rattle.tip_play.proofs.Blaming.{blames_back, blames_back_err, is_err_of, refused_here}
+use Rattle.tip_play.proofs.Blaming.{blames_back, blames_back_err, is_err_of, refused_here, spares_back}
 use Rattle.tip_play.proofs.player.play_lines.Goals as goal
 
 pub loop-number-init : goal.loop-number-init
@@ -404,3 +404,33 @@ returns-then-is_err-2-clause-faults g c = λ basis may on script is covers.
     (λ so. subst (λ w. Goes kept basis c.loop-number.is_over stage c.loop-number.number w left old new) is (c.loop-number.invariant.goes basis may on known (back so)))
     (λ so. leaves_still kept basis c.args.store stage c.next.new.stage c.next.ensures.names c.next.ensures.stood (c.loop-number.invariant.rest basis may on known (back so)))
     (c.next.ensures.stands basis)
+
+-- Memory has ended, and nothing was refused
+
+pub returns-in-Err-clause-spares : goal.returns-in-Err-clause-spares
+returns-in-Err-clause-spares g c = λ asks short. ap g.S.RowLog.keeping.faults c.shut-in-Err.ensures ∙ c.next.ensures.spared (is_err_of c.next.result c.in-Err.fault _ c.in-Err.is short) ∙ c.loop-number.invariant.counts asks
+
+pub returns-in_default-new-clause-spares : goal.returns-in_default-new-clause-spares
+returns-in_default-new-clause-spares g c = λ asks short. ap g.S.RowLog.keeping.faults c.shut-in_default-new.ensures ∙ c.in-Ok-next.ensures.counts ∙ c.loop-number.invariant.counts asks
+
+pub returns-then-is_err-clause-spares : goal.returns-then-is_err-clause-spares
+returns-then-is_err-clause-spares g c = λ asks short. ap g.S.RowLog.keeping.faults c.shut-then-is_err.ensures ∙ c.in-Ok-next.ensures.counts ∙ c.loop-number.invariant.counts asks
+
+pub returns-in_default-new-2-clause-spares : goal.returns-in_default-new-2-clause-spares
+returns-in_default-new-2-clause-spares g c = λ asks short. ap g.S.RowLog.keeping.faults c.shut-in_default-new-2.ensures ∙ c.in-Ok-next.ensures.counts ∙ c.loop-number.invariant.counts asks
+
+pub returns-then-is_err-2-clause-spares : goal.returns-then-is_err-2-clause-spares
+returns-then-is_err-2-clause-spares g c = λ asks short. ap g.S.RowLog.keeping.faults c.shut-then-is_err-2.ensures ∙ c.in-Ok-next.ensures.counts ∙ c.loop-number.invariant.counts asks
+
+pub returns-then-is_over-clause-spares : goal.returns-then-is_over-clause-spares
+returns-then-is_over-clause-spares g c = λ asks.
+    let kept = g.S.RowLog.keeping in
+    let same = c.loop.invariant.same ∙ c.loop-kind.invariant.same in
+    spares_back kept c.args.store _ c.finish.result (ap (λ s. kept.faults (store_of s)) (sym same) ∙ c.in-Ok-next.ensures.counts ∙ c.loop-number.invariant.counts asks) c.finish.ensures.spares
+
+pub returns-in_err-stage-clause-spares : goal.returns-in_err-stage-clause-spares
+returns-in_err-stage-clause-spares g c = λ asks.
+    let e = err_from_is_err_and c.from_residual.result c.from_residual.ensures.1 in
+    let kept = g.S.RowLog.keeping in
+    let same = c.loop.invariant.same ∙ c.loop-kind.invariant.same in
+    rw (e.1, e.2) (λ short. c.in_err-stage.ensures.spares asks short ∙ ap (λ s. kept.faults (store_of s)) (sym same) ∙ c.in-Ok-next.ensures.counts ∙ c.loop-number.invariant.counts asks)

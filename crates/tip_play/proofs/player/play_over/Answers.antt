@@ -2,9 +2,9 @@
 use Rattle.std.proofs.Common.{◌≡◌, subst, sym, true}
 use Rattle.std.specs.Prelude.{IfOk, IfSome}
 use Rattle.tip_play.specs.Transcripts.{TranscribesOn, covers_all}
-use Rattle.tip_scene.specs.Blaming.{Blames, IsBlamed}
-use Rattle.tip_play.specs.declared.fault.PlayFault.TheVariants.{Store}
-use Rattle.tip_play.proofs.Blaming.{blames_unflushed}
+use Rattle.tip_scene.specs.Blaming.{Blames, IsBlamed, Spares}
+use Rattle.tip_play.specs.declared.fault.PlayFault.TheVariants.{Memory, Store}
+use Rattle.tip_play.proofs.Blaming.{blames_unflushed, spares_unflushed}
 use Rattle.tip_play.specs.Leaving.{Leaves, LeavesAtFault}
 use Rattle.tip_play.proofs.Leaving.{fault_unflushed}
 use Rattle.tip_play.proofs.Ending.{all_kept, all_unflushed, never_unflushed}
@@ -33,3 +33,6 @@ returns-in-Err-clause-leaves g c = λ basis may on script whole covers.
 
 pub returns-in-Err-clause-faults : goal.returns-in-Err-clause-faults
 returns-in-Err-clause-faults g c = λ basis may on script is covers. subst (LeavesAtFault g.S.RowLog.keeping basis script c.args.store) (sym c.unflushed.ensures) (fault_unflushed g.S.RowLog.keeping basis script c.args.store c.play_lines-end.result (c.play_lines-end.ensures.leaves basis may on script is covers) (c.play_lines-end.ensures.faults basis may on script is covers))
+
+pub returns-in-Err-clause-spares : goal.returns-in-Err-clause-spares
+returns-in-Err-clause-spares g c = λ asks. subst (Spares g.S.RowLog.keeping Memory c.args.store) (sym c.unflushed.ensures) (spares_unflushed g.S.RowLog.keeping c.args.store c.play_lines-end.result (c.play_lines-end.ensures.spares asks))

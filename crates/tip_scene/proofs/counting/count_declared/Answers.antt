@@ -60,3 +60,8 @@ returns-clause-wanted g c = λ scene named has truth.
     let all = c.args.declarations.now in
     let names = map (λ (x : Declaration). x.name) all in
     counts_all g.S.RowLog.keeping (option_map (λ name. name.now) c.args.only) names c.args.store.now scene named has c.loop-declaration.declaration-index c.loop-declaration.count (subst (λ n. n ≤ c.loop-declaration.declaration-index) (sym (length-map all (λ (x : Declaration). x.name))) c.loop-declaration-test.false) (c.loop-declaration.invariant.wanted scene named has truth)
+
+pub returns-in_err-count-clause-spared : goal.returns-in_err-count-clause-spared
+returns-in_err-count-clause-spared g c =
+    let e = err_from_is_err_and c.from_residual.result c.from_residual.ensures.1 in
+    rw (e.1, e.2) (λ is. c.in_err-count.ensures.spared is ∙ c.loop-declaration.invariant.counts)

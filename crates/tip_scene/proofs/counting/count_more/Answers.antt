@@ -23,3 +23,8 @@ returns-in-Ok-clause-wanted g c = λ log epoch rows stood part.
     let meant : is_meant (option_map (λ name. name.now) c.args.only) c.args.realm.now ≡ true = sym c.is_meant.ensures ∙ c.if-not-is_meant.false in
     counts_meant (option_map (λ name. name.now) c.args.only) c.args.realm.now rows c.args.count log epoch c.in-Ok.loaded.epoch c.deref.result.now c.add_branches.result Memory c.ok_or.result meant c.add_branches.ensures c.ok_or.ensures.value part
     (λ truth. subst (IsPart log c.args.realm.now c.in-Ok.loaded.epoch) (sym c.deref.ensures.value) (c.in-Ok.ensures.part log stood truth))
+
+-- Memory has ended, and nothing was refused
+
+pub returns-in-Err-Memory-clause-spared : goal.returns-in-Err-Memory-clause-spared
+returns-in-Err-Memory-clause-spared g c = λ is. c.load.ensures.counts ∙ ap (λ r. counted (is_refused_load r) (g.S.RowLog.keeping.faults c.args.store.now)) (c.in-Err-Memory.is ∙ ap Err c.in-Err-Memory.field-0-is)

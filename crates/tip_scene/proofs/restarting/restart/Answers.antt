@@ -11,7 +11,7 @@ use Rattle.tip_scene.specs.Leaving.{OthersStay}
 use Rattle.tip_stored.specs.Loading.{names_of}
 use Rattle.tip_scene.proofs.Halting.{not_at_work, not_loaded, not_started}
 use Rattle.tip_scene.proofs.Leaving.{rest_again, start_leaves}
-use Rattle.tip_scene.proofs.Blaming.{act_known, act_store, boxes_again, specs_again, start_blamed}
+use Rattle.tip_scene.proofs.Blaming.{act_known, act_memory, act_store, boxes_again, specs_again, start_blamed, start_spares}
 use Rattle.tip_scene.proofs.restarting.restart.Goals as goal
 
 pub returns-then-is_any_at_end-clause-moves : goal.returns-then-is_any_at_end-clause-moves
@@ -75,3 +75,15 @@ returns-in-Err-rise_again-clause-halts g c = not_at_work g.S.RowLog.keeping (nam
 
 pub returns-in-Err-restart-clause-halts : goal.returns-in-Err-restart-clause-halts
 returns-in-Err-restart-clause-halts g c = not_loaded g.S.RowLog.keeping (names_of c.in-Ok.specs.items) _ c.args.playing.stored_core.store c.in-Err-restart.store c.in-Err-restart.ensures.err
+
+-- Memory has ended, and nothing was refused
+
+pub returns-in-Err-clause-spares : goal.returns-in-Err-clause-spares
+returns-in-Err-clause-spares g c = λ short. ap g.S.RowLog.keeping.faults c.shut-in-Err.ensures
+
+pub returns-in-Err-rise_again-clause-spares : goal.returns-in-Err-rise_again-clause-spares
+returns-in-Err-rise_again-clause-spares g c = λ short. ap g.S.RowLog.keeping.faults c.in-Err-rise_again.ensures.back ∙ c.in-Ok-restart.ensures.ok.counts
+
+pub returns-in-Err-restart-clause-spares : goal.returns-in-Err-restart-clause-spares
+returns-in-Err-restart-clause-spares g c = λ short. start_spares g.S.RowLog.keeping c.args.playing.stored_core.store c.in-Err-restart.store c.in-Err-restart.fault c.in-Err-restart.ensures.err.counts
+    (ap of_load_fault (sym c.in-Err-restart.fault-is) ∙ sym c.from-in-Err-restart.ensures ∙ act_memory c.from-in-Err-restart.result (sym c.from-in-Err-restart-2.ensures ∙ short))

@@ -8,7 +8,7 @@ use Rattle.tip_scene.specs.declared.stage.Stage.TheVariants as stage
 use Rattle.tip_script.specs.Moves.{move_by}
 use Rattle.tip_scene.specs.Leaving.{LeavesAtFault, LeavesOthers, scene_at}
 use Rattle.tip_scene.proofs.Leaving.{declared_stays, fault_first, fault_stays, first_rest}
-use Rattle.tip_scene.proofs.Blaming.{at_fault, never_asked, play_accused_at, told_on}
+use Rattle.tip_scene.proofs.Blaming.{act_memory, at_fault, never_asked, play_accused_at, told_on}
 use Rattle.tip_scene.specs.Blaming.{IsAtFault, IsBlamed}
 use Rattle.tip_scene.specs.Boxes.{box_count}
 use Rattle.tip_scene.specs.Faults.{of_act_fault}
@@ -34,6 +34,7 @@ returns-in_err-playing-in_default g c =
           halts_first g.S.RowLog.keeping basis declarations (move_by c.args.instruction) c.args.declared.store c.in-Ok.playing.stored_core.store _ (starting_declared c.args.instruction c.in_default.not-Realm c.in_default.not-Labels) (c.in-Ok.ensures.leaves before)
           (c.in_err-playing-in_default.ensures.halts (scene_of basis declarations) (c.in-Ok.ensures.scene basis declarations is before) may boxes truth);
       counts = λ may. tt;
+      spares = λ may short. c.in_err-playing-in_default.ensures.spares may short ∙ c.in-Ok.ensures.counts;
       faults = λ basis declarations is. fault_first g.S.RowLog.keeping basis declarations c.args.declared c.in-Ok.playing (move_by c.args.instruction) c.in_err-playing-in_default.field-0.0
           (starts_declared basis declarations c.args.instruction c.in_default.not-Realm c.in_default.not-Labels) c.in_err-playing-in_default.ensures.truth (c.in-Ok.ensures.scene basis declarations is) c.in-Ok.ensures.leaves c.in_err-playing-in_default.ensures.stays;
       blames = λ may basis declarations is enough.
@@ -51,6 +52,7 @@ returns-in_default g c = record {
       (λ truth. (let before = c.in_ok-playing-in_default.ensures.truth truth in (c.in-Ok.ensures.text basis declarations is before, c.in_ok-playing-in_default.ensures.moves (scene_of basis declarations) (c.in-Ok.ensures.scene basis declarations is before) may boxes truth)));
   leaves = λ basis declarations is may boxes truth. (let before = c.in_ok-playing-in_default.ensures.truth truth in first_rest g.S.RowLog.keeping c.args.declared c.in-Ok.playing c.in_ok-playing-in_default.playing (c.in-Ok.ensures.leaves before) (c.in_ok-playing-in_default.ensures.leaves (scene_of basis declarations) (c.in-Ok.ensures.scene basis declarations is before) may boxes truth));
   counts = λ may. c.in_ok-playing-in_default.ensures.counts may ∙ c.in-Ok.ensures.counts;
+  spares = λ may. tt;
   faults = λ basis declarations is. tt;
   halts = λ basis declarations is may boxes. tt;
   blames = λ may basis declarations is enough. tt;
@@ -126,3 +128,14 @@ returns-in-Err-noted-clause-halts g c = λ basis declarations is may boxes truth
       | in-Labels w ↦ ap (λ d. d.store) w.declared-is ∙ w.label-noted.ensures.store
     ] in
     halts_unbegun g.S.RowLog.keeping basis (Declaring declarations) (move_by c.args.instruction) c.args.declared.store store same
+
+-- Memory has ended, and nothing was refused
+
+pub returns-in-Err-clause-spares : goal.returns-in-Err-clause-spares
+returns-in-Err-clause-spares g c = λ may short. c.in-Err.ensures.spares (act_memory c.in-Err.fault (sym (c.from.ensures ∙ ap of_act_fault c.in-Err.fault-is) ∙ short))
+
+pub returns-in-Err-noted-clause-spares : goal.returns-in-Err-noted-clause-spares
+returns-in-Err-noted-clause-spares g c = λ may short. ap g.S.RowLog.keeping.faults (elim c.match-instruction.branch [
+  | in-Realm w ↦ ap (λ d. d.store) w.declared-is ∙ w.add-noted.ensures.store
+  | in-Labels w ↦ ap (λ d. d.store) w.declared-is ∙ w.label-noted.ensures.store
+])

@@ -6,7 +6,7 @@ use Rattle.tip_scene.specs.Acts.{Declaring, scene_of}
 use Rattle.tip_scene.specs.Boxes.{box_count}
 use Rattle.tip_scene.specs.Rising.{AreNew}
 use Rattle.tip_scene.specs.Stages.{spec_of}
-use Rattle.tip_scene.proofs.Blaming.{risen_blamed, risen_so, risen_trusts, start_blamed}
+use Rattle.tip_scene.proofs.Blaming.{risen_blamed, risen_so, risen_spares, risen_trusts, start_blamed, start_spares}
 use Rattle.tip_scene.specs.Leaving.{OthersStay}
 use Rattle.tip_stored.specs.Loading.{names_of}
 use Rattle.tip_scene.proofs.Halting.{not_loaded, not_risen}
@@ -59,3 +59,11 @@ returns-in-Ok-load-clause-halts g c = not_risen g.S.RowLog.keeping (names_of c.i
 
 pub returns-in-Err-clause-halts : goal.returns-in-Err-clause-halts
 returns-in-Err-clause-halts g c = not_loaded g.S.RowLog.keeping (names_of c.in-Ok.specs.items) _ c.args.self.store c.in-Err.store c.in-Err.ensures.err
+
+-- Memory has ended, and nothing was refused
+
+pub returns-in-Ok-load-clause-spares : goal.returns-in-Ok-load-clause-spares
+returns-in-Ok-load-clause-spares g c = risen_spares g.S.RowLog.keeping (λ playing. playing.stored_core.store) c.in-Ok-load.recovering.store c.args.self.store c.rise.result c.rise.ensures.back c.in-Ok-load.ensures.ok.counts
+
+pub returns-in-Err-clause-spares : goal.returns-in-Err-clause-spares
+returns-in-Err-clause-spares g c = λ short. start_spares g.S.RowLog.keeping c.args.self.store c.in-Err.store c.in-Err.fault c.in-Err.ensures.err.counts (ap of_load_fault (sym c.in-Err.fault-is) ∙ sym c.from.ensures ∙ short)

@@ -22,3 +22,8 @@ pub returns-in_default-clause-halts : goal.returns-in_default-clause-halts
 returns-in_default-clause-halts g c = λ scene is may boxes.
     let all = sym c.realm.ensures ∙ ap (option_map (λ realm. realm.now)) c.in_default.is in
     halts_restarting g.S.RowLog.keeping scene (move_by c.args.instruction) c.args.self.stored_core.store c.restart.result all (scene_stored g.S.RowLog.keeping c.args.self.stored_core c.args.self.actors.items scene is) c.restart.ensures.halts
+
+-- Memory has ended, and nothing was refused
+
+pub returns-in-Err-clause-spares : goal.returns-in-Err-clause-spares
+returns-in-Err-clause-spares g c = λ may short. ap g.S.RowLog.keeping.faults c.shut.ensures ∙ c.in-Err.ensures.spared may (ap Err short)

@@ -6,7 +6,7 @@ use Rattle.tip_scene.specs.Leaving.{LeavesRest}
 use Rattle.tip_scene.proofs.Leaving.{judged_on}
 use Rattle.tip_scene.specs.Scenes.{moved_in}
 use Rattle.tip_scene.specs.Stages.{Serves}
-use Rattle.tip_scene.proofs.Blaming.{judged_counts, judged_not, judged_refused, serves_judged}
+use Rattle.tip_scene.proofs.Blaming.{judged_counts, judged_not, judged_refused, judged_spares, serves_judged}
 use Rattle.tip_scene.proofs.playing.Playing+StoredCore+S+Actor.act_judged.Goals as goal
 
 pub returns-clause-serves : goal.returns-clause-serves
@@ -26,3 +26,6 @@ returns-clause-leaves g c = λ scene is may boxes truth.
 
 pub returns-clause-stays : goal.returns-clause-stays
 returns-clause-stays g c = λ is. c.act_in-end.ensures.stays (judged_not _ _ c.act_in-end.result (sym c.judge.ensures ∙ is))
+
+pub returns-clause-spared : goal.returns-clause-spared
+returns-clause-spared g c = λ may short. judged_spares g.S.RowLog.keeping c.args.self.now.stored_core.store c.act_in-end.new.self.stored_core.store _ _ _ c.act_in-end.result (c.may_refuse.ensures ∙ may) c.faults-before.ensures c.faults.ensures (sym c.judge.ensures ∙ short)

@@ -1,6 +1,6 @@
 -- The realms could not start.
-use Rattle.std.proofs.Common.{◌≤◌, length, subst, sym}
-use Rattle.tip_actor.specs.declared.fault.ActFault.TheVariants.{Store}
+use Rattle.std.proofs.Common.{◌≡◌, ◌≤◌, length, subst, sym}
+use Rattle.tip_actor.specs.declared.fault.ActFault.TheVariants.{Memory, Store}
 use Rattle.tip_scene.specs.Blaming.{Accuses, IsBlamed, starting_from}
 use Rattle.tip_scene.specs.Leaving.{HaltsAtEnd, IsLeft}
 use Rattle.tip_scene.proofs.Halting.{halts_last}
@@ -38,3 +38,11 @@ returns-in_err-playing-in-Declaring-clause-halts g c = λ basis stage is.
     let e = err_from_is_err_and c.from_residual.result c.from_residual.ensures.1 in
     let why = c.in_err-playing-in-Declaring.field-0.0 in
     rw (e.1, e.2) (subst (λ s. HaltsAtEnd kept stage (store_of s) why.1) (sym c.in-Declaring.is) (halts_last kept basis c.in-Declaring.declared stage why.1 (subst (λ s. IsStage kept basis s stage) c.in-Declaring.is is) c.in_err-playing-in-Declaring.ensures.halts))
+
+-- Memory has ended, and nothing was refused
+pub returns-in_err-playing-in-Declaring-clause-spares : goal.returns-in_err-playing-in-Declaring-clause-spares
+returns-in_err-playing-in-Declaring-clause-spares g c =
+    let kept = g.S.RowLog.keeping in
+    let why = c.in_err-playing-in-Declaring.field-0.0 in
+    let e = err_from_is_err_and c.from_residual.result c.from_residual.ensures.1 in
+    rw (e.1, e.2) (subst (λ s. why.0 ≡ Memory → kept.faults why.1 ≡ kept.faults (store_of s)) (sym c.in-Declaring.is) c.in_err-playing-in-Declaring.ensures.spares)

@@ -1,7 +1,7 @@
 -- A line before and after the realms have started.
-use Rattle.std.proofs.Common.{◌≤◌, Some, length, subst, string_bytes, sym}
-use Rattle.tip_scene.specs.Blaming.{Accuses, Blames, IsBlamed}
-use Rattle.tip_scene.specs.declared.fault.LineFault.TheVariants.{Store}
+use Rattle.std.proofs.Common.{◌≡◌, ◌≤◌, Some, length, subst, string_bytes, sym}
+use Rattle.tip_scene.specs.Blaming.{Accuses, Blames, IsBlamed, Spares}
+use Rattle.tip_scene.specs.declared.fault.LineFault.TheVariants.{Memory, Store}
 use Rattle.tip_script.specs.Moves.{move_by}
 use Rattle.tip_scene.specs.Stages.{IsStage, store_of}
 use Rattle.std.proofs.lemmas.Result.{err_from_is_err_and}
@@ -82,3 +82,15 @@ returns-in_err-playing-in-Playing-clause-halts g c = λ basis stage is may boxes
     let why = c.in_err-playing-in-Playing.field-0.0 in
     let e = err_from_is_err_and c.from_residual.result c.from_residual.ensures.1 in
     rw (e.1, e.2) (λ truth. subst (λ s. HaltsAt kept basis stage move (store_of s) why.1) (sym c.in-Playing.is) (halts_at_work kept basis c.in-Playing.playing stage move why.1 (subst (λ s. IsStage kept basis s stage) c.in-Playing.is is) (λ scene stands. c.in_err-playing-in-Playing.ensures.halts scene stands may boxes truth)))
+
+-- Memory has ended, and nothing was refused
+
+pub returns-in-Declaring-clause-spares : goal.returns-in-Declaring-clause-spares
+returns-in-Declaring-clause-spares g c = λ may. subst (λ s. Spares g.S.RowLog.keeping Memory (store_of s) c.declare.result) (sym c.in-Declaring.is) (c.declare.ensures.spares may)
+
+pub returns-in_err-playing-in-Playing-clause-spares : goal.returns-in_err-playing-in-Playing-clause-spares
+returns-in_err-playing-in-Playing-clause-spares g c = λ may.
+    let kept = g.S.RowLog.keeping in
+    let why = c.in_err-playing-in-Playing.field-0.0 in
+    let e = err_from_is_err_and c.from_residual.result c.from_residual.ensures.1 in
+    rw (e.1, e.2) (subst (λ s. why.0 ≡ Memory → kept.faults why.1 ≡ kept.faults (store_of s)) (sym c.in-Playing.is) (c.in_err-playing-in-Playing.ensures.spares may))
