@@ -10,10 +10,8 @@ mod lines;
 mod reader;
 mod readers;
 mod refusing;
-mod scripted;
 
 pub use actor::Actor;
 pub use ending::print_here;
 pub use fault::ActFault;
 pub use refusing::{ByItself, ByScript, Refuser};
-pub use scripted::Scripted;

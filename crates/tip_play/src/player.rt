@@ -18,9 +18,10 @@ ghost use Rattle.tip_play.specs.Writing.{ActsOn, ClosesOn, HasCome, wanted_next}
 
 use crate::fault::PlayFault;
 use script_lines::{LineEnd, ScriptLine};
+use simulated_branch::Simulated;
 use std::alloc::Global;
 use std::io::{BufRead, Write};
-use tip_actor::{ByItself, ByScript, Refuser, Scripted};
+use tip_actor::{ByItself, ByScript, Refuser};
 use tip_branch::{Branch, Phase, Plan};
 use tip_core::Core;
 use tip_rows::{MemRows, RowLog};
@@ -180,7 +181,7 @@ fn play_lines<S: RowLog + Drop, F: Refuser<S>, R: BufRead, W: Write>(
         let mut boxes: Vec<Box<dyn Branch + Send>> = Vec::new(alloc);
         for kind in &coming.wanted.kinds {
             let plan = plan_of(*kind);
-            let Ok(branch) = Box::new(alloc, Scripted::new(plan, Phase::Active)) else {
+            let Ok(branch) = Box::new(alloc, Simulated::new(plan, Phase::Active)) else {
                 return Err((PlayFault::Memory, stage.shut()));
             };
             if add_box(&mut boxes, plan, Phase::Active, branch).is_err() {
@@ -189,7 +190,7 @@ fn play_lines<S: RowLog + Drop, F: Refuser<S>, R: BufRead, W: Write>(
         }
         let mut pool: Vec<Box<dyn Branch + Send>> = Vec::new(alloc);
         for _ in 0..coming.wanted.willing {
-            let Ok(branch) = Box::new(alloc, Scripted::new(Plan::Yes, Phase::Ready)) else {
+            let Ok(branch) = Box::new(alloc, Simulated::new(Plan::Yes, Phase::Ready)) else {
                 return Err((PlayFault::Memory, stage.shut()));
             };
             if add_box(&mut pool, Plan::Yes, Phase::Ready, branch).is_err() {

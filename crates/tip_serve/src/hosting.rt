@@ -2,13 +2,13 @@
 use crate::ending::end_accepting;
 use crate::rows::count_branches;
 use crate::starting::{Shelves, Started, load, start};
+use simulated_branch::Simulated;
 use std::alloc::Global;
 use std::io::Write;
 use std::net::{Net, TcpListener, TcpStream};
 use std::sync::Wait;
 use std::thread::Threads;
 use std::time::Clock;
-use tip_actor::Scripted;
 use tip_branch::{Branch, Phase, Plan};
 use tip_core::Core;
 use tip_duties::ServeFault;
@@ -17,7 +17,7 @@ use tip_settings::Config;
 
 /// Serves the realms of a configuration over a store, until so many connections that were accepted have ended; without a number,
 /// without end. It says on standard output where it listens, that it is ready, and in the end how many entries each realm has;
-/// on standard error what an operator must know. Boxes are scripted ones: those of a connection promise what the realm's letters
+/// on standard error what an operator must know. Boxes are simulated ones: those of a connection promise what the realm's letters
 /// say, those of a stored row are willing.
 pub fn host_realms<R, S, W>(
     rt: &R,
@@ -45,7 +45,7 @@ where
     let recovering = load(*rt, alloc, store, Core::new(alloc), config, &shelves)?;
     let mut pool: Vec<Box<dyn Branch + Send>> = Vec::new(alloc);
     for _ in 0..count_branches(recovering.realms()) {
-        pool.push(Box::new(alloc, Scripted::new(Plan::Yes, Phase::Ready))?)?;
+        pool.push(Box::new(alloc, Simulated::new(Plan::Yes, Phase::Ready))?)?;
     }
     let Started { mut server, duties } = start(alloc, recovering, config, sessions, pool, shelves)?;
     let doors = server.begin(rt, config, duties, out)?;
@@ -57,7 +57,7 @@ where
         let mut is_short = false;
         for place in 0..server.box_count(&task) {
             let (plan, phase) = server.box_at(&task, place);
-            let Ok(branch) = Box::new(alloc, Scripted::new(plan, phase)) else {
+            let Ok(branch) = Box::new(alloc, Simulated::new(plan, phase)) else {
                 is_short = true;
                 break;
             };

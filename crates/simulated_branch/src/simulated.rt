@@ -1,4 +1,4 @@
-//! The branches of a script.
+//! A branch that stands for one of a resource manager.
 ghost use Rattle.std.specs.Prelude.{◌≡◌};
 ghost use Rattle.tip_branch.specs.Members.{untold};
 ghost use Rattle.tip_branch.specs.Standings.{nothing};
@@ -8,24 +8,24 @@ use tip_branch::{Badge, Branch, Phase, Plan, Settled, Standing, Vote};
 
 /// A branch that does what its plan promises.
 #[derive(Drop)]
-pub struct Scripted {
+pub struct Simulated {
     standing: Standing,
     ghost untold: { standing.phase ≡ Active → standing.told ≡ nothing },
 }
 
-impl Scripted {
-    /// A branch in this phase, which was told nothing. No line of a transcript prints its mark.
-    pub fn new(plan: Plan, phase: Phase) -> Scripted
+impl Simulated {
+    /// A branch in this phase, which was told nothing. Its mark is 0, as that of each other: nobody tells them apart.
+    pub fn new(plan: Plan, phase: Phase) -> Simulated
         ensures { result.standing ≡ untold phase (record { plan = plan; mark = 0 }) }
     {
-        Scripted {
+        Simulated {
             standing: Standing::untold(Badge { plan, mark: 0 }, phase),
         }
     }
 }
 
-impl Branch for Scripted {
-    ghost standing = { λ scripted. scripted.standing };
+impl Branch for Simulated {
+    ghost standing = { λ branch. branch.standing };
 
     fn vote(&mut self) -> Vote {
         let vote = self.standing.badge.plan.vote().unwrap_or(Vote::Yes);
