@@ -76,12 +76,12 @@ lose_true world [] shown sound out true_to among = subst (λ xs. IsTrueTo xs wor
 lose_true world (party ∷ errands) shown sound out true_to among = lost_true world sound party errands out (first_due world.state party errands out) shown (among party errands refl)
 
 -- all that are out are lost
-all_lost_true : (world : World) (errands : List PartyNotes) (shown : List Output) → IsSound world → are_out world.state errands ≡ true → IsTrueTo shown (record { state = world.state; rows = world.rows; errands = errands }) → IsTrueTo (shown ++ flat_map drops_of errands) (record { state = world.state; rows = world.rows; errands = [] })
+pub all_lost_true : (world : World) (errands : List PartyNotes) (shown : List Output) → IsSound world → are_out world.state errands ≡ true → IsTrueTo shown (record { state = world.state; rows = world.rows; errands = errands }) → IsTrueTo (shown ++ flat_map drops_of errands) (record { state = world.state; rows = world.rows; errands = [] })
 all_lost_true world [] shown sound out true_to = subst (λ xs. IsTrueTo xs (record { state = world.state; rows = world.rows; errands = [] })) (sym (append-nil shown)) true_to
 all_lost_true world (party ∷ errands) shown sound out true_to = subst (λ xs. IsTrueTo xs (record { state = world.state; rows = world.rows; errands = [] })) (append_assoc shown (drops_of party) (flat_map drops_of errands)) (all_lost_true world errands (shown ++ drops_of party) sound (out_behind world.state party errands out) (lost_true world sound party errands out (first_due world.state party errands out) shown true_to))
 
 -- nobody is out
-alone_sound : (world : World) → IsSound world → IsSound (record world { errands = [] })
+pub alone_sound : (world : World) → IsSound world → IsSound (record world { errands = [] })
 alone_sound world sound = record {
   numbered = sound.numbered;
   bounded = sound.bounded;
@@ -135,7 +135,7 @@ any_of test [] is = is
 any_of test (x ∷ xs) is = refl
 
 -- the same of any identifier
-one_told : (shown : List Output) (world : World) (id : List ℕ) → IsTrueTo shown world → is_unanimous (told world.state.head.name id shown) ≡ true
+pub one_told : (shown : List Output) (world : World) (id : List ℕ) → IsTrueTo shown world → is_unanimous (told world.state.head.name id shown) ≡ true
 one_told shown world id true_to = step (list_any any_verdict said) refl where
   said : List Verdict
   said = told world.state.head.name id shown

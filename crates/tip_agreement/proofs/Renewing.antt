@@ -344,7 +344,7 @@ module _ (boxes : Key → List Badge) (world : World) (sound : IsSound world) (c
     step None is says_it = subst (λ o. fits o (new_word k) ≡ true) (sym is) (gone_now k fine (transaction_of k world.state) refl (says_old k) (subst (λ o. says o (row_at k world.rows) ≡ true) is says_it))
     step (Some u) is says_it = subst (λ o. fits o (new_word k) ≡ true) (sym is) (lasts_now k fine u (all_found (λ (t : Transaction). is_lasting t.phase) (has_key k) next.transactions u (all_lasting next.head boxes world.rows) is) (transaction_of k world.state) refl (says_old k) (subst (λ o. says o (row_at k world.rows) ≡ true) is says_it))
 
-  given_before : (k : Key) → is_spelled k ≡ true → has_word (new_word k) ≡ true → was_given world.state k ≡ true
+  pub given_before : (k : Key) → is_spelled k ≡ true → has_word (new_word k) ≡ true → was_given world.state k ≡ true
   given_before k fine is = elim (or_cases (new_word k).commit (new_word k).abort is) [
     | inl commit ↦ true_to.given k fine (or_left (old_word k).commit _ (commit_less k fine commit))
     | inr abort ↦ elim (abort_less k fine abort) [

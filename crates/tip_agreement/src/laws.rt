@@ -4,6 +4,7 @@ ghost use Rattle.tip_branch.specs.declared.branch.Badge.{Badge};
 ghost use Rattle.tip_rows.specs.Keys.{Key};
 ghost use Rattle.tip_txn.specs.declared.answer.Phase.TheVariants.{Committed};
 ghost use Rattle.tip_machine.specs.Agreement.Traces.{at_each, shown_in, traced};
+ghost use Rattle.tip_machine.specs.Agreement.Verdicts.{is_unanimous, told};
 ghost use Rattle.tip_machine.specs.Agreement.{IsAgreed, is_asked, is_backed, is_denied, is_kept, is_one, row_in, was_committed};
 ghost use Rattle.tip_machine.specs.Answers.{identifier};
 ghost use Rattle.tip_machine.specs.Given.{are_numbered};
@@ -18,7 +19,7 @@ ghost use Rattle.tip_machine.specs.Steps.{step};
 ghost use Rattle.tip_machine.specs.Types.{Event, Transaction};
 ghost use Rattle.tip_machine.specs.declared.event.Outcome.{Outcome};
 ghost use Rattle.tip_machine.specs.declared.head.Head.{Head};
-ghost use Rattle.tip_agreement.specs.Successors.{GoesOver, declaration_of, started_over};
+ghost use Rattle.tip_agreement.specs.Successors.{Follow, GoesOver, Process, declaration_of, shown_by, started_over};
 ghost use Rattle.tip_agreement.specs.Telling.{is_told_of};
 ghost use Rattle.tip_agreement.specs.Truth.{IsTrueTo, has_committed_row};
 
@@ -148,6 +149,16 @@ pub fn a_run_goes_on_in_the_next_process()
     ensures { (start : World) (moves : List Move) (boxes : Key → List Badge) →
         is_run start moves ≡ true → can_start boxes (led_to start moves) ≡ true →
         GoesOver start moves boxes }
+{}
+
+/// ACROSS PROCESSES OF DIFFERENT DECLARATIONS: however many follow one another, each declaring the realm under its name in its own
+/// way, and whether they end in peace or are killed: no branch of a transaction is told to commit where a branch is told to abort,
+/// in all that they tell.
+pub fn no_branch_commits_where_one_aborts_however_it_is_declared()
+    ensures { (start : World) (moves : List Move) (processes : List Process) (id : List ℕ) →
+        IsStart start → is_run start moves ≡ true → Follow (led_to start moves) processes →
+        is_unanimous (told start.state.head.name id
+        (shown_in (traced start moves) ++ shown_by (led_to start moves) processes)) ≡ true }
 {}
 
 /// The rows that an honest run leaves are rows that a run may begin with, in any later epoch and however the realm is declared then:
