@@ -11,3 +11,4 @@ pub mod Dropping
 pub mod Answering
 pub mod Starts
 pub mod Retires
+pub mod Speaking
