@@ -96,6 +96,10 @@ impl Desk for MemoryDesk {
     }
 
     fn line(&mut self, heard: Heard) -> Result<Came<usize>, DeskFault> {
+        if self.is_stopped {
+            self.given.note(DeskFault::Stopped);
+            return Err(DeskFault::Stopped);
+        }
         let Ok(answer) = answer_to(&heard) else {
             self.given.note(DeskFault::Memory);
             return Err(DeskFault::Memory);

@@ -2,9 +2,10 @@
 //! each.
 ghost use Rattle.std.specs.Prelude.{◌≡◌, ◌≢◌, ◌↔◌, Some, None, true, false, IfErr, IfOk, IfSome, OnErr, OnOk};
 ghost use Rattle.tip_branch.specs.Always.{Always};
+ghost use Rattle.tip_core.specs.Hosted.{realm as realm_at};
 ghost use Rattle.tip_journal.specs.Fits.{Fits};
 ghost use Rattle.tip_host.specs.Hosts.{IsOut, ServesOut, Stays};
-ghost use Rattle.tip_host.specs.Served.{IsAnswered};
+ghost use Rattle.tip_host.specs.Served.{AnswersAt};
 ghost use Rattle.tip_host.specs.declared.host.HostFault.TheVariants.{NotOut, PassMismatch, Stopped};
 
 use crate::host::{Host, HostFault};
@@ -35,8 +36,9 @@ impl<S: RowLog + Drop> Host<S> {
         event: HostEvent,
     ) -> Result<Stepped, (HostFault, HostEvent)>
         requires { Always }
-        ensures answered { IfOk result (λ stepped. IsAnswered pass.old.noted pass.new.noted
-            event.realm event.event stepped.reply) }
+        ensures answered { IfOk result (λ stepped. AnswersAt
+            (realm_at self.old.stored.core event.realm) pass.old.noted pass.new.noted event.realm
+            event.event stepped.reply) }
         ensures serves { IfOk result (λ stepped. ServesOut S.keeping self.old self.new
             pass.old.noted pass.new.noted event.realm event.event None stepped.reply
             (λ work. work.realm) (λ work. work.sent) stepped.work) }
@@ -73,7 +75,8 @@ impl<S: RowLog + Drop> Host<S> {
         returned: Returned,
     ) -> Result<Stepped, (HostFault, Returned)>
         requires { Always }
-        ensures answered { IfOk result (λ stepped. IsAnswered pass.old.noted pass.new.noted
+        ensures answered { IfOk result (λ stepped. AnswersAt
+            (realm_at self.old.stored.core returned.realm) pass.old.noted pass.new.noted
             returned.realm returned.event stepped.reply) }
         ensures serves { IfOk result (λ stepped. ServesOut S.keeping self.old self.new
             pass.old.noted pass.new.noted returned.realm returned.event (Some returned.sent)

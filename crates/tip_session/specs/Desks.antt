@@ -71,6 +71,7 @@ halting s = told s (record s.given { halted = true })
 
 -- a line is one step, also where the realm refuses what it asks and notes that; else no step
 abbrev pub Lines : {W : Type 0} → (W → Name) → Heard → Seen → Result (Came W) DeskFault → Seen → Type 0
+Lines name heard s (Ok came.Gone) t = t ≡ told s (record s.given { gone = true })
 Lines name heard s (Ok came.Refused) t = (t ≡ refusing s) ⊎ (t ≡ refusing (stepped s (Line heard) None))
 Lines name heard s (Ok came.Nothing) t = t ≡ stepped s (Line heard) None
 Lines name heard s (Ok (came.Work work)) t = t ≡ stepped s (Line heard) (Some (name work))

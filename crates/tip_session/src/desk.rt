@@ -36,7 +36,7 @@ impl From<DeskFault> for Refusal {
     }
 }
 
-/// Whether a line may be handed in.
+/// Whether a further line could be handed in.
 #[derive(Clone, Copy)]
 pub enum Ready {
     Ready,
@@ -47,6 +47,8 @@ pub enum Ready {
 /// What comes of a line. `W` is an errand.
 #[derive(Drop)]
 pub enum Came<W: Drop> {
+    /// The connection is closed, and the line was not taken.
+    Gone,
     /// No more lines are taken on this connection.
     Refused,
     Nothing,
@@ -80,12 +82,12 @@ pub trait Desk {
     /// How it gives what goes out.
     ghost gives: { Self → Outgoing → Self → Type 0 };
 
-    /// Waits until a line may be handed in. Nothing was told yet that ends the session, and no errand is out.
+    /// Waits until a further line could be handed in, or none can. Nothing was told yet that ends the session, and no errand is out.
     fn wait_ready(&mut self) -> Ready
         requires open { IsOpen (seen self.old) }
         ensures { seen self.new ≡ waited (seen self.old) result };
 
-    /// Hands one line in. An errand that comes of it is out until it is done.
+    /// Waits until a line may be handed in, and hands it in. An errand that comes of it is out until it is done.
     fn line(&mut self, heard: Heard) -> Result<Came<Self::Work>, DeskFault>
         requires open { IsOpen (seen self.old) }
         ensures { Lines name heard (seen self.old) result (seen self.new) };

@@ -147,19 +147,8 @@ fn hand_in<D: Desk>(desk: &mut D, heard: Heard) -> Option<Ended>
     requires { IsOpen (D.seen desk.old) }
     ensures { Hands heard (D.seen desk.old) (D.seen desk.new) result }
 {
-    match desk.wait_ready() {
-        Ready::Ready => take(desk, heard),
-        Ready::Gone => Some(Ended::Gone),
-        Ready::Stopped => Some(Ended::Failed(DeskFault::Stopped)),
-    }
-}
-
-/// Hands one line in, and does the errand that it gives.
-fn take<D: Desk>(desk: &mut D, heard: Heard) -> Option<Ended>
-    requires { IsOpen (D.seen desk.old) }
-    ensures { Hands heard (D.seen desk.old) (D.seen desk.new) result }
-{
     match desk.line(heard) {
+        Ok(Came::Gone) => Some(Ended::Gone),
         Ok(Came::Refused) => Some(Ended::Refused),
         Ok(Came::Nothing) => None,
         Ok(Came::Work(work)) => run_errands(desk, Some(work)),

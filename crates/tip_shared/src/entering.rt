@@ -1,7 +1,7 @@
 //! Events of a session at a host that is shared: each has an entry in the session's pass, or nothing has happened.
-ghost use Rattle.std.specs.Prelude.{◌≡◌, ◌++◌, ◌∷◌, [], false, is_some, option_map, true, IfOk, OnErr, OnOk};
+ghost use Rattle.std.specs.Prelude.{◌≡◌, ◌++◌, ◌∷◌, [], false, is_some, option_map, true, IfOk, IfSome, None, Ok, OnErr, OnOk};
 ghost use Rattle.tip_branch.specs.Always.{Always};
-ghost use Rattle.tip_session.specs.Desks.{Back};
+ghost use Rattle.tip_session.specs.Desks.{Back, Line};
 ghost use Rattle.tip_session.specs.Ends.{only_back};
 ghost use Rattle.tip_shared.specs.Sessions.{BringsBack, OnlyBack, name_of, step_of, steps_in};
 
@@ -9,8 +9,9 @@ use crate::shared::Shared;
 use std::alloc::{AllocError, Global};
 use std::sync::Wait;
 use tip_honest::Entry;
-use tip_host::{HostEvent, HostFault, Returned, Stepped, Work};
+use tip_host::{HostEvent, HostFault, Returned, Seat, Stepped, Work};
 use tip_journal::Pass;
+use tip_machine::Heard;
 use tip_rows::RowLog;
 use tip_session::DeskFault;
 
@@ -30,6 +31,28 @@ pub(crate) fn enter<R: Wait, S: RowLog + Drop>(
     match shared.step(rt, alloc, pass, event) {
         Ok(stepped) => entered(stepped),
         Err((fault, _)) => Err(desk_fault(fault)),
+    }
+}
+
+/// A line of a connection, in its turn; None where the connection is gone.
+pub(crate) fn enter_line<R: Wait, S: RowLog + Drop>(
+    rt: &R,
+    alloc: Global,
+    shared: &Shared<S>,
+    pass: &mut Pass<Entry>,
+    seat: Seat,
+    heard: Heard,
+) -> Result<Option<Stepped>, DeskFault>
+    requires { Always }
+    ensures took { IfOk result (λ taken. IfSome taken (λ _.
+        steps_in pass.new.noted ≡ steps_in pass.old.noted ++ Line heard ∷ [])) }
+    ensures gone { result ≡ Ok None → pass.new.noted ≡ pass.old.noted }
+    ensures pass { OnErr result (pass.new.noted ≡ pass.old.noted) }
+{
+    match shared.take_line(rt, alloc, pass, seat, heard) {
+        Ok(Some(stepped)) => Ok(Some(entered(stepped)?)),
+        Ok(None) => Ok(None),
+        Err(fault) => Err(desk_fault(fault)),
     }
 }
 

@@ -1,20 +1,21 @@
 //! The host behind its lock.
-ghost use Rattle.std.specs.Prelude.{◌≡◌, [], IfErr, IfOk, OnErr, length};
+ghost use Rattle.std.specs.Prelude.{◌≡◌, [], IfErr, IfOk, IfSome, None, Ok, OnErr, length};
 ghost use Rattle.tip_branch.specs.Always.{Always};
 ghost use Rattle.tip_core.specs.Hosted.{realm as realm_at, standing_in};
 ghost use Rattle.tip_host.specs.Hosts.{waiting_at};
 ghost use Rattle.tip_host.specs.Seats.{within};
 ghost use Rattle.tip_host.specs.Served.{IsAnswered};
-ghost use Rattle.tip_shared.specs.Waiting.{must_wait};
+ghost use Rattle.tip_shared.specs.Waiting.{IsTakenInTurn, must_wait};
 
 use crate::conditions::Conditions;
 use std::alloc::{AllocError, Global};
-use std::sync::{Mutex, Wait};
+use std::sync::{Mutex, MutexGuard, Wait};
 use tip_core::Left;
 use tip_honest::Entry;
 use tip_host::{Host, HostEvent, HostFault, Returned, Seat, Standing, Stepped, Usage};
 use tip_journal::Pass;
 use tip_line::{Address, Id};
+use tip_machine::Heard;
 use tip_recovery::Recovery;
 use tip_rows::{Key, RowLog};
 use tip_session::{Outgoing, Ready};
@@ -74,9 +75,45 @@ impl<S: RowLog + Drop> Shared<S> {
     {
         let own = event.seat();
         let realm = event.realm();
-        let stepped = self.host.lock(rt).step_fitting(alloc, pass, event)?;
-        self.wake(realm, own, &stepped);
+        let mut host = self.host.lock(rt);
+        let stepped = host.step_fitting(alloc, pass, event)?;
+        self.let_go(host, realm, own, &stepped);
         Ok(stepped)
+    }
+
+    /// A LINE OF A CONNECTION, by a pass that is of this host, and the errand that comes of it. It waits until the line may be taken,
+    /// and no more than so many wait to go out there; then it is an event as any other, in the same hold. None where the connection
+    /// is gone. Nothing has happened then, and at a fault: the host is stopped, the pass is not its own, or memory is wanting.
+    pub fn take_line<R: Wait>(
+        &self,
+        rt: &R,
+        alloc: Global,
+        pass: &mut Pass<Entry>,
+        seat: Seat,
+        heard: Heard,
+    ) -> Result<Option<Stepped>, HostFault>
+        requires { Always }
+        ensures taken { IfOk result (λ taken. IfSome taken (λ stepped. IsTakenInTurn seat
+            pass.old.noted pass.new.noted heard stepped.reply)) }
+        ensures gone { result ≡ Ok None → pass.new.noted ≡ pass.old.noted }
+        ensures pass { OnErr result (pass.new.noted ≡ pass.old.noted) }
+    {
+        let Some(condition) = self.conditions.at(seat) else {
+            return Ok(None);
+        };
+        let mut host = condition.wait_while(rt, self.host.lock(rt), |host| {
+            !host.is_stopped() && must_wait(host, seat)
+        });
+        if !host.is_stopped() && !host.may_take(seat) {
+            return Ok(None);
+        }
+        match host.step_fitting(alloc, pass, HostEvent::line(seat, heard)) {
+            Ok(stepped) => {
+                self.let_go(host, seat.realm, Some(seat), &stepped);
+                Ok(Some(stepped))
+            }
+            Err((fault, _)) => Err(fault),
+        }
     }
 
     /// A party comes back, by a pass that is of this host, and the errand that comes of that. A fault hands it back, and nothing has
@@ -95,8 +132,9 @@ impl<S: RowLog + Drop> Shared<S> {
         ensures back { IfErr result (λ fault. fault.1 ≡ returned) }
     {
         let realm = returned.realm();
-        let stepped = self.host.lock(rt).come_back_fitting(alloc, pass, returned)?;
-        self.wake(realm, None, &stepped);
+        let mut host = self.host.lock(rt);
+        let stepped = host.come_back_fitting(alloc, pass, returned)?;
+        self.let_go(host, realm, None, &stepped);
         Ok(stepped)
     }
 
@@ -231,9 +269,19 @@ impl<S: RowLog + Drop> Shared<S> {
         Ok(left)
     }
 
-    /// Wakes whom an event speaks to, and the connection that it was one of.
-    fn wake(&self, realm: usize, own: Option<Seat>, stepped: &Stepped) {
-        if let Some(seat) = own {
+    /// The hold of an event ends. Whom it speaks to is woken, and the connection that it was one of, where that rests now.
+    fn let_go(
+        &self,
+        host: MutexGuard<'_, Host<S>>,
+        realm: usize,
+        own: Option<Seat>,
+        stepped: &Stepped,
+    )
+        requires { Always }
+    {
+        let resting = resting(&host, own);
+        drop(host);
+        if let Some(seat) = resting {
             self.conditions.wake(seat);
         }
         self.conditions.wake_spoken(realm, &stepped.reply.spoken);
@@ -242,6 +290,18 @@ impl<S: RowLog + Drop> Shared<S> {
 
 fn is_gone(standing: Standing) -> bool {
     matches!(standing, Standing::Gone)
+}
+
+/// A connection on which nothing is under way any more: its writer waits for it to be gone, and who hangs up for it to be free.
+/// For any other a writer would be woken in vain, and take the lock from those that have something to do.
+fn resting<S: RowLog + Drop>(host: &Host<S>, own: Option<Seat>) -> Option<Seat>
+    requires { Always }
+{
+    let seat = own?;
+    match host.standing(seat) {
+        Standing::Gone | Standing::Free => Some(seat),
+        Standing::Takes | Standing::Waits => None,
+    }
 }
 
 /// Whether a line of a connection that is there must wait: its turn is to come, or too much waits to go out.

@@ -1,10 +1,10 @@
 //! What one connection's reader and writer ask of a host that is shared.
-ghost use Rattle.std.specs.Prelude.{◌≡◌, ◌++◌, ◌∷◌, [], false, IfErr, IfOk, None, OnErr, OnOk, option_map};
+ghost use Rattle.std.specs.Prelude.{◌≡◌, ◌++◌, ◌∷◌, [], false, IfErr, IfOk, IfSome, None, Ok, OnErr, OnOk, option_map};
 ghost use Rattle.tip_branch.specs.Always.{Always};
-ghost use Rattle.tip_session.specs.Desks.{Back, nothing, noting};
+ghost use Rattle.tip_session.specs.Desks.{Back, Line, nothing, noting};
 ghost use Rattle.tip_shared.specs.Sessions.{name_of, name_owed, seen_in, step_of, steps_in};
 
-use crate::entering::{bring_back, enter};
+use crate::entering::{bring_back, enter, enter_line};
 use crate::shared::Shared;
 use std::alloc::{AllocError, Global};
 use std::sync::Wait;
@@ -127,6 +127,30 @@ impl<'a, R: Wait, S: RowLog + Drop> SharedDesk<'a, R, S> {
         None
     }
 
+    /// A line of the connection, in its turn; None where the connection is gone. Where it has no entry, nothing has happened.
+    fn take(&mut self, heard: Heard) -> Result<Option<Stepped>, DeskFault>
+        requires { Always }
+        ensures took { IfOk result (λ taken. IfSome taken (λ _. steps_in self.new.pass.noted
+            ≡ steps_in self.old.pass.noted ++ Line heard ∷ [])) }
+        ensures gone { result ≡ Ok None → self.new.pass.noted ≡ self.old.pass.noted }
+        ensures given { OnOk result (self.new.given ≡ self.old.given) }
+        ensures pass { OnErr result (self.new.pass.noted ≡ self.old.pass.noted) }
+        ensures noted { IfErr result (λ fault. self.new.given ≡ noting self.old.given fault) }
+        ensures owed { self.new.owed ≡ self.old.owed }
+    {
+        match enter_line(
+            self.rt,
+            self.alloc,
+            self.shared,
+            &mut self.pass,
+            self.seat,
+            heard,
+        ) {
+            Ok(taken) => Ok(taken),
+            Err(fault) => Err(self.noted(fault)),
+        }
+    }
+
     /// One event of the connection. Where it has no entry, since its realm takes none or is not there, nothing has happened.
     fn step(&mut self, event: HostEvent) -> Result<Stepped, DeskFault>
         requires { Always }
@@ -195,7 +219,10 @@ impl<'a, R: Wait, S: RowLog + Drop> Desk for SharedDesk<'a, R, S> {
     }
 
     fn line(&mut self, heard: Heard) -> Result<Came<Work>, DeskFault> {
-        let Stepped { reply, work } = self.step(HostEvent::line(self.seat, heard))?;
+        let Some(Stepped { reply, work }) = self.take(heard)? else {
+            self.given.gone = true;
+            return Ok(Came::Gone);
+        };
         if reply.refusal.is_some() {
             self.given.refused = true;
             return Ok(Came::Refused);

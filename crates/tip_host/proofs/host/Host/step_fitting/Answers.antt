@@ -9,7 +9,7 @@ pub returns-clause-answered : goal.returns-clause-answered
 returns-clause-answered g c =
     let serves = rw (← c.self.view_is) at c.in_ok-reply.ensures.serves in
     let fits = subst (Fits c.self.inside.books.journals c.args.pass.now.noted) c.realm-realm.ensures (rw (← c.self.view_is) at (c.fits.ensures.0 c.if-not-fits.false)) in
-    answered_so _ _ c.step.new.self _ _ _ _ _ _ c.self.invariant fits serves
+    rw (← c.self.view_is) (answered_so _ _ c.step.new.self _ _ _ _ _ _ c.self.invariant fits serves)
 
 pub returns-clause-serves : goal.returns-clause-serves
 returns-clause-serves g c =
