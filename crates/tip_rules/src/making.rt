@@ -31,8 +31,6 @@ pub struct Making {
     refusal: Option<Refusal>,
     opened: Option<Seat>,
     sent: Vec<Sent>,
-    /// An empty vector with room for as many lines, into which they are put in order.
-    ordered: Vec<Sent>,
     work: Option<HeldParty>,
     spent: Option<HeldParty>,
     unused: Option<HeldFresh>,
@@ -44,7 +42,7 @@ pub struct Making {
 }
 
 impl Model for Making {
-    ghost use Rattle.std.specs.Prelude.{◌≡◌, ◌-◌, ◌≤◌, [], vec_len, vec_capacity};
+    ghost use Rattle.std.specs.Prelude.{◌-◌, vec_len, vec_capacity};
     ghost use Rattle.tip_rules.specs.Makings.{Made};
 
     ghost Value = { Made };
@@ -65,9 +63,6 @@ impl Model for Making {
       ours = m.ours;
       word = m.word;
     } };
-
-    ghost invariant = { λ m. (m.ordered.items ≡ [])
-        × (vec_capacity m.sent ≤ vec_capacity m.ordered) };
 }
 
 impl Making {
@@ -79,7 +74,6 @@ impl Making {
             refusal: None,
             opened: None,
             sent: Vec::new(alloc),
-            ordered: Vec::new(alloc),
             work: None,
             spent: None,
             unused: None,
@@ -107,12 +101,10 @@ impl Making {
         ensures word { IfOk result (λ making. making.word ≡ words.word) }
     {
         let sent = Vec::with_capacity(alloc, lines)?;
-        let ordered = Vec::with_capacity(alloc, sent.capacity())?;
         Ok(Making {
             refusal: None,
             opened: None,
             sent,
-            ordered,
             work: None,
             spent: None,
             unused: None,
@@ -275,7 +267,6 @@ impl Making {
             refusal,
             opened,
             mut sent,
-            ordered,
             work,
             spent,
             unused,
@@ -285,10 +276,11 @@ impl Making {
             ours: _,
             word: _,
         } = self;
+        turns.order(&mut sent);
         Answer {
             refusal,
             opened,
-            sent: SentLines::new(turns.order(&mut sent, ordered)),
+            sent: SentLines::new(sent),
             work,
             spent,
             unused,
