@@ -31,7 +31,7 @@ impl<T: Drop> From<AllocFailed<T>> for LineFault {
 }
 
 /// How a line ends.
-#[derive(Clone, Copy, Debug, PartialEq, Eq)]
+#[derive(Clone, Copy, PartialEq, Eq)]
 pub enum LineEnd {
     LineFeed,
     /// The last line may lack its end, and may be empty.
@@ -41,7 +41,7 @@ pub enum LineEnd {
 }
 
 /// The octets of a line, without its end.
-#[derive(Debug, Drop)]
+#[derive(Drop)]
 pub struct ScriptLine {
     octets: Vec<u8>,
 }

@@ -5,7 +5,7 @@ use std::alloc::{AllocError, AllocFailed};
 use tip_stored::{LoadFault, RenewFault};
 
 /// Why a line that is understood ends its script. What was printed before stands.
-#[derive(Clone, Copy, Debug, PartialEq, Eq)]
+#[derive(Clone, Copy, PartialEq, Eq)]
 pub enum ActFault {
     Memory,
     /// The store refused, and nobody had asked it to; or what is stored is no row, or an epoch is at its end.

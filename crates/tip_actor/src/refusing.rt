@@ -26,7 +26,7 @@ pub trait Refuser<S: RowLog> {
 }
 
 /// A script asks rows in memory to refuse.
-#[derive(Clone, Copy, Debug)]
+#[derive(Clone, Copy)]
 pub struct ByScript;
 
 impl Refuser<MemRows> for ByScript {
@@ -44,7 +44,7 @@ impl Refuser<MemRows> for ByScript {
 }
 
 /// A store refuses of itself alone.
-#[derive(Clone, Copy, Debug)]
+#[derive(Clone, Copy)]
 pub struct ByItself;
 
 impl<S: RowLog> Refuser<S> for ByItself {

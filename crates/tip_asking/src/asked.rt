@@ -5,7 +5,7 @@ ghost use Rattle.tip_asking.specs.Asking.{decision_of, status_of};
 use tip_line::Id;
 
 /// How a superior ends a transaction of its subordinate.
-#[derive(Clone, Copy, Debug, PartialEq, Eq)]
+#[derive(Clone, Copy, PartialEq, Eq)]
 pub enum Decision {
     Commit,
     Abort,
@@ -39,7 +39,7 @@ pub enum Asked<'a> {
 }
 
 /// What a manager has answered.
-#[derive(Clone, Copy, Debug, PartialEq, Eq)]
+#[derive(Clone, Copy, PartialEq, Eq)]
 pub enum Verdict {
     /// It is there, it has the transaction, or the transaction has ended.
     Yes,

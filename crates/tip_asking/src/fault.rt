@@ -9,7 +9,7 @@ use tip_line::ResponseName;
 use tip_writing::WriteFault;
 
 /// Why a question was not answered to its end. What was said and told before stands.
-#[derive(Clone, Copy, Debug, PartialEq, Eq, Error)]
+#[derive(Clone, Copy, Debug, Error)]
 pub enum AskFault {
     /// Nothing that may be a response came, or a command could not be said.
     #[error("{0}")]
@@ -66,7 +66,7 @@ impl From<WriteFault> for AskFault {
 }
 
 /// Why not all commands of an input were said and answered. What was said and told before stands.
-#[derive(Clone, Copy, Debug, PartialEq, Eq, Error)]
+#[derive(Clone, Copy, Debug, Error)]
 pub enum SendFault {
     #[error("{0}")]
     Ask(AskFault),

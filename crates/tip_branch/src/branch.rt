@@ -107,7 +107,7 @@ impl Plan {
 }
 
 /// What a branch was told.
-#[derive(Clone, Copy, Debug, PartialEq, Eq, Drop)]
+#[derive(Clone, Copy, PartialEq, Eq, Drop)]
 pub struct Told {
     pub asked: bool,
     pub aborted: bool,
@@ -124,7 +124,7 @@ pub struct Badge {
 }
 
 /// What a branch stands for.
-#[derive(Clone, Copy, Debug, PartialEq, Eq, Drop)]
+#[derive(Clone, Copy, PartialEq, Eq, Drop)]
 pub struct Standing {
     pub badge: Badge,
     pub phase: Phase,

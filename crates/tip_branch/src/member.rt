@@ -6,7 +6,7 @@ use crate::branch::{Badge, Phase, Plan, Settled, Standing, Vote};
 use tip_txn::Ballot;
 
 /// What a party is to do while its transaction's lock is free.
-#[derive(Clone, Copy, Debug, PartialEq, Eq, Drop)]
+#[derive(Clone, Copy, PartialEq, Eq, Drop)]
 pub enum Errand {
     /// Nothing.
     Idle,
@@ -19,7 +19,7 @@ pub enum Errand {
 }
 
 /// A call that was made on a branch, with its answer.
-#[derive(Clone, Copy, Debug, PartialEq, Eq, Drop)]
+#[derive(Clone, Copy, PartialEq, Eq, Drop)]
 pub enum Call {
     Vote(Vote),
     Commit(Settled),
@@ -27,7 +27,7 @@ pub enum Call {
 }
 
 /// What is noted of one branch of a party.
-#[derive(Clone, Copy, Debug, PartialEq, Eq, Drop)]
+#[derive(Clone, Copy, PartialEq, Eq, Drop)]
 pub struct Member {
     /// Its number in its transaction, 1 to 8.
     pub number: u8,

@@ -8,7 +8,7 @@ use std::marker::Model;
 use tip_line::{Id, Realm};
 
 /// What is noted of a party, without its boxes.
-#[derive(Debug, Drop)]
+#[derive(Drop)]
 pub struct PartyNote {
     realm: Realm,
     epoch: u32,

@@ -3,14 +3,14 @@ use sqlite::{Alter, Connection, Error, Row as SqlRow};
 use std::alloc::{AllocError, Global};
 
 /// A realm as its table has it.
-#[derive(Debug, Drop)]
+#[derive(Drop)]
 pub struct Known {
     pub name: String,
     pub epoch: i64,
 }
 
 /// A stored row as its table has it.
-#[derive(Debug, Drop)]
+#[derive(Drop)]
 pub struct Stored {
     pub realm: String,
     pub epoch: i64,
@@ -20,7 +20,7 @@ pub struct Stored {
 }
 
 /// All that a store has.
-#[derive(Debug, Drop)]
+#[derive(Drop)]
 pub struct Contents {
     /// By name.
     pub realms: Vec<Known>,

@@ -9,7 +9,7 @@ use std::fmt;
 use tip_rows::Row;
 
 /// What a store has of one realm.
-#[derive(Clone, Copy, Debug, PartialEq, Eq)]
+#[derive(Clone, Copy)]
 pub struct Tally {
     /// 0 where it is not known.
     pub epoch: i64,

@@ -1,7 +1,7 @@
 //! What the two ends of a connection know of it.
 
 /// How far a connection has come (RFC 2371, section 9).
-#[derive(Clone, Copy, Debug, PartialEq, Eq)]
+#[derive(Clone, Copy, PartialEq, Eq)]
 pub enum State {
     /// Nothing was said yet, or TLS was declined.
     Initial,
@@ -18,7 +18,7 @@ pub enum State {
 }
 
 /// Which side of a connection we are (RFC 2371, section 4).
-#[derive(Clone, Copy, Debug, PartialEq, Eq)]
+#[derive(Clone, Copy, PartialEq, Eq)]
 pub enum Side {
     /// We say commands.
     Primary,
@@ -27,7 +27,7 @@ pub enum Side {
 }
 
 /// What a response does to the sides.
-#[derive(Clone, Copy, Debug, PartialEq, Eq)]
+#[derive(Clone, Copy, PartialEq, Eq)]
 pub enum Turn {
     Keep,
     /// The primary becomes the secondary, and the other way round.
@@ -37,7 +37,7 @@ pub enum Turn {
 }
 
 /// What becomes of a command that was received.
-#[derive(Clone, Copy, Debug, PartialEq, Eq)]
+#[derive(Clone, Copy, PartialEq, Eq)]
 pub enum Admit {
     Serve,
     /// It is answered ERROR, and the connection closed.

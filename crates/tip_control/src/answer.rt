@@ -3,7 +3,7 @@ use std::fmt;
 use tip_line::{Refusal, Response};
 
 /// What is answered to `retry`, `renew`, `push` and `pull`: a line, without its end.
-#[derive(Debug, Drop)]
+#[derive(Drop)]
 pub enum Answer {
     /// So many managers are called.
     Calls(usize),

@@ -9,7 +9,7 @@ use std::io::{BufRead, Write};
 use tip_writing::write_front;
 
 /// Whether what was asked was done.
-#[derive(Clone, Copy, Debug, PartialEq, Eq)]
+#[derive(Clone, Copy, PartialEq, Eq)]
 pub enum Verdict {
     Done,
     Refused,

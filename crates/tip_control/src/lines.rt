@@ -11,7 +11,7 @@ const LONGEST_LINE: usize = 2_048;
 const MOST_READ: u64 = 2_050;
 
 /// What comes next on a control connection.
-#[derive(Clone, Copy, Debug, PartialEq, Eq)]
+#[derive(Clone, Copy)]
 pub enum Coming<'a> {
     /// A line, without its end.
     Line(&'a [u8]),

@@ -12,7 +12,7 @@ use tip_script::are_kinds;
 type Words<'a> = Fields<'a, b' '>;
 
 /// What an operator, or an application, asks of its realm.
-#[derive(Debug, Drop)]
+#[derive(Drop)]
 pub enum Request {
     /// How much of its limits the realm takes up.
     Status,

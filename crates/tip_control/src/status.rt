@@ -2,14 +2,14 @@
 use std::fmt;
 
 /// How much is taken of so much.
-#[derive(Clone, Copy, Debug, PartialEq, Eq)]
+#[derive(Clone, Copy, PartialEq, Eq)]
 pub struct Part {
     pub taken: usize,
     pub limit: u32,
 }
 
 /// How a realm stands: how much of its limits it takes up, and what is stored of it.
-#[derive(Clone, Copy, Debug, PartialEq, Eq)]
+#[derive(Clone, Copy)]
 pub struct Status {
     pub epoch: u32,
     pub connections: Part,

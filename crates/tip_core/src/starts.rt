@@ -32,7 +32,7 @@ impl<T: Drop> From<AllocFailed<T>> for StartFault {
 }
 
 /// The realms that are to start, in the order of declaration. Each has a name of its own.
-#[derive(Debug, Drop)]
+#[derive(Drop)]
 pub struct Starts {
     items: Vec<Start>,
 }

@@ -16,7 +16,7 @@ use tip_table::{Table, Test};
 use tip_txn::Phase;
 
 /// How much of its limits a realm takes up, and how far its transactions have come.
-#[derive(Clone, Copy, Debug, PartialEq, Eq)]
+#[derive(Clone, Copy)]
 pub struct Usage {
     pub epoch: u32,
     pub connections: usize,

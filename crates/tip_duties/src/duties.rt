@@ -10,14 +10,14 @@ use tip_recovery::Unfinished;
 use tip_rows::Row;
 
 /// A connection that is to be opened to another manager, once.
-#[derive(Debug, Drop)]
+#[derive(Drop)]
 pub struct Dial {
     pub address: Address,
     pub purpose: Purpose,
 }
 
 /// What is to be done for the rows of a realm that starts, be it with the process or alone.
-#[derive(Debug, Drop)]
+#[derive(Drop)]
 pub struct Duties {
     /// The transactions of which what is left is to be tried again.
     pub resumes: Vec<Id>,

@@ -5,7 +5,7 @@ use std::marker::Model;
 use tip_branch::Badge;
 
 /// What boxes are known by, in order. It is seen as a list.
-#[derive(Debug, Drop)]
+#[derive(Drop)]
 pub struct Badges {
     badges: Vec<Badge>,
 }

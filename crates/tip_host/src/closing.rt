@@ -17,7 +17,7 @@ use tip_rows::RowLog;
 use tip_stored::RenewFault;
 
 /// Why a host was not closed.
-#[derive(Clone, Copy, Debug, PartialEq, Eq, Error)]
+#[derive(Clone, Copy, Debug, Error)]
 pub enum CloseFault {
     #[error("{0}")]
     Read(RenewFault),

@@ -16,7 +16,7 @@ use tip_recovery::{Recovery, Unfinished};
 use tip_rows::{Key, Row};
 
 /// A stored row that a realm took up, and what the boxes are known by that were adopted for its branches.
-#[derive(Debug, Drop)]
+#[derive(Drop)]
 pub struct OpenedRow {
     key: Key,
     row: Row,
@@ -47,7 +47,7 @@ impl OpenedRow {
 }
 
 /// The stored rows with which a realm began an epoch, by rising key. It is seen as a list.
-#[derive(Debug, Drop)]
+#[derive(Drop)]
 pub struct Opening {
     rows: Vec<OpenedRow>,
 }

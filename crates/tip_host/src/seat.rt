@@ -5,7 +5,7 @@ ghost use Rattle.tip_host.specs.Seats.{seat_at, within};
 use tip_machine::Seat as RealmSeat;
 
 /// A connection of one of a host's realms. It is stale once the realm has started again.
-#[derive(Clone, Copy, Debug, PartialEq, Eq)]
+#[derive(Clone, Copy, PartialEq, Eq)]
 pub struct Seat {
     /// The realm's place in the order of declaration, from 0.
     pub realm: usize,

@@ -19,7 +19,7 @@ pub struct Intake {
 }
 
 /// Why nothing more comes.
-#[derive(Clone, Copy, Debug, PartialEq, Eq)]
+#[derive(Clone, Copy, PartialEq, Eq)]
 pub enum InputEnd {
     /// The input has ended. A line without its end, if there is one, is none.
     AtEnd,

@@ -5,7 +5,7 @@ ghost use Rattle.tip_journal.specs.Retiring.{none_retired, with_retired};
 use std::marker::Model;
 
 /// How many journals of a realm were let go, and how many entries they had.
-#[derive(Debug, Drop)]
+#[derive(Drop)]
 pub struct Retired {
     starts: u32,
     entries: u64,

@@ -13,7 +13,7 @@ use tip_machine::Change;
 use tip_recovery::Unfinished;
 
 /// The stored rows of all realms, each by its place, as the store has answered.
-#[derive(Debug, Drop)]
+#[derive(Drop)]
 pub struct KeptRows {
     realms: Vec<RealmRows>,
 }

@@ -15,7 +15,7 @@ use tip_recovery::Unfinished;
 use tip_rows::{Key, Row};
 
 /// The stored rows of one realm, by rising key.
-#[derive(Debug, Drop)]
+#[derive(Drop)]
 pub(crate) struct RealmRows {
     rows: Vec<(Key, Row)>,
 }

@@ -19,7 +19,7 @@ use std::alloc::{AllocError, Global};
 use std::fmt;
 
 /// The name of a command.
-#[derive(Clone, Copy, Debug, PartialEq, Eq)]
+#[derive(Clone, Copy, PartialEq, Eq)]
 pub enum CommandName {
     Identify,
     Begin,
@@ -83,7 +83,7 @@ impl Name for CommandName {
 }
 
 /// A command, with what it says.
-#[derive(Debug, PartialEq, Drop)]
+#[derive(PartialEq, Drop)]
 pub enum Command {
     Identify {
         /// The lowest version that the primary speaks.

@@ -13,7 +13,7 @@ use std::fmt;
 use std::marker::Model;
 
 /// An identifier of a transaction, of ours or of a peer's: any word. Copies share the octets.
-#[derive(Debug, Drop)]
+#[derive(Drop)]
 pub struct Id {
     word: Word,
 }
@@ -30,7 +30,7 @@ impl Model for Id {
 }
 
 /// What an identifier that a realm gave was made of.
-#[derive(Clone, Copy, Debug, PartialEq, Eq)]
+#[derive(Clone, Copy)]
 pub struct IdParts<'a> {
     pub realm: &'a str,
     pub epoch: u32,

@@ -10,7 +10,7 @@ use std::alloc::{AllocError, Allocator, Global};
 use std::marker::Model;
 
 /// Why a stream of octets is no stream of lines.
-#[derive(Clone, Copy, Debug, PartialEq, Eq)]
+#[derive(Clone, Copy, PartialEq, Eq)]
 pub enum Cause {
     /// More octets than a line may have.
     TooLong,
@@ -19,7 +19,7 @@ pub enum Cause {
 }
 
 /// What a stream of octets gives next.
-#[derive(Clone, Copy, Debug, PartialEq, Eq)]
+#[derive(Clone, Copy)]
 pub enum Line<'a> {
     /// A line that is not blank, without the spaces at its ends.
     Text(&'a [u8]),

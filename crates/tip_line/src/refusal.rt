@@ -8,7 +8,7 @@ use std::alloc::AllocError;
 use std::fmt;
 
 /// Why something was refused. `Display` gives the number and the name, as `21 Full`.
-#[derive(Clone, Copy, Debug, PartialEq, Eq)]
+#[derive(Clone, Copy, PartialEq, Eq)]
 pub enum Refusal {
     Memory = 1,
     TooLong = 2,

@@ -111,7 +111,7 @@ impl Name for ResponseName {
 }
 
 /// A response, with what it says.
-#[derive(Debug, PartialEq, Drop)]
+#[derive(PartialEq, Drop)]
 pub enum Response {
     Identified {
         /// The version that the secondary chose.

@@ -102,7 +102,7 @@ impl PartialEq for Word {
 }
 
 /// A transaction manager's address, which only a dialler reads: a word other than `-` (RFC 2371, section 7).
-#[derive(Debug, Drop)]
+#[derive(Drop)]
 pub struct Address {
     word: Word,
 }

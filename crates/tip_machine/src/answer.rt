@@ -11,7 +11,7 @@ use tip_rows::Key;
 
 /// A response that we send as the secondary (RFC 2371, section 13), as data that takes no memory: it is printed only where
 /// it is written out. A transaction of ours stands in it as its key.
-#[derive(Clone, Copy, Debug, PartialEq, Eq)]
+#[derive(Clone, Copy)]
 pub enum Said {
     /// The version is 3, the only one that we speak.
     Identified,
@@ -99,7 +99,7 @@ impl Said {
 
 /// A command that we send as the primary. A transaction of ours stands in it as its key, another manager's word as it came.
 /// PREPARE, COMMIT and ABORT have the key of the transaction that they are about, which is not sent.
-#[derive(Debug, Drop)]
+#[derive(Drop)]
 pub enum Asked {
     /// The version is 3.
     Identify { ours: Address, theirs: Address },
@@ -162,7 +162,7 @@ fn word_of(alloc: Global, address: &Address) -> Result<Word, AllocError>
 }
 
 /// What goes out on a connection.
-#[derive(Debug, Drop)]
+#[derive(Drop)]
 pub enum Item {
     /// A response.
     Say(Said),
@@ -172,7 +172,7 @@ pub enum Item {
 }
 
 /// What goes out, and on which connection.
-#[derive(Debug, Drop)]
+#[derive(Drop)]
 pub struct Sent {
     /// The connection's number.
     pub connection: u32,
@@ -180,7 +180,7 @@ pub struct Sent {
 }
 
 /// What one event sends out, in order. It is seen as a list.
-#[derive(Debug, Drop)]
+#[derive(Drop)]
 pub struct SentLines {
     lines: Vec<Sent>,
 }

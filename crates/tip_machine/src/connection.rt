@@ -11,7 +11,7 @@ use tip_table::Linked;
 use tip_txn::Part;
 
 /// What a connection is on a transaction.
-#[derive(Clone, Copy, Debug, PartialEq, Eq)]
+#[derive(Clone, Copy, PartialEq, Eq)]
 pub enum Role {
     /// Our superior asks on it.
     Superior(Key),
@@ -32,7 +32,7 @@ impl Role {
 }
 
 /// What a connection that we open is for, once it is identified.
-#[derive(Debug, PartialEq, Drop)]
+#[derive(PartialEq, Drop)]
 pub enum Purpose {
     /// Whatever will be asked.
     Plain,
@@ -56,7 +56,7 @@ impl Purpose {
 }
 
 /// The command whose response we await.
-#[derive(Debug, Drop)]
+#[derive(Drop)]
 pub enum Awaited {
     Identify(Purpose),
     Push,

@@ -9,7 +9,7 @@ use tip_line::{Address, Command, Id, ParseFault, Response};
 use tip_rows::{Key, Row};
 
 /// Names one connection of a realm: no later connection has the same seat.
-#[derive(Clone, Copy, Debug, PartialEq, Eq)]
+#[derive(Clone, Copy, PartialEq, Eq)]
 pub struct Seat {
     /// The start of the realm that the connection belongs to.
     pub epoch: u32,
@@ -18,7 +18,7 @@ pub struct Seat {
 }
 
 /// What a line says, read once as it comes. Whether we wait for a command or for a response, only the connection knows.
-#[derive(Debug, PartialEq, Drop)]
+#[derive(PartialEq, Drop)]
 pub enum Heard {
     /// A command; a line ERROR, too, which is also a response.
     Command(Command),
@@ -100,7 +100,7 @@ pub enum Event<B = HeldFresh, P = HeldParty> {
 }
 
 /// The transactions that an event concerns: of the connections that are on a transaction, it tells those on these alone.
-#[derive(Clone, Copy, Debug, PartialEq, Eq)]
+#[derive(Clone, Copy)]
 pub struct Concerned {
     /// The own one of the connection that the event comes on.
     pub own: Option<Key>,
@@ -109,7 +109,7 @@ pub struct Concerned {
 }
 
 /// A change of the realm's stored rows.
-#[derive(Debug, Drop)]
+#[derive(Drop)]
 pub enum Change {
     /// The row of a key is stored, in place of an earlier one.
     Put { key: Key, row: Row },
@@ -118,7 +118,7 @@ pub enum Change {
 }
 
 /// What became of the change that an event wanted.
-#[derive(Clone, Copy, Debug, PartialEq, Eq)]
+#[derive(Clone, Copy, PartialEq, Eq)]
 pub enum Outcome {
     /// It wanted none.
     NoChange,

@@ -8,7 +8,7 @@ use tip_line::{Address, Realm};
 use tip_rows::Branches;
 
 /// How much a realm may have at one time.
-#[derive(Clone, Copy, Debug, PartialEq, Eq)]
+#[derive(Clone, Copy)]
 pub struct Limits {
     /// Connections, 1 to 4,096.
     pub connections: u32,
@@ -33,7 +33,7 @@ impl Limits {
 }
 
 /// What is known of a realm when it starts.
-#[derive(Debug, Drop)]
+#[derive(Drop)]
 pub struct Start {
     pub name: Realm,
     /// Where other managers reach this realm.
@@ -46,7 +46,7 @@ pub struct Start {
 }
 
 /// A realm's declaration, and what it counts.
-#[derive(Debug, Drop)]
+#[derive(Drop)]
 pub struct Head {
     pub name: Realm,
     pub address: Address,

@@ -9,7 +9,7 @@ use tip_table::Linked;
 use tip_txn::Txn;
 
 /// Where a transaction comes from.
-#[derive(Debug, Drop)]
+#[derive(Drop)]
 pub enum Origin {
     /// It was begun here, and whoever began it decides.
     Root,

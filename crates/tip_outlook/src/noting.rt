@@ -10,7 +10,7 @@ use tip_rows::Key;
 use tip_txn::{Ballot, Participant};
 
 /// What a response says of a part.
-#[derive(Debug, Drop)]
+#[derive(Drop)]
 pub enum Note {
     /// That its transaction goes on.
     Nothing,
@@ -21,7 +21,7 @@ pub enum Note {
 }
 
 /// What a response says of a part, without the identifier that it may have.
-#[derive(Clone, Copy, Debug)]
+#[derive(Clone, Copy)]
 enum Saying {
     Nothing,
     Answered(Ballot),
@@ -120,7 +120,7 @@ impl Note {
 }
 
 /// What is awaited on a connection, by the rule of its responses.
-#[derive(Clone, Copy, Debug)]
+#[derive(Clone, Copy)]
 pub enum Awaits {
     Nothing,
     /// The response to a command that a part was asked.

@@ -16,7 +16,7 @@ use tip_rows::Subordinates;
 use tip_txn::{Ballot, Decision, Part, Participant, Txn};
 
 /// What is looked for among answers.
-#[derive(Clone, Copy, Debug)]
+#[derive(Clone, Copy)]
 pub enum Sought {
     /// A no, or a part that was lost.
     Refusal,

@@ -14,7 +14,7 @@ use tip_table::{Rank, Test};
 use tip_txn::{Part, Phase};
 
 /// The connection of a number.
-#[derive(Clone, Copy, Debug)]
+#[derive(Clone, Copy)]
 pub struct Numbered {
     pub number: u32,
 }
@@ -36,7 +36,7 @@ impl Test<Connection> for Numbered {
 }
 
 /// Connections by their numbers, which rise.
-#[derive(Clone, Copy, Debug)]
+#[derive(Clone, Copy)]
 pub struct ByNumber;
 
 impl Rank<Connection> for ByNumber {
@@ -48,7 +48,7 @@ impl Rank<Connection> for ByNumber {
 }
 
 /// The transaction of a key.
-#[derive(Clone, Copy, Debug)]
+#[derive(Clone, Copy)]
 pub struct Keyed {
     pub key: Key,
 }
@@ -71,7 +71,7 @@ impl Test<Transaction> for Keyed {
 }
 
 /// A connection that is on the transaction of a key.
-#[derive(Clone, Copy, Debug)]
+#[derive(Clone, Copy)]
 pub struct OnKey {
     pub key: Key,
 }
@@ -94,7 +94,7 @@ impl Test<Connection> for OnKey {
 }
 
 /// The connection of the superior of a transaction.
-#[derive(Clone, Copy, Debug)]
+#[derive(Clone, Copy)]
 pub struct SuperiorOf {
     pub key: Key,
 }
@@ -124,7 +124,7 @@ pub fn asks_for(role: Option<Role>, key: Key) -> bool
 }
 
 /// The connection of a part of a transaction.
-#[derive(Clone, Copy, Debug)]
+#[derive(Clone, Copy)]
 pub struct PartOf {
     pub key: Key,
     pub part: Part,
@@ -155,7 +155,7 @@ fn reaches(role: Option<Role>, key: Key, part: Part) -> bool
 }
 
 /// The transaction of an identifier, in a realm of this name.
-#[derive(Debug, Drop)]
+#[derive(Drop)]
 pub struct Named<'a> {
     realm: &'a Realm,
     id: &'a Id,
@@ -204,7 +204,7 @@ impl Test<Transaction> for Named<'_> {
 }
 
 /// A transaction that was pushed or pulled from the manager at an address, under this identifier, and has no outcome yet.
-#[derive(Clone, Copy, Debug)]
+#[derive(Clone, Copy)]
 pub struct Known<'a> {
     pub peer: &'a Option<Address>,
     pub superior: &'a Id,

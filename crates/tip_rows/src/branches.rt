@@ -8,7 +8,7 @@ use std::alloc::{AllocError, Allocator, Global};
 use std::marker::Model;
 
 /// The local branches of a transaction that voted yes: member numbers from 1 to 8, rising, with distinct labels.
-#[derive(Debug, Drop)]
+#[derive(Drop)]
 pub struct Branches<A: Allocator = Global> {
     items: Vec<(u8, Label), A>,
 }

@@ -10,7 +10,7 @@ use std::marker::Model;
 use tip_line::{Address, Id};
 
 /// A row whose lists are on a heap of the caller's; its words share their octets with those that they were copied from.
-#[derive(Debug, Drop)]
+#[derive(Drop)]
 pub struct HeapRow<A: Allocator> {
     /// Where its superior is, and which, of a row in doubt.
     superior: Option<(Address, Id)>,

@@ -6,7 +6,7 @@ use std::marker::Model;
 use tip_line::IdParts;
 
 /// The place of a transaction's row within its realm: the three numbers of its identifier, each 1 or more.
-#[derive(Clone, Copy, Debug, PartialEq, Eq)]
+#[derive(Clone, Copy, PartialEq, Eq)]
 pub struct Key {
     epoch: u32,
     connection: u32,

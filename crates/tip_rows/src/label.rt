@@ -23,7 +23,7 @@ pub enum LabelFault {
 }
 
 /// The name of a local branch: a letter from `a` to `z`, then letters or digits, 1 to 16 octets. Copies share the octets.
-#[derive(Debug, Drop)]
+#[derive(Drop)]
 pub struct Label {
     word: Word,
 }

@@ -35,7 +35,7 @@ pub enum LoadFault {
 }
 
 /// What is stored of one realm.
-#[derive(Debug, Drop)]
+#[derive(Drop)]
 pub struct Loaded<A: Allocator = Global> {
     /// 0 for a realm that is not known.
     pub epoch: u32,

@@ -7,7 +7,7 @@ pub trait Medium {
 }
 
 /// The memory of the process, which always returns what was written.
-#[derive(Clone, Copy, Debug, PartialEq, Eq)]
+#[derive(Clone, Copy)]
 pub struct OwnMemory;
 
 impl Medium for OwnMemory {

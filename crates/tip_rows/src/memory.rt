@@ -19,7 +19,7 @@ use std::marker::Model;
 use tip_line::Realm;
 
 /// A known realm.
-#[derive(Debug, Drop)]
+#[derive(Drop)]
 struct Known {
     realm: Realm,
     epoch: u32,
@@ -28,7 +28,7 @@ struct Known {
 }
 
 /// A row where it stands.
-#[derive(Debug, Drop)]
+#[derive(Drop)]
 struct Stored<A: Allocator> {
     realm: Realm,
     key: Key,
@@ -44,7 +44,7 @@ impl<A: Allocator> Model for Stored<A> {
 }
 
 /// Rows in memory, on a heap of the caller's. They refuse a change for want of memory, or where `refuse_next` asked for it.
-#[derive(Debug, Drop)]
+#[derive(Drop)]
 pub struct MemRows<A: Allocator = Global> {
     alloc: Global,
     /// By name.

@@ -8,7 +8,7 @@ use std::alloc::{AllocError, Global};
 use tip_line::{Address, Id};
 
 /// What outlives a restart of one transaction.
-#[derive(Debug, Drop)]
+#[derive(Drop)]
 pub enum Row {
     /// In doubt: its superior, which is at this address, decides.
     Prepared {

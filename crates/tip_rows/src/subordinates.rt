@@ -6,7 +6,7 @@ use std::marker::Model;
 use tip_line::{Address, Id};
 
 /// The subordinates that voted yes, in the order enlisted: where each is, and the identifier that it gave.
-#[derive(Debug, Drop)]
+#[derive(Drop)]
 pub struct Subordinates<A: Allocator = Global> {
     items: Vec<(Address, Id), A>,
 }

@@ -15,7 +15,7 @@ use tip_machine::{Answer, Event, Item, Seat, Sent, SentLines};
 use tip_outlook::Turns;
 
 /// Copies of words, for what is made of them.
-#[derive(Debug, Drop)]
+#[derive(Drop)]
 pub struct Words {
     /// Where the other side of the event's connection is, if it said so.
     pub peer: Option<Address>,

@@ -27,7 +27,7 @@ use tip_rows::Key;
 use tip_txn::{Part, Participant};
 
 /// What a connection is to reach again: a subordinate of the transaction of a key, by its number.
-#[derive(Clone, Copy, Debug)]
+#[derive(Clone, Copy)]
 struct Aim {
     key: Key,
     subordinate: u32,

@@ -15,7 +15,7 @@ use tip_rows::Key;
 use tip_table::Visit;
 
 /// What is answered to a superior that asked, and what subordinates are asked.
-#[derive(Clone, Copy, Debug, PartialEq, Eq)]
+#[derive(Clone, Copy, PartialEq, Eq)]
 pub enum Reaction {
     /// Subordinates are asked whether they are prepared.
     Asks,
@@ -30,7 +30,7 @@ pub enum Reaction {
 }
 
 /// What a subordinate is asked for a transaction.
-#[derive(Clone, Copy, Debug, PartialEq, Eq)]
+#[derive(Clone, Copy, PartialEq, Eq)]
 pub enum Demand {
     Prepare,
     Commit,
@@ -104,7 +104,7 @@ impl Reaction {
 }
 
 /// A transaction's progress, as it is told to the connections that are on it.
-#[derive(Clone, Copy, Debug)]
+#[derive(Clone, Copy)]
 pub struct Progress {
     pub reaction: Reaction,
     pub key: Key,

@@ -12,7 +12,7 @@ use tip_rows::RowLog;
 use tip_stored::{LoadFault, RenewFault};
 
 /// Why a move was not made.
-#[derive(Clone, Copy, Debug, PartialEq, Eq, Error)]
+#[derive(Clone, Copy, Debug, Error)]
 pub enum RunFault {
     #[error("{0}")]
     Load(LoadFault),

@@ -7,7 +7,7 @@ use tip_line::WordFault;
 use tip_rows::LabelFault;
 
 /// Why a line of a script is not done.
-#[derive(Clone, Copy, Debug, PartialEq, Eq)]
+#[derive(Clone, Copy, PartialEq, Eq)]
 pub enum LineFault {
     /// It says nothing, or what may not stand here.
     NotUnderstood,

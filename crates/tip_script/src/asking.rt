@@ -9,7 +9,7 @@ use crate::kinds::kinds_in;
 use tip_line::Fields;
 
 /// What a connection is dialled for.
-#[derive(Clone, Copy, Debug, PartialEq, Eq)]
+#[derive(Clone, Copy)]
 pub enum Aim<'a> {
     /// `plain`: for whatever will be asked.
     Plain,
@@ -20,7 +20,7 @@ pub enum Aim<'a> {
 }
 
 /// A transaction that is to be pushed or pulled on a connection of a realm.
-#[derive(Clone, Copy, Debug, PartialEq, Eq)]
+#[derive(Clone, Copy)]
 pub struct Asked<'a> {
     pub realm: &'a str,
     pub connection: u32,

@@ -11,7 +11,7 @@ use tip_line::Fields;
 use tip_machine::Limits;
 
 /// Octets that come on a connection.
-#[derive(Clone, Copy, Debug, PartialEq, Eq)]
+#[derive(Clone, Copy)]
 pub enum Octets<'a> {
     /// A text, and the end of a line.
     Text(&'a [u8]),
@@ -20,7 +20,7 @@ pub enum Octets<'a> {
 }
 
 /// What one line of a script says.
-#[derive(Clone, Copy, Debug, PartialEq, Eq)]
+#[derive(Clone, Copy)]
 pub enum Instruction<'a> {
     /// `realm NAME ADDRESS CONNECTIONS TRANSACTIONS BRANCHES BOXES ENTRIES` declares a realm.
     Realm {

@@ -10,7 +10,7 @@ use tip_rows::Branches;
 
 /// A realm that is to be served. It may be declared as it stands: its limits are within their
 /// ranges, and its branches are one to eight, numbered from 1.
-#[derive(Debug, Drop)]
+#[derive(Drop)]
 pub struct RealmConfig {
     pub name: Realm,
     /// Where connections are accepted.
@@ -31,7 +31,7 @@ pub struct RealmConfig {
 }
 
 /// The realms that are to be served, one or more, and the file in which their rows are kept.
-#[derive(Debug, Drop)]
+#[derive(Drop)]
 pub struct Config {
     /// The path of a file, or `:memory:`.
     pub store: String,

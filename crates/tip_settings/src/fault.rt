@@ -4,7 +4,7 @@ use std::alloc::{AllocError, AllocFailed};
 use thiserror::Error;
 
 /// What is wanted of a realm's table, and is not so.
-#[derive(Clone, Copy, Debug, PartialEq, Eq, Error)]
+#[derive(Clone, Copy, Debug, Error)]
 pub enum Wanted {
     #[error("`name` is not 1 to 16 letters from a to z")]
     Name,
@@ -23,14 +23,14 @@ pub enum Wanted {
 }
 
 /// Why a table is no realm.
-#[derive(Clone, Copy, Debug, PartialEq, Eq)]
+#[derive(Clone, Copy)]
 pub(crate) enum RealmFault {
     Memory,
     Wrong(Wanted),
 }
 
 /// Why octets are no configuration: the first of what is wrong.
-#[derive(Clone, Copy, Debug, PartialEq, Eq, Error)]
+#[derive(Clone, Copy, Debug, Error)]
 pub enum ConfigFault {
     #[error("out of memory")]
     Memory,

@@ -15,7 +15,7 @@ use tip_journal::{AuditFault, Journals, Pass, Reported, Retired};
 use tip_rows::RowLog;
 
 /// Why a host that was shared is not closed.
-#[derive(Clone, Copy, Debug, PartialEq, Eq, Error)]
+#[derive(Clone, Copy, Debug, Error)]
 pub enum CloseFault {
     #[error("the passes do not have the journals' entries")]
     PassMismatch,

@@ -12,13 +12,13 @@ use tip_machine::{Head, Limits, Start};
 use tip_rows::{Branches, Label};
 
 /// A limit of the realm is out of its range, or its branches are not one to eight, numbered from 1.
-#[derive(Clone, Copy, Debug, PartialEq, Eq, Error)]
+#[derive(Clone, Copy, Debug, Error)]
 #[error("a realm may not be declared so")]
 pub struct BadRealm;
 
 /// A realm as it is to be hosted: its name, the address at which others reach it, its limits, and the branches of each of its
 /// transactions.
-#[derive(Debug, Drop)]
+#[derive(Drop)]
 pub struct RealmSpec {
     pub(crate) name: Realm,
     address: Address,

@@ -15,7 +15,7 @@ use tip_recovery::{AdoptFault, Recovery, Unfinished};
 use tip_rows::RowLog;
 
 /// A row still waits for boxes.
-#[derive(Clone, Copy, Debug, PartialEq, Eq, Error)]
+#[derive(Clone, Copy, Debug, Error)]
 #[error("a row with branches was not adopted")]
 pub struct Unadopted;
 

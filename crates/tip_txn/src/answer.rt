@@ -1,7 +1,7 @@
 //! What the parties of a transaction answer, and what comes of it.
 
 /// What a party answers to the question whether it is prepared.
-#[derive(Clone, Copy, Debug, PartialEq, Eq)]
+#[derive(Clone, Copy, PartialEq, Eq)]
 pub enum Ballot {
     Yes,
     No,
@@ -12,7 +12,7 @@ pub enum Ballot {
 }
 
 /// What the answers decide.
-#[derive(Clone, Copy, Debug, PartialEq, Eq)]
+#[derive(Clone, Copy, PartialEq, Eq)]
 pub enum Decision {
     /// An answer is missing, and none refuses.
     Wait,

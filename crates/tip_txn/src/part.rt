@@ -6,7 +6,7 @@ use std::marker::Model;
 use tip_line::{Address, Id};
 
 /// The name of a part within its transaction: its place in the order enlisted. Contracts see the place.
-#[derive(Clone, Copy, Debug, PartialEq, Eq)]
+#[derive(Clone, Copy, PartialEq, Eq)]
 pub struct Part {
     place: usize,
 }
@@ -45,7 +45,7 @@ impl Part {
 }
 
 /// What a transaction keeps of a part. The local party has no address.
-#[derive(Debug, Drop)]
+#[derive(Drop)]
 pub struct Participant {
     /// Where the subordinate is.
     pub address: Option<Address>,

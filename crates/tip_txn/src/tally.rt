@@ -9,7 +9,7 @@ ghost use Rattle.tip_txn.specs.declared.part.Participant.{Participant};
 use crate::answer::{Ballot, Decision};
 
 /// How many parts have answered what. One that has nothing to commit decides nothing, and is not counted.
-#[derive(Clone, Copy, Debug)]
+#[derive(Clone, Copy)]
 pub(crate) struct Tally {
     /// Parts that have not answered.
     missing: usize,

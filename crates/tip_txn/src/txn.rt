@@ -26,7 +26,7 @@ pub enum EnlistFault {
 }
 
 /// One transaction. It knows no connection: whoever holds it says what its parts answered.
-#[derive(Debug, Drop)]
+#[derive(Drop)]
 pub struct Txn<A: Allocator = Global> {
     phase: Phase,
     local: Participant,

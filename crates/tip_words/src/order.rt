@@ -1,7 +1,7 @@
 //! What the words of the command line ask for.
 
 /// What the words of the command line ask for. Its texts are theirs.
-#[derive(Clone, Copy, Debug, PartialEq, Eq)]
+#[derive(Clone, Copy)]
 pub enum Order<'a> {
     /// To play the script on standard input, over the store in this file, or over rows in memory.
     Play {

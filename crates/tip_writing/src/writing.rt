@@ -7,7 +7,7 @@ use std::io::{ErrorKind, Write};
 use thiserror::Error;
 
 /// The writer failed, or takes nothing.
-#[derive(Clone, Copy, Debug, PartialEq, Eq, Error)]
+#[derive(Clone, Copy, Debug, Error)]
 #[error("cannot write")]
 pub struct WriteFault;
 
