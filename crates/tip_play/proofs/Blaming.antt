@@ -1,6 +1,6 @@
 -- Why the store is blamed, from one line to the next.
 use Rattle.std.proofs.Common.{◌≡◌, ◌∙◌, Result, Ok, Err, inl, inr, sym, ap, subst}
-use Rattle.std.specs.Prelude.{IsErrOf}
+use Rattle.std.specs.Prelude.{IfErr, IsErrOf}
 use Rattle.tip_rows.specs.Logs.{Keeping}
 use Rattle.tip_scene.proofs.Blaming.{refused_since}
 use Rattle.tip_scene.specs.Acts.{Basis}
@@ -29,14 +29,6 @@ module _ {S : Type 0} (kept : Keeping S) (basis : Basis) where
   blames_back old mid store (Ok x) trusts same blames = tt
   blames_back old mid store (Err why) trusts same blames = blames_back_err old mid why trusts same blames
 
-  pub blames_unflushed : (why : S → Type 0) (result : Result S (PlayFault × S)) → Blames kept fault.Store why result → Blames kept fault.Store why (unflushed result)
-  blames_unflushed why (Ok store) blames = λ is. absurd cc
-  blames_unflushed why (Err (fault.Script line, store)) blames = λ is. absurd cc
-  blames_unflushed why (Err (fault.Read, store)) blames = blames
-  blames_unflushed why (Err (fault.Write, store)) blames = blames
-  blames_unflushed why (Err (fault.Memory, store)) blames = blames
-  blames_unflushed why (Err (fault.Store, store)) blames = blames
-
 -- Memory has ended, and nothing was refused
 
 module _ {S : Type 0} (kept : Keeping S) where
@@ -44,10 +36,13 @@ module _ {S : Type 0} (kept : Keeping S) where
   spares_back old mid (Ok x) same spares = tt
   spares_back old mid (Err why) same spares = λ short. spares short ∙ same
 
-  pub spares_unflushed : (old : S) (result : Result S (PlayFault × S)) → Spares kept fault.Memory old result → Spares kept fault.Memory old (unflushed result)
-  spares_unflushed old (Ok store) spares = λ is. absurd cc
-  spares_unflushed old (Err (fault.Script line, store)) spares = λ is. absurd cc
-  spares_unflushed old (Err (fault.Read, store)) spares = spares
-  spares_unflushed old (Err (fault.Write, store)) spares = spares
-  spares_unflushed old (Err (fault.Memory, store)) spares = spares
-  spares_unflushed old (Err (fault.Store, store)) spares = spares
+-- An end that was not flushed
+
+-- what is known of each fault, and of a fault in writing, is known of it
+pub kept_unflushed : {S : Type 0} (known : PlayFault × S → Type 0) (result : Result S (PlayFault × S)) → ((store : S) → known (fault.Write, store)) → IfErr result known → IfErr (unflushed result) known
+kept_unflushed known (Ok store) write is = write store
+kept_unflushed known (Err (fault.Script line, store)) write is = write store
+kept_unflushed known (Err (fault.Read, store)) write is = is
+kept_unflushed known (Err (fault.Write, store)) write is = is
+kept_unflushed known (Err (fault.Memory, store)) write is = is
+kept_unflushed known (Err (fault.Store, store)) write is = is

@@ -5,7 +5,7 @@ ghost use Rattle.tip_branch.specs.Lots.{AreIn};
 ghost use Rattle.tip_branch.specs.declared.branch.Phase.TheVariants.{Active};
 ghost use Rattle.tip_script.specs.Scripts.{move_of};
 ghost use Rattle.tip_scene.specs.Acts.{Basis, Stage as AStage, acted, closing_of, is_covered};
-ghost use Rattle.tip_scene.specs.Blaming.{Blames, HasRefused, IsBlamed, Spares};
+ghost use Rattle.tip_scene.specs.Blaming.{Blames, HasRefused, IsBlamed, IsSpared, Spares};
 ghost use Rattle.tip_scene.specs.Boxes.{AreWilling};
 ghost use Rattle.tip_scene.specs.Leaving.{LeavesOthers, names_in};
 ghost use Rattle.tip_rows.specs.Logs.{Log};
@@ -255,8 +255,8 @@ fn next<S: RowLog + Drop, R: BufRead>(
         S.keeping.stands (store_of stage.new) log }
     ensures counts { OnOk result (S.keeping.faults (store_of stage.new)
         ≡ S.keeping.faults (store_of stage.old)) }
-    ensures spared { IsErrOf result PlayFault.Memory →
-        S.keeping.faults (store_of stage.new) ≡ S.keeping.faults (store_of stage.old) }
+    ensures spared { IsSpared S.keeping PlayFault.Memory
+        (store_of stage.old) (store_of stage.new) result }
     ensures blames { (basis : Basis) (now : AStage) →
         IsStage S.keeping basis stage.old now → IsErrOf result PlayFault.Store →
         S.keeping.is_true (store_of stage.new) →

@@ -1,5 +1,5 @@
 -- Why a script ends by its store.
-use Rattle.std.specs.Prelude.{◌≡◌, ◌≢◌, ◌⊎◌, ℕ, Bool, true, false, List, [], map, Some, Result, Ok, Err, slice_get}
+use Rattle.std.specs.Prelude.{◌≡◌, ◌≢◌, ◌⊎◌, ℕ, Bool, true, false, IfErr, IsErrOf, List, [], map, Some, Result, Ok, Err, slice_get}
 use Rattle.tip_rows.specs.Logs.{Keeping, Log, IsSpoiled}
 use Rattle.tip_recovery.specs.Adopting.{Recovery}
 use Rattle.tip_stored.specs.Loading as Loading
@@ -110,10 +110,12 @@ abbrev pub Accuses : {S E : Type 0} → Keeping S → E → (S → Type 0) → E
 Accuses kept blame why fault = fault.0 ≡ blame → kept.is_true fault.1 → why fault.1
 
 abbrev pub Blames : {S T E : Type 0} → Keeping S → E → (S → Type 0) → Result T (E × S) → Type 0
-Blames kept blame why (Ok x) = Unit {0}
-Blames kept blame why (Err fault) = Accuses kept blame why fault
+Blames kept blame why result = IfErr result (Accuses kept blame why)
 
--- WANT OF MEMORY IS NO WORD FOR A REFUSAL: where a fault says it, the store has refused nothing since
+-- WANT OF MEMORY IS NO WORD FOR A REFUSAL: where a call ends with this fault, the store has refused nothing since
+abbrev pub IsSpared : {S T E : Type 0} → Keeping S → E → S → S → Result T E → Type 0
+IsSpared kept memory old new result = IsErrOf result memory → kept.faults new ≡ kept.faults old
+
+-- so it is where the store is handed back with the fault
 abbrev pub Spares : {S T E : Type 0} → Keeping S → E → S → Result T (E × S) → Type 0
-Spares kept memory old (Ok x) = Unit {0}
-Spares kept memory old (Err fault) = fault.0 ≡ memory → kept.faults fault.1 ≡ kept.faults old
+Spares kept memory old result = IfErr result (λ fault. fault.0 ≡ memory → kept.faults fault.1 ≡ kept.faults old)

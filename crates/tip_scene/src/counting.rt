@@ -4,7 +4,7 @@ ghost use Rattle.tip_actor.specs.declared.fault.ActFault.TheVariants.{Memory, St
 ghost use Rattle.tip_rows.specs.Keys.{Key as AKey};
 ghost use Rattle.tip_rows.specs.Logs.{IsPart, Log};
 ghost use Rattle.tip_rows.specs.declared.row.Row.{Row as ARow};
-ghost use Rattle.tip_scene.specs.Blaming.{AreUnread};
+ghost use Rattle.tip_scene.specs.Blaming.{AreUnread, IsSpared};
 ghost use Rattle.tip_scene.specs.Boxes.{box_count, boxes_if_meant, is_meant};
 ghost use Rattle.tip_scene.specs.Scenes.{Scene};
 ghost use Rattle.tip_scene.specs.Wanting.{AreNamed, HasAll};
@@ -26,8 +26,7 @@ pub(crate) fn count_declared<S: RowLog + Drop>(
     ensures due { (r : List ℕ) → S.keeping.is_due store.new r ≡ S.keeping.is_due store.old r }
     ensures truth { S.keeping.is_true store.new → S.keeping.is_true store.old }
     ensures counts { OnOk result (S.keeping.faults store.new ≡ S.keeping.faults store.old) }
-    ensures spared { IsErrOf result Memory →
-        S.keeping.faults store.new ≡ S.keeping.faults store.old }
+    ensures spared { IsSpared S.keeping Memory store.old store.new result }
     ensures unread { IsErrOf result Store → AreUnread S.keeping store.old store.new
         (map (λ declaration. declaration.name) declarations.now) }
     ensures wanted { (scene : Scene) →
@@ -53,8 +52,7 @@ pub(crate) fn count_acting<S: RowLog + Drop>(
     ensures due { (r : List ℕ) → S.keeping.is_due store.new r ≡ S.keeping.is_due store.old r }
     ensures truth { S.keeping.is_true store.new → S.keeping.is_true store.old }
     ensures counts { OnOk result (S.keeping.faults store.new ≡ S.keeping.faults store.old) }
-    ensures spared { IsErrOf result Memory →
-        S.keeping.faults store.new ≡ S.keeping.faults store.old }
+    ensures spared { IsSpared S.keeping Memory store.old store.new result }
     ensures unread { IsErrOf result Store → AreUnread S.keeping store.old store.new
         (map (λ actor. actor.name) actors.now) }
     ensures wanted { (scene : Scene) → AreNamed (map (λ actor. actor.name) actors.now) scene →
@@ -80,8 +78,7 @@ fn count_more<S: RowLog + Drop>(
     ensures due { (r : List ℕ) → S.keeping.is_due store.new r ≡ S.keeping.is_due store.old r }
     ensures truth { S.keeping.is_true store.new → S.keeping.is_true store.old }
     ensures counts { OnOk result (S.keeping.faults store.new ≡ S.keeping.faults store.old) }
-    ensures spared { IsErrOf result Memory →
-        S.keeping.faults store.new ≡ S.keeping.faults store.old }
+    ensures spared { IsSpared S.keeping Memory store.old store.new result }
     ensures unread { IsErrOf result Store → AreUnread S.keeping store.old store.new
         (realm.now ∷ []) }
     ensures wanted { (log : Log) (epoch : ℕ) (rows : List (AKey × ARow)) →

@@ -5,7 +5,7 @@ ghost use Rattle.tip_branch.specs.Always.{Always};
 ghost use Rattle.tip_line.specs.Fields.{fields_of};
 ghost use Rattle.tip_line.specs.Words.{is_address, is_realm};
 ghost use Rattle.tip_scene.specs.Acts.{Basis, Declaring as Begins, declaration_of, declared, is_count, is_declared, is_other, labelled, scene_of, starts_text, with_labels};
-ghost use Rattle.tip_scene.specs.Blaming.{Blames, HasRefused, IsAtFault, Spares};
+ghost use Rattle.tip_scene.specs.Blaming.{Blames, HasRefused, IsAtFault, IsSpared, Spares};
 ghost use Rattle.tip_scene.specs.Boxes.{AreWilling, box_count};
 ghost use Rattle.tip_scene.specs.Hosting.{may_be_hosted};
 ghost use Rattle.tip_rows.specs.Logs.{Log};
@@ -182,8 +182,7 @@ impl<S: RowLog + Drop> Declared<S, Core> {
             S.keeping.stands self.new.store log }
         ensures counts { OnOk result (S.keeping.faults self.new.store
             ≡ S.keeping.faults self.old.store) }
-        ensures spared { IsErrOf result ActFault.Memory →
-            S.keeping.faults self.new.store ≡ S.keeping.faults self.old.store }
+        ensures spared { IsSpared S.keeping ActFault.Memory self.old.store self.new.store result }
         ensures blames { (basis : Basis) (declarations : List Declaration) →
             IsDeclared S.keeping basis self.old declarations → IsErrOf result ActFault.Store →
             S.keeping.is_true self.new.store →

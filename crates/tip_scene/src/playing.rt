@@ -10,7 +10,7 @@ ghost use Rattle.tip_script.specs.Scripts.{Renew as Renews, is_start, plans_with
 ghost use Rattle.tip_branch.specs.Lots.{AreIn};
 ghost use Rattle.tip_branch.specs.declared.branch.Phase.TheVariants.{Active};
 ghost use Rattle.tip_scene.specs.Acts.{Playing as AtWork, may_say};
-ghost use Rattle.tip_scene.specs.Blaming.{Blames, HasRefused, IsAtFault, Spares, blamed, judged};
+ghost use Rattle.tip_scene.specs.Blaming.{Blames, HasRefused, IsAtFault, IsSpared, Spares, blamed, judged};
 ghost use Rattle.tip_scene.specs.Boxes.{AreWilling, box_count};
 ghost use Rattle.tip_scene.specs.Leaving.{HaltsAtWork, HaltsIn, LeavesRest};
 ghost use Rattle.tip_rows.specs.Logs.{Log};
@@ -132,9 +132,9 @@ impl<S: RowLog + Drop> Playing<StoredCore<S>, Actor> {
             OnOk result (LeavesRest S.keeping self.old self.new) }
         ensures counts { R.may ≡ false → OnOk result (S.keeping.faults self.new.stored_core.store
             ≡ S.keeping.faults self.old.stored_core.store) }
-        ensures spared { R.may ≡ false → IsErrOf result LineFault.Memory →
-            S.keeping.faults self.new.stored_core.store
-            ≡ S.keeping.faults self.old.stored_core.store }
+        ensures spared { R.may ≡ false →
+            IsSpared S.keeping LineFault.Memory self.old.stored_core.store
+            self.new.stored_core.store result }
         ensures blames { R.may ≡ false → (scene : Scene) → IsScene S.keeping
             self.old.stored_core self.old.actors.items scene →
             wanted_again (move_by instruction.entry) scene ≤ length pool.old.items →
@@ -184,9 +184,9 @@ impl<S: RowLog + Drop> Playing<StoredCore<S>, Actor> {
             OnOk result (LeavesRest S.keeping self.old self.new) }
         ensures counts { R.may ≡ false → OnOk result (S.keeping.faults self.new.stored_core.store
             ≡ S.keeping.faults self.old.stored_core.store) }
-        ensures spared { R.may ≡ false → IsErrOf result LineFault.Memory →
-            S.keeping.faults self.new.stored_core.store
-            ≡ S.keeping.faults self.old.stored_core.store }
+        ensures spared { R.may ≡ false →
+            IsSpared S.keeping LineFault.Memory self.old.stored_core.store
+            self.new.stored_core.store result }
         ensures blames { R.may ≡ false → (scene : Scene) → IsScene S.keeping
             self.old.stored_core self.old.actors.items scene →
             box_count (Some name.now) scene ≤ length pool.old.items →
@@ -249,9 +249,9 @@ impl<S: RowLog + Drop> Playing<StoredCore<S>, Actor> {
             OnOk result (LeavesRest S.keeping self.old self.new) }
         ensures counts { R.may ≡ false → OnOk result (S.keeping.faults self.new.stored_core.store
             ≡ S.keeping.faults self.old.stored_core.store) }
-        ensures spared { R.may ≡ false → IsErrOf result LineFault.Memory →
-            S.keeping.faults self.new.stored_core.store
-            ≡ S.keeping.faults self.old.stored_core.store }
+        ensures spared { R.may ≡ false →
+            IsSpared S.keeping LineFault.Memory self.old.stored_core.store
+            self.new.stored_core.store result }
         ensures blames { R.may ≡ false → IsErrOf result LineFault.Store →
             HasRefused S.keeping self.old.stored_core.store self.new.stored_core.store }
         ensures stays { IsErrOf result LineFault.NotUnderstood →
@@ -339,9 +339,8 @@ impl<S: RowLog + Drop> Playing<StoredCore<S>, Actor> {
             S.keeping.stands self.new.stored_core.store log }
         ensures counts { OnOk result (S.keeping.faults self.new.stored_core.store
             ≡ S.keeping.faults self.old.stored_core.store) }
-        ensures spared { IsErrOf result ActFault.Memory →
-            S.keeping.faults self.new.stored_core.store
-            ≡ S.keeping.faults self.old.stored_core.store }
+        ensures spared { IsSpared S.keeping ActFault.Memory
+            self.old.stored_core.store self.new.stored_core.store result }
         ensures blames { (scene : Scene) → IsScene S.keeping
             self.old.stored_core self.old.actors.items scene → IsErrOf result ActFault.Store →
             S.keeping.is_true self.new.stored_core.store →

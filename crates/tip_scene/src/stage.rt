@@ -7,7 +7,7 @@ ghost use Rattle.tip_scene.specs.Acts.{Basis, Stage as AStage, Declaring as Begi
 ghost use Rattle.tip_branch.specs.Lots.{AreIn};
 ghost use Rattle.tip_branch.specs.declared.branch.Phase.TheVariants.{Active};
 ghost use Rattle.std.specs.List.{list_all};
-ghost use Rattle.tip_scene.specs.Blaming.{Blames, HasRefused, IsBlamed, Spares, starting_from};
+ghost use Rattle.tip_scene.specs.Blaming.{Blames, HasRefused, IsBlamed, IsSpared, Spares, starting_from};
 ghost use Rattle.tip_scene.specs.Boxes.{AreWilling, box_count};
 ghost use Rattle.tip_scene.specs.Hosting.{may_be_hosted};
 ghost use Rattle.tip_rows.specs.Logs.{Log};
@@ -166,8 +166,8 @@ impl<S: RowLog + Drop> Stage<Declared<S>, Playing<StoredCore<S>>> {
             S.keeping.stands (store_of self.new) log }
         ensures counts { OnOk result (S.keeping.faults (store_of self.new)
             ≡ S.keeping.faults (store_of self.old)) }
-        ensures spared { IsErrOf result ActFault.Memory →
-            S.keeping.faults (store_of self.new) ≡ S.keeping.faults (store_of self.old) }
+        ensures spared { IsSpared S.keeping ActFault.Memory
+            (store_of self.old) (store_of self.new) result }
         ensures blames { (basis : Basis) (stage : AStage) →
             IsStage S.keeping basis self.old stage → IsErrOf result ActFault.Store →
             S.keeping.is_true (store_of self.new) →
@@ -201,8 +201,8 @@ impl<S: RowLog + Drop> Stage<Declared<S>, Playing<StoredCore<S>>> {
             S.keeping.stands (store_of self.new) log }
         ensures counts { OnOk result (S.keeping.faults (store_of self.new)
             ≡ S.keeping.faults (store_of self.old)) }
-        ensures spared { IsErrOf result ActFault.Memory →
-            S.keeping.faults (store_of self.new) ≡ S.keeping.faults (store_of self.old) }
+        ensures spared { IsSpared S.keeping ActFault.Memory
+            (store_of self.old) (store_of self.new) result }
         ensures blames { (basis : Basis) (stage : AStage) →
             IsStage S.keeping basis self.old stage → IsErrOf result ActFault.Store →
             S.keeping.is_true (store_of self.new) →
@@ -232,8 +232,8 @@ impl<S: RowLog + Drop> Stage<Declared<S>, Playing<StoredCore<S>>> {
             S.keeping.stands (store_of self.new) log }
         ensures counts { OnOk result (S.keeping.faults (store_of self.new)
             ≡ S.keeping.faults (store_of self.old)) }
-        ensures spared { IsErrOf result ActFault.Memory →
-            S.keeping.faults (store_of self.new) ≡ S.keeping.faults (store_of self.old) }
+        ensures spared { IsSpared S.keeping ActFault.Memory
+            (store_of self.old) (store_of self.new) result }
         ensures blames { (basis : Basis) (stage : AStage) →
             IsStage S.keeping basis self.old stage → IsErrOf result ActFault.Store →
             S.keeping.is_true (store_of self.new) →
@@ -266,8 +266,8 @@ impl<S: RowLog + Drop> Stage<Declared<S>, Playing<StoredCore<S>>> {
             S.keeping.stands (store_of self.new) log }
         ensures counts { OnOk result (S.keeping.faults (store_of self.new)
             ≡ S.keeping.faults (store_of self.old)) }
-        ensures spared { IsErrOf result ActFault.Memory →
-            S.keeping.faults (store_of self.new) ≡ S.keeping.faults (store_of self.old) }
+        ensures spared { IsSpared S.keeping ActFault.Memory
+            (store_of self.old) (store_of self.new) result }
         ensures blames { (basis : Basis) (stage : AStage) →
             IsStage S.keeping basis self.old stage → IsErrOf result ActFault.Store →
             S.keeping.is_true (store_of self.new) →

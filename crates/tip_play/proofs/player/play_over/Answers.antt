@@ -2,9 +2,9 @@
 use Rattle.std.proofs.Common.{◌≡◌, subst, sym, true}
 use Rattle.std.specs.Prelude.{IfOk, IfSome}
 use Rattle.tip_play.specs.Transcripts.{TranscribesOn, covers_all}
-use Rattle.tip_scene.specs.Blaming.{Blames, IsBlamed, Spares}
+use Rattle.tip_scene.specs.Blaming.{Accuses, Blames, IsBlamed, Spares}
 use Rattle.tip_play.specs.declared.fault.PlayFault.TheVariants.{Memory, Store}
-use Rattle.tip_play.proofs.Blaming.{blames_unflushed, spares_unflushed}
+use Rattle.tip_play.proofs.Blaming.{kept_unflushed}
 use Rattle.tip_play.specs.Leaving.{Leaves, LeavesAtFault}
 use Rattle.tip_play.proofs.Leaving.{fault_unflushed}
 use Rattle.tip_play.proofs.Ending.{all_kept, all_unflushed, never_unflushed}
@@ -25,7 +25,7 @@ returns-in-Err-clause-transcribes g c = λ basis may on.
 pub returns-in-Err-clause-blames : goal.returns-in-Err-clause-blames
 returns-in-Err-clause-blames g c = λ asks basis may on script whole covers.
     subst (Blames g.S.RowLog.keeping Store (IsBlamed g.S.RowLog.keeping basis c.args.store)) (sym c.unflushed.ensures)
-    (blames_unflushed g.S.RowLog.keeping basis (IsBlamed g.S.RowLog.keeping basis c.args.store) c.play_lines-end.result (c.play_lines-end.ensures.blames asks basis may on script whole covers))
+    (kept_unflushed (Accuses g.S.RowLog.keeping Store (IsBlamed g.S.RowLog.keeping basis c.args.store)) c.play_lines-end.result (λ store is. absurd cc) (c.play_lines-end.ensures.blames asks basis may on script whole covers))
 
 pub returns-in-Err-clause-leaves : goal.returns-in-Err-clause-leaves
 returns-in-Err-clause-leaves g c = λ basis may on script whole covers.
@@ -35,4 +35,6 @@ pub returns-in-Err-clause-faults : goal.returns-in-Err-clause-faults
 returns-in-Err-clause-faults g c = λ basis may on script is covers. subst (LeavesAtFault g.S.RowLog.keeping basis script c.args.store) (sym c.unflushed.ensures) (fault_unflushed g.S.RowLog.keeping basis script c.args.store c.play_lines-end.result (c.play_lines-end.ensures.leaves basis may on script is covers) (c.play_lines-end.ensures.faults basis may on script is covers))
 
 pub returns-in-Err-clause-spares : goal.returns-in-Err-clause-spares
-returns-in-Err-clause-spares g c = λ asks. subst (Spares g.S.RowLog.keeping Memory c.args.store) (sym c.unflushed.ensures) (spares_unflushed g.S.RowLog.keeping c.args.store c.play_lines-end.result (c.play_lines-end.ensures.spares asks))
+returns-in-Err-clause-spares g c = λ asks.
+    subst (Spares g.S.RowLog.keeping Memory c.args.store) (sym c.unflushed.ensures)
+    (kept_unflushed (λ fault. fault.0 ≡ Memory → g.S.RowLog.keeping.faults fault.1 ≡ g.S.RowLog.keeping.faults c.args.store) c.play_lines-end.result (λ store is. absurd cc) (c.play_lines-end.ensures.spares asks))
