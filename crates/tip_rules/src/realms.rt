@@ -58,6 +58,7 @@ pub struct Realms<C: Linked = Connection, T: Linked = Transaction> {
 
 impl Realms<Connection, Transaction> {
     /// Room for an event of a realm. The realms stay as they are.
+    #[inline(never)]
     pub fn room(&mut self, alloc: Global, realm: usize, event: &Event) -> Result<Room, AllocError>
         requires here { realm < length self.old.heads.items }
         requires tables { realm < length self.old.tables.items }
@@ -77,6 +78,7 @@ impl Realms<Connection, Transaction> {
     }
 
     /// One event of a realm, which has what it needs, with what became of the change that it wanted.
+    #[inline(never)]
     pub fn step(&mut self, realm: usize, event: Event, outcome: Outcome, making: Making) -> Making
         requires here { realm < length self.old.heads.items }
         requires tables { realm < length self.old.tables.items }

@@ -171,9 +171,7 @@ fn read<R: Wait + Eprint, S: RowLog + Drop>(
     session
 }
 
-/// Reads to the end, and tells the operator who the other side says that it is. Of the three ways to read, a connection's stack is to
-/// have room for one.
-#[inline(never)]
+/// Reads to the end, and tells the operator who the other side says that it is.
 fn overhear<R: Wait + Eprint, S: RowLog + Drop>(
     rt: &R,
     alloc: Global,
@@ -200,7 +198,6 @@ fn overhear<R: Wait + Eprint, S: RowLog + Drop>(
 }
 
 /// Reads to the end, and tells whoever has asked what the other side says to it.
-#[inline(never)]
 fn heed<R: Wait, S: RowLog + Drop>(
     rt: &R,
     alloc: Global,
@@ -225,7 +222,6 @@ fn heed<R: Wait, S: RowLog + Drop>(
 }
 
 /// Says that the connection is lost, where it can't be served.
-#[inline(never)]
 fn read_nothing<R: Wait, S: RowLog + Drop>(
     rt: &R,
     alloc: Global,
