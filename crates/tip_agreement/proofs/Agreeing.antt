@@ -23,7 +23,6 @@ use Rattle.tip_machine.specs.Outputs.{Output, drops_of}
 use Rattle.tip_machine.specs.Returns.{Back}
 use Rattle.tip_machine.specs.Starting.{IsStart}
 use Rattle.tip_machine.specs.States.{transaction_of}
-use Rattle.tip_machine.specs.Steps.{step}
 use Rattle.tip_machine.specs.Types.{Transaction}
 use Rattle.tip_machine.specs.declared.event.Outcome.{Outcome}
 use Rattle.tip_machine.specs.declared.event.Outcome.TheVariants.{NoChange, Refused, Stored}

@@ -22,13 +22,14 @@ use Rattle.tip_machine.specs.declared.head.Head.{Head}
 use Rattle.tip_rows.specs.Logs.{last_epoch}
 use Rattle.std.proofs.lemmas.Bool.{and_from, and_parts, both_ways, cases_Bool, not-true, or_cases, or_from, or_left, or_right}
 use Rattle.std.proofs.lemmas.Bool.Decides.{nat_tests}
+use Rattle.std.proofs.lemmas.List.{append-nil, append_assoc}
 use Rattle.std.proofs.lemmas.Option.{none-some}
 use Rattle.std.specs.Prelude.{filter_map}
 use Rattle.std.specs.Str.{bytes_eq}
 use Rattle.tip_agreement.proofs.Declared.{name_led, name_moved}
 use Rattle.tip_agreement.proofs.Bounded.{in_bounds}
 use Rattle.tip_agreement.proofs.Closing.{is_stoppable}
-use Rattle.tip_agreement.proofs.Kept.{moved_sound}
+use Rattle.tip_agreement.proofs.Kept.{moved_sound, reached_sound}
 use Rattle.tip_agreement.proofs.Keys.{keys_of}
 use Rattle.tip_agreement.proofs.Moving.{sound_whole}
 use Rattle.tip_agreement.proofs.Onward.{is_committed, says}
@@ -51,7 +52,7 @@ use Rattle.tip_machine.specs.Invariants.Bounds.{is_spelled}
 use Rattle.tip_machine.specs.Invariants.Links.{are_distinct}
 use Rattle.tip_machine.specs.Invariants.Phases.{has_come_to, is_transaction}
 use Rattle.tip_machine.specs.Invariants.Stored.{is_stored_as}
-use Rattle.tip_machine.specs.Moves.{Move, World, moved, risen}
+use Rattle.tip_machine.specs.Moves.{Move, World, led_to, moved, risen}
 use Rattle.tip_machine.specs.Starting.{are_counted_from}
 use Rattle.tip_machine.specs.States.{State, transaction_of}
 use Rattle.tip_machine.specs.Transactions.{decision_of, has_id, has_key}
@@ -229,15 +230,17 @@ told_committed k fine moments world sound true_to t listed same told_it =
 willing_ok : (realm : List ℕ) (k : Key) (start : World) (branches : List (ℕ × List ℕ)) (moments : List Moment) (parts : List Participant) → Willing realm (identifier realm k) branches (made_of realm k moments) parts → Decided realm (identifier realm k) parts → Ok realm k start branches moments
 willing_ok realm k start branches moments parts was decided = or_right (is_some (row_in realm (identifier realm k) start.rows)) _ (all_willing realm (identifier realm k) branches (made_of realm k moments) parts was decided)
 
+-- one that is here and has come to commit
+lasting_ok : (k : Key) (start : World) (branches : List (ℕ × List ℕ)) (moments : List Moment) (world : World) → IsSound world → Asks world.state.head.name k start branches moments world → (of : Here_of k world) → (is_stoppable of.0.phase ≡ true → ⊥) → Ok world.state.head.name k start branches moments
+lasting_ok k start branches moments world sound asks of lasts = elim (cases_Bool (k.epoch == world.state.head.epoch)) [
+  | inl this ↦ willing_ok world.state.head.name k start branches moments of.0.parts (asks.current of.0 of.1 of.2 this (λ at. lasts (ap is_stoppable at))) (decided_here world sound world.state.head.name (identifier world.state.head.name k) of.0 of.1 lasts)
+  | inr differ ↦ asks.earlier of.0 of.1 of.2 differ
+]
+
 told_ok : (k : Key) → is_spelled k ≡ true → (start : World) (branches : List (ℕ × List ℕ)) (moments : List Moment) (world : World) → IsSound world → IsTrueTo (shown_in moments) world → Asks world.state.head.name k start branches moments world → Told world.state.head.name k moments world → Ok world.state.head.name k start branches moments
 told_ok k fine start branches moments world sound true_to asks told_it = elim (here_or_none world sound k) [
   | inr never ↦ asks.gone never told_it
-  | inl of ↦
-      let lasts = committed_lasting of.0.phase (told_committed k fine moments world sound true_to of.0 of.1 of.2 told_it) in
-      elim (cases_Bool (k.epoch == world.state.head.epoch)) [
-        | inl this ↦ willing_ok world.state.head.name k start branches moments of.0.parts (asks.current of.0 of.1 of.2 this (λ at. lasts (ap is_stoppable at))) (decided_here world sound world.state.head.name (identifier world.state.head.name k) of.0 of.1 lasts)
-        | inr differ ↦ asks.earlier of.0 of.1 of.2 differ
-      ]
+  | inl of ↦ lasting_ok k start branches moments world sound asks of (committed_lasting of.0.phase (told_committed k fine moments world sound true_to of.0 of.1 of.2 told_it))
 ]
 
 -- EACH MOVE
@@ -515,8 +518,13 @@ module _ (k : Key) (fine : is_spelled k ≡ true) (start : World) (branches : Li
     step true is = by_ok (was is)
     step false is = or_left _ _ (or_left (not (list_any is_commit (told realm (identifier realm k) moment.shown))) _ (ap not (any_told is_commit realm (identifier realm k) moment.shown ∙ is)))
 
-  runs_asked : (name : List ℕ) (world : World) (moves : List Move) (before : List Moment) → IsSound world → IsTrueTo (shown_in before) world → world.state.head.name ≡ name → In_world world (of_start world.state.head.epoch before) → Asks name k start branches before world → is_run world moves ≡ true → at_each_behind before (is_asked name (identifier name k) start) (traced world moves) ≡ true
-  runs_asked name world [] before sound true_to named was asks honest = refl
+  -- what a run comes to
+  record Ran (name : List ℕ) (world : World) (moves : List Move) (before : List Moment) : Type 0 where
+    asked : at_each_behind before (is_asked name (identifier name k) start) (traced world moves) ≡ true
+    last : Asks name k start branches (before ++ traced world moves) (led_to world moves)
+
+  runs_asked : (name : List ℕ) (world : World) (moves : List Move) (before : List Moment) → IsSound world → IsTrueTo (shown_in before) world → world.state.head.name ≡ name → In_world world (of_start world.state.head.epoch before) → Asks name k start branches before world → is_run world moves ≡ true → Ran name world moves before
+  runs_asked name world [] before sound true_to named was asks honest = record { asked = refl; last = subst (λ ms. Asks name k start branches ms world) (sym (append-nil before)) asks }
   runs_asked name world (move ∷ moves) before sound true_to named was asks honest =
       let parts = and_parts (is_honest move world) (is_run (moved move world).world moves) honest in
       let next = (moved move world).world in
@@ -532,10 +540,14 @@ module _ (k : Key) (fine : is_spelled k ≡ true) (start : World) (branches : Li
       let then_sound = moved_sound move world sound parts.0 in
       let same = shown_so name 0 k fine before moment in
       let then_true : IsTrueTo (shown_in all) next = subst (λ xs. IsTrueTo xs next) same (moved_true move world (shown_in before) sound true_to parts.0) in
-      and_from _ _ (moment_asked name before moment asks.declared (λ is.
+      let rest = runs_asked name next moves all then_sound then_true then_named (went.witnessed (of_start next.state.head.epoch all) (λ same_epoch. ap (λ e. of_start e all) same_epoch ∙ mine)) then_asks parts.1 in
+      let asked_here = moment_asked name before moment asks.declared (λ is.
       let shown : are_told is_commit name id (shown_in all) ≡ true = ap (are_told is_commit name id) (sym same) ∙ (told_more is_commit name id (shown_in before) moment.shown ∙ or_right (are_told is_commit name id (shown_in before)) _ is) in
-      subst (λ n. Ok n k start branches all) then_named (told_ok k fine start branches all next then_sound then_true (subst (λ n. Asks n k start branches all next) (sym then_named) then_asks) (subst (λ n. Told n k all next) (sym then_named) (inl shown)))))
-      (runs_asked name next moves all then_sound then_true then_named (went.witnessed (of_start next.state.head.epoch all) (λ same_epoch. ap (λ e. of_start e all) same_epoch ∙ mine)) then_asks parts.1)
+      subst (λ n. Ok n k start branches all) then_named (told_ok k fine start branches all next then_sound then_true (subst (λ n. Asks n k start branches all next) (sym then_named) then_asks) (subst (λ n. Told n k all next) (sym then_named) (inl shown)))) in
+      record {
+        asked = and_from _ _ asked_here rest.asked;
+        last = subst (λ ms. Asks name k start branches ms (led_to next moves)) (append_assoc before (moment ∷ []) (traced next moves)) rest.last;
+      }
 
 -- where a run begins
 start_asks : (k : Key) → is_spelled k ≡ true → (world : World) → IsStart world → Asks world.state.head.name k world world.state.head.branches [] world
@@ -585,6 +597,29 @@ untold_asked realm id start before (moment ∷ moments) none =
       quiet false is none = refl
       quiet true is none = absurd (let wrong : false ≡ true = sym none ∙ any_of is_commit (told realm id moment.shown) is in cc)
 
+-- of the transaction of a key, from where a run begins
+run_through : (world : World) (moves : List Move) (key : Key) (start : IsStart world) → is_run world moves ≡ true → (fine : is_spelled key ≡ true) → Ran key fine world world.state.head.branches (declared_counted world.state.head start.head) world.state.head.name world moves []
+run_through world moves key start honest fine = runs_asked key fine world world.state.head.branches (declared_counted world.state.head start.head) world.state.head.name world moves [] (start_sound world start) (start_true world start) refl (start_witnessed world start) (start_asks key fine world start) honest
+
+-- WHAT HAS A ROW WAS ASKED, or had its row when the run began
+pub row_was_asked : (world : World) (moves : List Move) (key : Key) → IsStart world → is_run world moves ≡ true → is_spelled key ≡ true → is_some (row_at key (led_to world moves).rows) ≡ true → Ok world.state.head.name key world world.state.head.branches (traced world moves)
+row_was_asked world moves key start honest fine stands = step (row_at key last.rows) refl stands where
+  last : World
+  last = led_to world moves
+
+  sound : IsSound last
+  sound = reached_sound world moves start honest
+
+  named : last.state.head.name ≡ world.state.head.name
+  named = name_led world moves
+
+  step : (o : Option Row) → row_at key last.rows ≡ o → is_some o ≡ true → Ok world.state.head.name key world world.state.head.branches (traced world moves)
+  step None at is = absurd (let wrong : false ≡ true = is in cc)
+  step (Some r) at is =
+      let of = row_here last sound key r at in
+      let asks = subst (λ n. Asks n key world world.state.head.branches (traced world moves) last) (sym named) (run_through world moves key start honest fine).last in
+      subst (λ n. Ok n key world world.state.head.branches (traced world moves)) named (lasting_ok key world world.state.head.branches (traced world moves) last sound asks of.0 of.1)
+
 pub run_asked : (world : World) (moves : List Move) (id : List ℕ) → IsStart world → is_run world moves ≡ true → at_each_behind [] (is_asked world.state.head.name id world) (traced world moves) ≡ true
 run_asked world moves id start honest = step (list_any any_verdict (told realm id (shown_in moments))) refl where
   realm : List ℕ
@@ -593,19 +628,13 @@ run_asked world moves id start honest = step (list_any any_verdict (told realm i
   moments : List Moment
   moments = traced world moves
 
-  sound : IsSound world
-  sound = start_sound world start
-
-  counted : are_counted_from 1 world.state.head.branches ≡ true
-  counted = declared_counted world.state.head start.head
-
   of_key : (key : Key) → is_spelled key ≡ true → at_each_behind [] (is_asked realm (identifier realm key) world) moments ≡ true
-  of_key key fine = runs_asked key fine world world.state.head.branches counted realm world moves [] sound (start_true world start) refl (start_witnessed world start) (start_asks key fine world start) honest
+  of_key key fine = (run_through world moves key start honest fine).asked
 
   step : (b : Bool) → list_any any_verdict (told realm id (shown_in moments)) ≡ b → at_each_behind [] (is_asked realm id world) moments ≡ true
   step false none = untold_asked realm id world [] moments none
   step true is =
-      let after = run_true world moves [] sound (start_true world start) honest in
+      let after = run_true world moves [] (start_sound world start) (start_true world start) honest in
       let ours = after.ours id (or_left _ _ (subst (λ n. list_any any_verdict (told n id (shown_in moments)) ≡ true) (sym (name_led world moves)) is)) in
       let same : id ≡ identifier realm ours.0 = ours.2 ∙ ap (λ n. identifier n ours.0) (name_led world moves) in
       subst (λ x. at_each_behind [] (is_asked realm x world) moments ≡ true) (sym same) (of_key ours.0 ours.1)

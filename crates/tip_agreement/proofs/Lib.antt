@@ -21,7 +21,6 @@ pub mod Commanding
 pub mod Concluding
 pub mod Deciding
 pub mod Declared
-pub mod Declaring
 pub mod Denying
 pub mod Enlisting
 pub mod Errands

@@ -1,13 +1,10 @@
 -- What follows a run: the next process starts the realm from what was left of it (ours).
-use Rattle.std.specs.Prelude.{◌≡◌, ◌<◌, ℕ, ◌+◌, Bool, true, List, [], ◌∷◌, ◌++◌, flat_map, if◌then◌else◌}
+use Rattle.std.specs.Prelude.{◌≡◌, ℕ, ◌+◌, true, List, [], ◌∷◌, ◌++◌}
 use Rattle.tip_branch.specs.declared.branch.Badge.{Badge}
 use Rattle.tip_rows.specs.Keys.{Key}
-use Rattle.tip_machine.specs.Agreement.Traces.{shown_in, traced}
 use Rattle.tip_machine.specs.Honest.{is_run}
-use Rattle.tip_machine.specs.Moves.{Move, World, drops_here, led_to, loaded}
-use Rattle.tip_machine.specs.Outputs.{Output, drops_of}
+use Rattle.tip_machine.specs.Moves.{Move, World, led_to, loaded}
 use Rattle.tip_machine.specs.Recovery.{restarted}
-use Rattle.tip_machine.specs.Starting.{are_adopted, is_starting}
 use Rattle.tip_machine.specs.declared.head.Head.{Head}
 
 -- a realm's declaration: its name, its address, its limits and its branches
@@ -26,37 +23,3 @@ started_over head boxes world = record { state = restarted head (loaded boxes wo
 pub record GoesOver (start : World) (moves : List Move) (boxes : Key → List Badge) : Type 0 where
   pub run : is_run start (moves ++ Move.Restart boxes ∷ []) ≡ true
   pub led : led_to start (moves ++ Move.Restart boxes ∷ []) ≡ started_over (at_start start.state.head ((led_to start moves).state.head.epoch + 1)) boxes (led_to start moves)
-
--- Processes that follow one another, each of which declares the realm in its own way
-
-pub record Process : Type 0 where
-  pub head : Head
-  pub boxes : Key → List Badge
-  pub moves : List Move
-  -- the one before it has ended in peace: it let go what it had
-  pub in_peace : Bool
-
--- where it begins
-abbrev pub begun_by : Process → World → World
-begun_by process world = started_over process.head process.boxes world
-
--- ONE MAY FOLLOW: the realm has its name, a later epoch, and whatever address, limits and branches; each row has its boxes
-pub record MayFollow (world : World) (process : Process) : Type 0 where
-  pub starting : is_starting process.head ≡ true
-  pub named : process.head.name ≡ world.state.head.name
-  pub later : world.state.head.epoch < process.head.epoch
-  pub adopted : are_adopted process.boxes world.rows ≡ true
-
--- each by an honest run
-abbrev pub Follow : World → List Process → Type 0
-Follow world [] = Unit {0}
-Follow world (next ∷ more) = MayFollow world next × (is_run (begun_by next world) next.moves ≡ true) × Follow (led_to (begun_by next world) next.moves) more
-
--- what a process lets go that ends in peace: the active branches of its parties that are out, and of those that are here
-abbrev pub let_go : World → List Output
-let_go world = flat_map drops_of world.errands ++ drops_here world.state
-
--- WHAT THEY SHOW, one behind the other
-abbrev pub shown_by : World → List Process → List Output
-shown_by world [] = []
-shown_by world (next ∷ more) = (if next.in_peace then let_go world else []) ++ (shown_in (traced (begun_by next world) next.moves) ++ shown_by (led_to (begun_by next world) next.moves) more)

@@ -1,11 +1,11 @@
 //! Laws of a realm's runs, each carried by a function that does nothing.
-ghost use Rattle.std.specs.Prelude.{◌≡◌, ◌<◌, ◌||◌, not, ℕ, ◌++◌, List, [], Some, is_none, true};
+ghost use Rattle.std.specs.Prelude.{◌≡◌, ◌<◌, ◌||◌, not, ℕ, ◌++◌, List, [], Some, filter, is_none, is_some, true};
 ghost use Rattle.tip_branch.specs.declared.branch.Badge.{Badge};
 ghost use Rattle.tip_rows.specs.Keys.{Key};
+ghost use Rattle.tip_rows.specs.Logs.{row_at};
 ghost use Rattle.tip_txn.specs.declared.answer.Phase.TheVariants.{Committed};
 ghost use Rattle.tip_machine.specs.Agreement.Traces.{at_each, shown_in, traced};
-ghost use Rattle.tip_machine.specs.Agreement.Verdicts.{is_unanimous, told};
-ghost use Rattle.tip_machine.specs.Agreement.{IsAgreed, is_asked, is_backed, is_denied, is_kept, is_one, row_in, was_committed};
+ghost use Rattle.tip_machine.specs.Agreement.{IsAgreed, is_asked, is_backed, is_denied, is_kept, is_made_in, is_one, row_in, was_committed, were_willing};
 ghost use Rattle.tip_machine.specs.Answers.{identifier};
 ghost use Rattle.tip_machine.specs.Given.{are_numbered};
 ghost use Rattle.tip_machine.specs.Honest.{can_start, is_honest, is_run};
@@ -19,7 +19,7 @@ ghost use Rattle.tip_machine.specs.Steps.{step};
 ghost use Rattle.tip_machine.specs.Types.{Event, Transaction};
 ghost use Rattle.tip_machine.specs.declared.event.Outcome.{Outcome};
 ghost use Rattle.tip_machine.specs.declared.head.Head.{Head};
-ghost use Rattle.tip_agreement.specs.Successors.{Follow, GoesOver, Process, declaration_of, shown_by, started_over};
+ghost use Rattle.tip_agreement.specs.Successors.{GoesOver, declaration_of, started_over};
 ghost use Rattle.tip_agreement.specs.Telling.{is_told_of};
 ghost use Rattle.tip_agreement.specs.Truth.{IsTrueTo, has_committed_row};
 
@@ -121,6 +121,16 @@ pub fn a_commit_is_told_where_all_were_willing()
         at_each (is_asked world.state.head.name id world) (traced world moves) ≡ true }
 {}
 
+/// What has a row when an honest run is over had it when the run began, or was asked in it: in the start in which it was made each
+/// branch of the realm had voted yes or read-only, and each part had answered, none with no and none was lost.
+pub fn what_has_a_row_was_asked()
+    ensures { (world : World) (moves : List Move) (key : Key) → IsStart world →
+        is_run world moves ≡ true → is_spelled key ≡ true → is_some (row_at key (led_to world moves).rows) ≡ true →
+        let id = identifier world.state.head.name key in
+        is_some (row_in world.state.head.name id world.rows) || were_willing world.state.head.name id
+        (filter (is_made_in world.state.head.name id) (traced world moves)) world.state.head.branches ≡ true }
+{}
+
 /// AGREEMENT, all four of its sentences: in an honest run from a start no transaction is half committed, whatever
 /// the store answers and other managers say, over restarts and renewals, lost parties and lost connections.
 pub fn a_run_is_agreed()
@@ -149,16 +159,6 @@ pub fn a_run_goes_on_in_the_next_process()
     ensures { (start : World) (moves : List Move) (boxes : Key → List Badge) →
         is_run start moves ≡ true → can_start boxes (led_to start moves) ≡ true →
         GoesOver start moves boxes }
-{}
-
-/// ACROSS PROCESSES OF DIFFERENT DECLARATIONS: however many follow one another, each declaring the realm under its name in its own
-/// way, and whether they end in peace or are killed: no branch of a transaction is told to commit where a branch is told to abort,
-/// in all that they tell.
-pub fn no_branch_commits_where_one_aborts_however_it_is_declared()
-    ensures { (start : World) (moves : List Move) (processes : List Process) (id : List ℕ) →
-        IsStart start → is_run start moves ≡ true → Follow (led_to start moves) processes →
-        is_unanimous (told start.state.head.name id
-        (shown_in (traced start moves) ++ shown_by (led_to start moves) processes)) ≡ true }
 {}
 
 /// The rows that an honest run leaves are rows that a run may begin with, in any later epoch and however the realm is declared then:

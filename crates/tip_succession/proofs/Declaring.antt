@@ -1,5 +1,5 @@
 -- A realm stays true to its word from process to process, however each declares it.
-use Rattle.std.proofs.Common.{◌≡◌, ◌<◌, Bool, true, false, ℕ, List, [], ◌∷◌, ◌++◌, Some, cond, refl, ap, subst, sym, arith, ◌∙◌, if◌then◌else◌}
+use Rattle.std.proofs.Common.{◌≡◌, ◌<◌, Bool, true, false, ℕ, List, [], ◌∷◌, ◌++◌, Some, cond, refl, subst, sym, arith, ◌∙◌, if◌then◌else◌}
 use Rattle.std.specs.Prelude.{◌==◌, flat_map, nat_lt}
 use Rattle.std.specs.List.{list_any}
 use Rattle.std.proofs.lemmas.Bool.{and_from, and_parts, or_left}
@@ -24,7 +24,8 @@ use Rattle.tip_machine.specs.States.{transaction_of}
 use Rattle.tip_machine.specs.Types.{Transaction}
 use Rattle.tip_machine.specs.declared.head.Head.{Head}
 use Rattle.tip_machine.proofs.Identifiers.{given_later}
-use Rattle.tip_agreement.specs.Successors.{Follow, MayFollow, Process, begun_by, let_go, shown_by, started_over}
+use Rattle.tip_agreement.specs.Successors.{started_over}
+use Rattle.tip_succession.specs.Processes.{Follow, MayFollow, Process, begun_by, let_go, shown_by}
 use Rattle.tip_agreement.specs.Truth.{IsTrueTo, Word, fits, word_of}
 use Rattle.tip_agreement.proofs.Agreeing.{all_lost_true, alone_sound, one_told, run_true, start_true}
 use Rattle.tip_agreement.proofs.Declared.{name_led}

@@ -1,0 +1,5 @@
+pub mod Computed
+pub mod Declaring
+pub mod Following
+pub mod Joining
+pub mod Moments

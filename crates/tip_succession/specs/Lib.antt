@@ -1,0 +1,3 @@
+pub mod Agreement
+pub mod Examples
+pub mod Processes
