@@ -1,10 +1,10 @@
 -- A host that begins goes on with the run that was left.
-use Rattle.std.proofs.Common.{◌≡◌, ◌+◌, ◌<◌, ◌++◌, ◌∷◌, ℕ, true, List, [], arith, sym, subst}
+use Rattle.std.proofs.Common.{◌≡◌, ◌+◌, ◌<◌, ◌++◌, ◌∷◌, ℕ, true, List, [], arith, sym, subst, ◌∙◌}
 use Rattle.std.specs.Prelude.{nat_lt}
 use Rattle.std.proofs.lemmas.Bool.{and_from}
 use Rattle.std.proofs.lemmas.Bool.Decides.{nat_tests}
 use Rattle.tip_agreement.proofs.Asked.{run_is_agreed}
-use Rattle.tip_agreement.proofs.Declared.{goes_over}
+use Rattle.tip_agreement.proofs.Declared.{goes_over, name_led}
 use Rattle.tip_agreement.proofs.Kept.{reached_sound}
 use Rattle.tip_agreement.proofs.Restarts.{may_begin}
 use Rattle.tip_agreement.proofs.Runs.{run_on}
@@ -56,7 +56,7 @@ module _ {S : Type 0} (kept : Keeping S) (start : World) (moves : List Move) (st
   pub begins_anew : (spec : RealmSpec) → is_starting (starting (start_of spec (world.state.head.epoch + 1))) ≡ true → BeginsBehind kept start moves spec new place → MayBegin kept start moves spec new place
   begins_anew spec may begins =
       let is = started spec begins in
-      (is, may_begin world (starting (start_of spec (world.state.head.epoch + 1))) is.boxes (reached_sound start moves starts run) may (omega arith) is.adopted)
+      (is, may_begin world (starting (start_of spec (world.state.head.epoch + 1))) is.boxes (reached_sound start moves starts run) may (omega arith) is.adopted, λ name next in_peace. record { starting = may; named = name ∙ sym (name_led start moves); later = omega arith; adopted = is.adopted })
 
 -- behind a process that ended while an event was under way
 pub follows : {S : Type 0} (kept : Keeping S) (start : World) (moves : List Move) (under : Under) (event : Event) (rows : List (Key × Row)) (spec : RealmSpec) (new : Host S) (place : ℕ) → IsStart start → is_run start moves ≡ true → IsUnder (led_to start moves) under event → IsLeft (led_to start moves) event rows → BeginsOver kept (led_to start moves).state.head.epoch rows spec new place → (ended : HasEnded start moves under event rows) × BeginsBehind kept start (moves ++ move_of under ended.outcome ∷ []) spec new place

@@ -1,5 +1,5 @@
 -- THE PROCESS THAT FOLLOWS (ours): a host begins over what a process has left of a realm.
-use Rattle.std.specs.Prelude.{◌≡◌, ℕ, ◌+◌, true, List, [], ◌∷◌, ◌++◌, Some, slice_get}
+use Rattle.std.specs.Prelude.{◌≡◌, ℕ, ◌+◌, Bool, true, List, [], ◌∷◌, ◌++◌, Some, slice_get}
 use Rattle.tip_agreement.specs.Successors.{GoesOver}
 use Rattle.tip_branch.specs.declared.branch.Badge.{Badge}
 use Rattle.tip_core.specs.Hosted.{realm}
@@ -11,6 +11,7 @@ use Rattle.tip_journal.specs.Journal.{begun}
 use Rattle.tip_kept.specs.Keeping.{rows_at}
 use Rattle.tip_machine.specs.Agreement.{IsAgreed}
 use Rattle.tip_machine.specs.Agreement.Traces.{traced}
+use Rattle.tip_machine.specs.Heads.{starting}
 use Rattle.tip_machine.specs.Honest.{is_run}
 use Rattle.tip_machine.specs.Moves.{Move, World, led_to, loaded}
 use Rattle.tip_machine.specs.Starting.{IsStart}
@@ -18,7 +19,9 @@ use Rattle.tip_rows.specs.Keys.{Key}
 use Rattle.tip_rows.specs.Logs.{IsPart, Keeping, Log}
 use Rattle.tip_rows.specs.declared.row.Row.{Row}
 use Rattle.tip_run.specs.Starts.{HasStarted, IsBegun, first_of}
+use Rattle.tip_stored.specs.Loading.{start_of}
 use Rattle.tip_stored.specs.declared.realm_spec.RealmSpec.{RealmSpec}
+use Rattle.tip_succession.specs.Processes.{MayFollow, Process}
 
 -- A HOST BEGINS over a store that may be relied on, and that has this epoch and these rows of a realm, declared so at its place
 pub record BeginsOver {S : Type 0} (kept : Keeping S) (epoch : ℕ) (rows : List (Key × Row)) (spec : RealmSpec) (new : Host S) (place : ℕ) : Type 0 where
@@ -50,7 +53,12 @@ pub record HasGoneOn {S : Type 0} (start : World) (moves : List Move) (new : Hos
   pub from : honest.start ≡ world
   pub agreed : (later : List Move) → is_run world later ≡ true → (id : List ℕ) → IsAgreed start (traced start ((moves ++ Move.Restart boxes ∷ []) ++ later)) id
 
--- A RUN MAY BEGIN where the host has the realm, whose declaration may be another than the run's
+-- the process that a host is which begins behind a run: it declares the realm so, and makes these moves
+abbrev pub next_process : RealmSpec → World → (Key → List Badge) → List Move → Bool → Process
+next_process spec world boxes moves in_peace = record { head = starting (start_of spec (world.state.head.epoch + 1)); boxes = boxes; moves = moves; in_peace = in_peace }
+
+-- A RUN MAY BEGIN where the host has the realm, whose declaration may be another than the run's; and under the realm's name it is a
+-- process that may follow, whatever moves it makes, and whether the one before it has ended in peace or not
 abbrev pub MayBegin : {S : Type 0} → Keeping S → World → List Move → RealmSpec → Host S → ℕ → Type 0
 MayBegin kept start moves spec new place =
-    let world = led_to start moves in (started : HasStarted kept spec world.state.head.epoch world.rows new place) × IsStart (first_of spec world.state.head.epoch started.boxes world.rows)
+    let world = led_to start moves in (started : HasStarted kept spec world.state.head.epoch world.rows new place) × IsStart (first_of spec world.state.head.epoch started.boxes world.rows) × (spec.name ≡ start.state.head.name → (next : List Move) (in_peace : Bool) → MayFollow world (next_process spec world started.boxes next in_peace))

@@ -63,8 +63,8 @@ pub fn a_host_follows_a_process_that_ended<S: RowLog>()
 {}
 
 /// ACROSS RESTARTS OF THE PROCESS: a host that begins over what a run has left of a realm goes on with that run, where the realm is
-/// declared as it was when the run began; declared otherwise, it has the realm where a run may begin. So what is stored is a
-/// premise of the very first process alone.
+/// declared as it was when the run began; declared otherwise, it has the realm where a run may begin, and is a process that may follow
+/// (`tip_succession`). So what is stored is a premise of the very first process alone.
 pub fn a_host_that_follows_goes_on_with_the_run<S: RowLog>()
     ensures same { (start : World) (moves : List Move) (new : Host S) (place : ℕ) →
         IsStart start → is_run start moves ≡ true →
