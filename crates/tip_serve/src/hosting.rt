@@ -1,7 +1,7 @@
 //! The top body: it alone makes boxes, opens connections and joins threads.
 use crate::ending::end_accepting;
 use crate::rows::count_branches;
-use crate::starting::{Shelves, Started, load, start};
+use crate::starting::{Shelves, Started, check, load, start};
 use simulated_branch::Simulated;
 use std::alloc::Global;
 use std::io::Write;
@@ -14,6 +14,7 @@ use tip_core::Core;
 use tip_duties::ServeFault;
 use tip_rows::RowLog;
 use tip_settings::Config;
+use tip_watched::Watched;
 
 /// Serves the realms of a configuration over a store, until so many connections that were accepted have ended; without a number,
 /// without end. It says on standard output where it listens, that it is ready, and in the end how many entries each realm has;
@@ -22,7 +23,7 @@ use tip_settings::Config;
 pub fn host_realms<R, S, W>(
     rt: &R,
     alloc: Global,
-    store: S,
+    mut store: S,
     config: &Config,
     sessions: Option<u32>,
     out: &mut W,
@@ -41,8 +42,37 @@ where
     S::Medium: Send + 'static,
     W: Write,
 {
+    check(alloc, &mut store, config)?;
     let shelves = Shelves::new(alloc, &config.realms)?;
-    let recovering = load(*rt, alloc, store, Core::new(alloc), config, &shelves)?;
+    let store = Watched::over(store, shelves.watcher(*rt, alloc)?);
+    host_watched(rt, alloc, store, config, sessions, shelves, out)
+}
+
+/// The same over a store that tells the shelves what becomes of its rows.
+fn host_watched<R, S, W>(
+    rt: &R,
+    alloc: Global,
+    store: S,
+    config: &Config,
+    sessions: Option<u32>,
+    shelves: Shelves,
+    out: &mut W,
+) -> Result<(), ServeFault>
+where
+    R: Net<Listener = TcpListener, Stream = TcpStream>
+        + Threads
+        + Wait
+        + Clock
+        + Eprint
+        + Copy
+        + Send
+        + Drop
+        + 'static,
+    S: RowLog + Drop + Send + 'static,
+    S::Medium: Send + 'static,
+    W: Write,
+{
+    let recovering = load(alloc, store, Core::new(alloc), config)?;
     let mut pool: Vec<Box<dyn Branch + Send>> = Vec::new(alloc);
     for _ in 0..count_branches(recovering.realms()) {
         pool.push(Box::new(alloc, Simulated::new(Plan::Yes, Phase::Ready))?)?;

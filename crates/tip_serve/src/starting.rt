@@ -22,10 +22,6 @@ use tip_settings::{Config, RealmConfig};
 use tip_shared::Shared;
 use tip_stored::{LoadFault, Recovering, StoredCore};
 use tip_threads::{ControlPort, start_accepting, start_controls};
-use tip_watched::Watched;
-
-/// The store of a server, which tells the top body what becomes of its rows.
-pub type WatchedStore<S, R> = Watched<S, Watcher<R>>;
 
 /// What the threads hand to the top body, and what is in doubt.
 #[derive(Drop)]
@@ -44,7 +40,7 @@ impl Shelves {
     }
 
     /// Who fills them by what the store tells.
-    fn watcher<R: Drop>(&self, rt: R, alloc: Global) -> Result<Watcher<R>, AllocError> {
+    pub fn watcher<R: Drop>(&self, rt: R, alloc: Global) -> Result<Watcher<R>, AllocError> {
         Ok(Watcher {
             rt,
             alloc,
@@ -54,29 +50,29 @@ impl Shelves {
     }
 }
 
-/// The realms of a configuration, loaded from a store that may start.
-pub fn load<R: Wait + Drop, S: RowLog + Drop>(
-    rt: R,
-    alloc: Global,
-    mut store: S,
-    core: Core,
-    config: &Config,
-    shelves: &Shelves,
-) -> Result<Recovering<WatchedStore<S, R>>, ServeFault>
-    requires { Always }
-{
+/// That a store may start: no row of a realm is ahead of it.
+pub fn check<S: RowLog>(alloc: Global, store: &mut S, config: &Config) -> Result<(), ServeFault> {
     let mut names = Vec::new(alloc);
     for realm in config.realms.iter() {
         names.push(realm.name.copy()?)?;
     }
-    match has_row_ahead(&mut store, &names) {
-        Ok(false) => {}
-        Ok(true) => return Err(ServeFault::Store),
-        Err(tip_rows::LoadFault::Memory) => return Err(ServeFault::Memory),
-        Err(_) => return Err(ServeFault::Store),
+    match has_row_ahead(store, &names) {
+        Ok(false) => Ok(()),
+        Err(tip_rows::LoadFault::Memory) => Err(ServeFault::Memory),
+        _ => Err(ServeFault::Store),
     }
+}
+
+/// The realms of a configuration, loaded from a store.
+pub fn load<S: RowLog + Drop>(
+    alloc: Global,
+    store: S,
+    core: Core,
+    config: &Config,
+) -> Result<Recovering<S>, ServeFault>
+    requires { Always }
+{
     let specs = declarations(alloc, &config.realms)?;
-    let store = Watched::over(store, shelves.watcher(rt, alloc)?);
     match StoredCore::load(alloc, store, core, specs) {
         Ok(recovering) => Ok(recovering),
         Err((LoadFault::Memory, _)) => Err(ServeFault::Memory),
