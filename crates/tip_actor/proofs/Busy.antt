@@ -18,13 +18,13 @@ use Rattle.tip_machine.specs.States.{State}
 use Rattle.tip_machine.specs.declared.event.Event.TheVariants as event
 use Rattle.tip_machine.specs.declared.event.Heard.{Heard}
 use Rattle.tip_actor.specs.Acting.{Reading, is_next}
-use Rattle.tip_actor.specs.Listening.{AreBusyAt, IsIdle, IsIdleAt, is_among}
+use Rattle.tip_actor.specs.Listening.{AreBusyAt, IsIdle, IsIdleAt, gives, is_among}
 use Rattle.tip_actor.specs.Standing.{AreReadings, FindsIn, GivesNext, IsReading, TakesFirst}
 use Rattle.tip_actor.specs.declared.reader.Asked.{Asked}
 use Rattle.tip_actor.specs.declared.reader.Asked.TheVariants as asked
 use Rattle.tip_actor.specs.declared.reader.Reader.{Reader}
 use Rattle.tip_actor.proofs.Lists.{get_set_other, get_set_same, partner, reading_at, readings_length}
-use Rattle.tip_actor.proofs.Taking.{nothing_left, passes_on, position_none, takes_first}
+use Rattle.tip_actor.proofs.Taking.{passes_on, position_none, takes_first, waits_not}
 
 -- Places in order
 
@@ -78,9 +78,6 @@ pub record IsLooking (core : Hosted) (place : ℕ) (places rest : List ℕ) (old
   pub finds : (state : State) (readings : List Reading) → realm core place ≡ Some state → AreReadings old readings →
       AreReadings now readings × ((k : ℕ) (reading : Reading) → slice_get readings k ≡ Some reading → is_next state reading ≡ true → is_among rest k ≡ true)
 
-waits_not : (state : State) (reader : Reader) (reading : Reading) → IsReading reader reading → IsIdle reader → is_next state reading ≡ false
-waits_not state reader reading is idle = rw (nothing_left reader reading.waiting reading.heard is.1 idle) refl
-
 not_both : (b : Bool) → b ≡ false → b ≡ true → ⊥
 not_both b fails holds = let e : false ≡ true = sym fails ∙ holds in absurd (cc)
 
@@ -125,11 +122,11 @@ idle_now idle index (asked.Line heard) = idle
 idle_now idle index asked.Held = idle
 idle_now idle index asked.Nothing = Some index
 
-still_idle : (now : List Reader) (index : ℕ) (reader : Reader) (idle : Option ℕ) → slice_get now index ≡ Some reader → IsIdleAt idle now → IsIdleAt idle (slice_set now index reader)
-still_idle now index reader None here is = tt
-still_idle now index reader (Some q) here is = λ other at. elim (cases_eq q index) [
-  | inl same ↦ is other (ap (slice_get now) same ∙ here ∙ sym (get_set_same now index reader reader here) ∙ ap (slice_get (slice_set now index reader)) (sym same) ∙ at)
-  | inr differ ↦ is other (sym (get_set_other now index q reader differ) ∙ at)
+still_idle : (now : List Reader) (index : ℕ) (reader reader' : Reader) (idle : Option ℕ) → slice_get now index ≡ Some reader → ((more : List ℕ) → gives reader' more ≡ gives reader more) → IsIdleAt idle now → IsIdleAt idle (slice_set now index reader')
+still_idle now index reader reader' None here same is = tt
+still_idle now index reader reader' (Some q) here same is = λ other at. elim (cases_eq q index) [
+  | inl it ↦ subst IsIdle (same_Some reader' other (sym (get_set_same now index reader' reader here) ∙ ap (slice_get (slice_set now index reader')) (sym it) ∙ at)) (same [] ∙ is reader (ap (slice_get now) it ∙ here))
+  | inr differ ↦ is other (sym (get_set_other now index q reader' differ) ∙ at)
 ]
 
 busy_still : (places : List ℕ) (now : List Reader) (index : ℕ) (reader' : Reader) → is_among places index ≡ true → AreBusyAt places now → AreBusyAt places (slice_set now index reader')
@@ -177,8 +174,8 @@ passes core place places index rest old now idle idle' reader reader' is here ne
 }
 
 pub held : (core : Hosted) (place : ℕ) (places : List ℕ) (index : ℕ) (rest : List ℕ) (old now : List Reader) (idle : Option ℕ) (reader reader' : Reader) → IsLooking core place places (index ∷ rest) old now idle → slice_get now index ≡ Some reader →
-    ((state : State) (reading : Reading) → realm core place ≡ Some state → IsReading reader reading → GivesNext state reader' reading None) → reader' ≡ reader → IsLooking core place places rest old (slice_set now index reader') idle
-held core place places index rest old now idle reader reader' is here next same = passes core place places index rest old now idle idle reader reader' is here next (subst (λ r. IsIdleAt idle (slice_set now index r)) (sym same) (still_idle now index reader idle here is.idle_is))
+    ((state : State) (reading : Reading) → realm core place ≡ Some state → IsReading reader reading → GivesNext state reader' reading None) → ((more : List ℕ) → gives reader' more ≡ gives reader more) → IsLooking core place places rest old (slice_set now index reader') idle
+held core place places index rest old now idle reader reader' is here next same = passes core place places index rest old now idle idle reader reader' is here next (still_idle now index reader reader' idle here same is.idle_is)
 
 pub nothing : (core : Hosted) (place : ℕ) (places : List ℕ) (index : ℕ) (rest : List ℕ) (old now : List Reader) (idle : Option ℕ) (reader reader' : Reader) → IsLooking core place places (index ∷ rest) old now idle → slice_get now index ≡ Some reader →
     ((state : State) (reading : Reading) → realm core place ≡ Some state → IsReading reader reading → GivesNext state reader' reading None) → IsIdle reader' → IsLooking core place places rest old (slice_set now index reader') (Some index)

@@ -13,7 +13,7 @@ use Rattle.tip_machine.specs.Types.{Event}
 use Rattle.tip_machine.specs.declared.event.Event.TheVariants as event
 use Rattle.tip_machine.specs.declared.event.Heard.{Heard}
 use Rattle.tip_actor.specs.Acting.{Acting, Reading, happens, is_next, is_waiting, lines_of, said_by, takes_at, takes_from, takes_on}
-use Rattle.tip_actor.specs.Listening.{gives, Says}
+use Rattle.tip_actor.specs.Listening.{IsIdle, Says, gives}
 use Rattle.tip_actor.specs.Standing.{Actor, AreReadings, Finds, FindsIn, GivesNext, IsActor, IsReading, Owes, TakesFirst}
 use Rattle.tip_actor.proofs.Lists.{partner, reading_at, readings_length, readings_set}
 use Rattle.tip_actor.specs.declared.reader.Reader.{Reader}
@@ -40,6 +40,13 @@ free core place state reader reading here is may = ap (λ s. must_wait_on (seate
 pub nothing_left : (reader : Reader) (items : List Item) (heard : List ℕ) → Owes reader items heard → gives reader [] ≡ [] → items ≡ []
 nothing_left reader [] heard owes none = refl
 nothing_left reader (x ∷ rest) heard owes none = absurd (let e = ap length (sym (owes []) ∙ none) in omega arith)
+
+pub waits_not : (state : State) (reader : Reader) (reading : Reading) → IsReading reader reading → IsIdle reader → is_next state reading ≡ false
+waits_not state reader reading is idle = rw (nothing_left reader reading.waiting reading.heard is.1 idle) refl
+
+-- one that gives the same is the same reading
+pub same_reading : (reader reader' : Reader) (reading : Reading) → reader'.seat ≡ reader.seat → ((more : List ℕ) → gives reader' more ≡ gives reader more) → IsReading reader reading → IsReading reader' reading
+same_reading reader reader' reading seat same is = (seat ∙ is.0, λ more. same more ∙ is.1 more)
 
 -- where none has come none is taken
 pub says_none : (core : Hosted) (place : ℕ) (state : State) (reader reader' : Reader) (reading : Reading) → realm core place ≡ Some state → IsReading reader reading → false ≡ must_wait_in reader.seat (realm core place) → reader'.seat ≡ reader.seat → Says reader None reader' → GivesNext state reader' reading None

@@ -37,10 +37,10 @@ line_of (asked.Line heard) = Some heard
 line_of asked.Held = None
 line_of asked.Nothing = None
 
--- a reader that was asked has nothing, or is as it was
+-- a reader that was asked has nothing, or gives what it gave
 abbrev pub IsAsked : Asked → Reader → Reader → Type 0
 IsAsked (asked.Line heard) old new = Unit {0}
-IsAsked asked.Held old new = new ≡ old
+IsAsked asked.Held old new = (more : List ℕ) → gives new more ≡ gives old more
 IsAsked asked.Nothing old new = IsIdle new
 
 -- a realm's readers, as they are seen

@@ -1,5 +1,5 @@
 //! What comes on the connections of a script.
-ghost use Rattle.std.specs.Prelude.{◌≡◌, ℕ, List, Some, ◌++◌, IfOk, OnOk};
+ghost use Rattle.std.specs.Prelude.{◌≡◌, ℕ, List, [], false, Some, ◌++◌, IfOk, OnOk};
 ghost use Rattle.tip_core.specs.Hosted.{realm as realm_at};
 ghost use Rattle.tip_machine.specs.States.{State};
 ghost use Rattle.tip_actor.specs.Acting.{Reading};
@@ -7,7 +7,7 @@ ghost use Rattle.tip_actor.specs.Listening.{IsAsked, line_of};
 ghost use Rattle.tip_actor.specs.Standing.{GivesNext, IsReading};
 ghost use Rattle.tip_script.specs.Moves.{octets_of};
 ghost use Rattle.tip_script.specs.Scripts.{octets_in};
-ghost use Rattle.tip_actor.specs.Listening.{gives, Says};
+ghost use Rattle.tip_actor.specs.Listening.{gives, IsIdle, Says};
 ghost use Rattle.tip_line.specs.Reading.{items_of};
 
 use hex::FromHexError;
@@ -94,6 +94,18 @@ impl Reader {
         }
     }
 
+    /// Whether a line has come that was not taken.
+    fn has_next(&mut self) -> bool
+        ensures seat { self.new.seat ≡ self.old.seat }
+        ensures gives { (more : List ℕ) → gives self.new more ≡ gives self.old more }
+        ensures none { result ≡ false → IsIdle self.old }
+    {
+        match &mut self.stream {
+            Stream::Lines(lines) => lines.has_next(),
+            Stream::Empty | Stream::Over => false,
+        }
+    }
+
     /// The next line, if one has come and may be taken.
     pub fn ask(&mut self, alloc: Global, core: &Core, place: usize) -> Result<Asked, AllocError>
         ensures next { (state : State) (reading : Reading) → realm_at core.now place ≡ Some state →
@@ -101,6 +113,9 @@ impl Reader {
             IfOk result (λ asked. GivesNext state self.new reading (line_of asked)) }
         ensures asked { IfOk result (λ asked. IsAsked asked self.old self.new) }
     {
+        if !self.has_next() {
+            return Ok(Asked::Nothing);
+        }
         if core.must_wait(place, self.seat) {
             return Ok(Asked::Held);
         }
