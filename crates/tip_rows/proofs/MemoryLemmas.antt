@@ -110,6 +110,12 @@ due-spent realm known r = elim (cases_Bool (bytes_eq realm r)) [
   | inr other ↦ rw other (due-other realm false known r other)
 ]
 
+pub undue-spent : (realm : List ℕ) (known : List Known) → due_in known realm ≡ false → IsSpent (due_in known) (due_in known) realm
+undue-spent realm known none r = elim (cases_Bool (bytes_eq realm r)) [
+  | inl own ↦ let e : realm ≡ r = same_text realm r own in rw own (rw (← e) none)
+  | inr other ↦ rw other refl
+]
+
 and_true : (o : Option Known) → (is_some o && true) ≡ is_some (option_map (λ (k : Known). pos k.epoch) o)
 and_true None = refl
 and_true (Some k) = refl

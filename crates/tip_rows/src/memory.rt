@@ -32,7 +32,8 @@ struct Known {
 struct Stored<A: Allocator> {
     realm: Realm,
     key: Key,
-    row: HeapRow<A>,
+    /// Apart, so that little is moved where another row is put before it.
+    row: Box<HeapRow<A>, A>,
 }
 
 impl<A: Allocator> Model for Stored<A> {
@@ -40,7 +41,7 @@ impl<A: Allocator> Model for Stored<A> {
 
     ghost Value = { Stored };
 
-    ghost view = { λ s. record { realm = s.realm; key = s.key; row = s.row } };
+    ghost view = { λ s. record { realm = s.realm; key = s.key; row = s.row.value } };
 }
 
 /// Rows in memory, on a heap of the caller's. They refuse a change for want of memory, or where `refuse_next` asked for it.
@@ -149,7 +150,9 @@ impl<A: Allocator> MemRows<A> {
         ensures faults { self.new.faults ≡ counted result self.old.faults }
     {
         let due = is_due(&self.known, realm);
-        set_due(&mut self.known, realm, false);
+        if due {
+            set_due(&mut self.known, realm, false);
+        }
         count(&mut self.faults, due);
         due
     }
@@ -414,7 +417,7 @@ fn put_copy<A: Allocator + Copy>(
     let stored = Stored {
         realm: realm.copy()?,
         key,
-        row: HeapRow::of(heap, row)?,
+        row: Box::new(heap, HeapRow::of(heap, row)?)?,
     };
     put_in(rows, stored)
 }
