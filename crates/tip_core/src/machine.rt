@@ -170,7 +170,6 @@ impl Core {
     }
 
     /// Room for an event. The realms stay as they are.
-    #[inline(never)]
     pub fn room(&mut self, alloc: Global, realm: usize, event: &Event) -> Result<Room, AllocError>
         requires { Always }
         ensures realms { (place : ℕ) → realm_at self.new place ≡ realm_at self.old place }
@@ -185,7 +184,6 @@ impl Core {
     }
 
     /// One event of one realm, with what became of the change that it wanted. It takes no memory.
-    #[inline(never)]
     pub fn apply(&mut self, realm: usize, event: Event, room: Room, outcome: Outcome) -> Happened
         requires room { IsRoomFor self.old realm event room }
         requires fits { fits room.change outcome ≡ true }

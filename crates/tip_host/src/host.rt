@@ -180,7 +180,6 @@ impl<S: RowLog + Drop> Host<S> {
     }
 
     /// One event of a realm, which brings nobody, or who was taken out and stands at a place.
-    #[inline(never)]
     pub(crate) fn happen(
         &mut self,
         alloc: Global,

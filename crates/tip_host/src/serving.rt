@@ -38,7 +38,6 @@ pub(crate) struct Prepared {
 }
 
 /// All that an event needs before its change is asked of the store, which its room says.
-#[inline(never)]
 pub(crate) fn make_ready(
     alloc: Global,
     core: &Core,
@@ -81,7 +80,6 @@ fn wanted(alloc: Global, room: &Room) -> Result<Option<Change>, AllocError>
 
 /// What an event came to is written down: its entry, its lines, its change where the store has made it, who goes out, and who
 /// was out at a place and has come back.
-#[inline(never)]
 pub(crate) fn finish(
     books: &mut Books,
     pass: &mut Pass<Entry>,

@@ -49,7 +49,6 @@ impl Work<Connection, Transaction, Making> {
     }
 
     /// Makes a place for a connection or a transaction, where the event may add one.
-    #[inline(never)]
     fn reserve(&mut self, event: &Event) -> Result<(), AllocError>
         ensures places { OnOk result (connections_for event.now ≤ self.new.connections.free) }
         ensures open { OnOk result (transactions_for event.now ≤ self.new.transactions.free) }
@@ -71,7 +70,6 @@ impl Work<Connection, Transaction, Making> {
 
     /// Makes room for one part more on the transaction that may get one. What is seen of transactions stays.
     #[tactic(auto, using(crate::proofs::Needing::growing))]
-    #[inline(never)]
     fn reserve_part(&mut self, event: &Event) -> Result<(), AllocError>
         requires here { self.old.realm < length self.old.heads.items }
         ensures part { OnOk result (MayJoin event.now (work_of self.new).state.head.name
@@ -93,7 +91,6 @@ impl Work<Connection, Transaction, Making> {
 
     /// The change of its row that the event wants: none in a realm that takes no entry.
     #[tactic(auto, using(crate::proofs::Foreseeing::wanting))]
-    #[inline(never)]
     fn wants(&self, alloc: Global, event: &Event) -> Result<Option<Change>, AllocError>
         requires here { self.now.realm < length self.now.heads.items }
         requires numbered { are_numbered (work_of self.now).state ≡ true }
@@ -108,7 +105,6 @@ impl Work<Connection, Transaction, Making> {
 
     /// Room for the transaction that the event may begin, where its realm takes an entry.
     #[tactic(auto, using(crate::proofs::Needing::beginning))]
-    #[inline(never)]
     fn room_to_begin(
         &self,
         alloc: Global,
@@ -137,7 +133,6 @@ impl Work<Connection, Transaction, Making> {
     }
 
     /// Copies of words, for what may be made of them.
-    #[inline(never)]
     fn words_needed(&self, event: &Event) -> Result<Words, AllocError>
         requires here { self.now.realm < length self.now.heads.items }
         requires numbered { are_numbered (work_of self.now).state ≡ true }
@@ -281,7 +276,6 @@ impl Work<Connection, Transaction, Making> {
 
     /// How many lines and closings the answer may need: one for each connection on the transaction, and two on the event's own.
     /// An error is that no memory has room for so many.
-    #[inline(never)]
     fn lines_needed(&self, event: &Event) -> Result<usize, AllocError>
         requires here { self.now.realm < length self.now.heads.items }
         requires numbered { are_numbered (work_of self.now).state ≡ true }

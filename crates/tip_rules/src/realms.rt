@@ -58,7 +58,6 @@ pub struct Realms<C: Linked = Connection, T: Linked = Transaction> {
 
 impl Realms<Connection, Transaction> {
     /// Room for an event of a realm. The realms stay as they are.
-    #[inline(never)]
     pub fn room(&mut self, alloc: Global, realm: usize, event: &Event) -> Result<Room, AllocError>
         requires here { realm < length self.old.heads.items }
         requires tables { realm < length self.old.tables.items }
@@ -78,7 +77,6 @@ impl Realms<Connection, Transaction> {
     }
 
     /// One event of a realm, which has what it needs, with what became of the change that it wanted.
-    #[inline(never)]
     pub fn step(&mut self, realm: usize, event: Event, outcome: Outcome, making: Making) -> Making
         requires here { realm < length self.old.heads.items }
         requires tables { realm < length self.old.tables.items }

@@ -84,7 +84,6 @@ impl<S: RowLog + Drop> Shared<S> {
     /// A LINE OF A CONNECTION, by a pass that is of this host, and the errand that comes of it. It waits until the line may be taken,
     /// and no more than so many wait to go out there; then it is an event as any other, in the same hold. None where the connection
     /// is gone. Nothing has happened then, and at a fault: the host is stopped, the pass is not its own, or memory is wanting.
-    #[inline(never)]
     pub fn take_line<R: Wait>(
         &self,
         rt: &R,
@@ -271,7 +270,6 @@ impl<S: RowLog + Drop> Shared<S> {
     }
 
     /// The hold of an event ends. Whom it speaks to is woken, and the connection that it was one of, where that rests now.
-    #[inline(never)]
     fn let_go(
         &self,
         host: MutexGuard<'_, Host<S>>,

@@ -58,7 +58,6 @@ impl<S: RowLog> StoredCore<S, Core> {
     }
 
     /// All the memory that an event of a realm takes. After it nothing can be wanting, and nothing has happened yet.
-    #[inline(never)]
     pub fn room(&mut self, alloc: Global, realm: usize, event: &Event) -> Result<Room, StepFault>
         requires { Always }
         ensures room { IfOk result (IsRoomFor self.new.core realm event.now) }
@@ -77,7 +76,6 @@ impl<S: RowLog> StoredCore<S, Core> {
 
     /// One event of one realm, in the room that was made for it: the change that it wants is asked of the store, at most one;
     /// then its realm goes on by what became of it. It takes no memory. Who goes out was not called since its errand was given.
-    #[inline(never)]
     pub fn happen(&mut self, realm: usize, event: Event, room: Room) -> Happened
         requires always { Always }
         requires room { IsRoomFor self.old.core realm event room }
