@@ -1,12 +1,11 @@
 //! What the top body does at an operator's word.
 ghost use Rattle.tip_branch.specs.Always.{Always};
 
+use crate::runtime::Runtime;
 use crate::server::{Server, Task};
 use std::alloc::AllocError;
-use std::net::{Net, TcpListener, TcpStream};
 use std::slice;
 use std::sync::{Arc, Wait};
-use std::thread::Threads;
 use tip_control::{Answer, Request};
 use tip_duties::{Dial, Duties};
 use tip_host::{HostEvent, Seat};
@@ -25,17 +24,7 @@ where
     S::Medium: Send,
 {
     /// Does what an operator asks, or says which task that is.
-    pub fn hear<R>(&mut self, rt: &R, ask: Ask) -> Option<Task>
-    where
-        R: Net<Listener = TcpListener, Stream = TcpStream>
-            + Wait
-            + Threads
-            + Eprint
-            + Copy
-            + Send
-            + Drop
-            + 'static,
-    {
+    pub fn hear<R: Runtime>(&mut self, rt: &R, ask: Ask) -> Option<Task> {
         match &ask.request {
             Request::Retry => self.retry(rt, ask.realm, ask.asker),
             Request::Renew => return self.renewal(rt, ask.realm, ask.asker),
@@ -63,17 +52,7 @@ where
     }
 
     /// Does again what a start does for the rows of a realm.
-    fn retry<R>(&mut self, rt: &R, realm: usize, asker: Asker)
-    where
-        R: Net<Listener = TcpListener, Stream = TcpStream>
-            + Wait
-            + Threads
-            + Eprint
-            + Copy
-            + Send
-            + Drop
-            + 'static,
-    {
+    fn retry<R: Runtime>(&mut self, rt: &R, realm: usize, asker: Asker) {
         let tried = if self.count_callers(realm) < MOST_CALLERS {
             match self.shared.doubts(rt, self.alloc, realm) {
                 Ok(stored) => self.try_again(rt, realm, &stored),
@@ -103,17 +82,12 @@ where
     }
 
     /// Tries again what is left of a realm's transactions, and calls the managers that its rows name; how many it calls.
-    fn try_again<R>(&mut self, rt: &R, realm: usize, stored: &Recovery) -> Result<usize, Refusal>
-    where
-        R: Net<Listener = TcpListener, Stream = TcpStream>
-            + Wait
-            + Threads
-            + Eprint
-            + Copy
-            + Send
-            + Drop
-            + 'static,
-    {
+    fn try_again<R: Runtime>(
+        &mut self,
+        rt: &R,
+        realm: usize,
+        stored: &Recovery,
+    ) -> Result<usize, Refusal> {
         let Duties { resumes, dials } = self.duties_again(rt, realm, stored)?;
         let count = dials.len();
         self.resume(rt, realm, resumes);
@@ -161,17 +135,7 @@ where
     }
 
     /// Asks another manager to take part in a transaction, or to let us, on an idle connection to it, else on one that is opened.
-    fn ask_manager<R>(&mut self, rt: &R, ask: Ask)
-    where
-        R: Net<Listener = TcpListener, Stream = TcpStream>
-            + Wait
-            + Threads
-            + Eprint
-            + Copy
-            + Send
-            + Drop
-            + 'static,
-    {
+    fn ask_manager<R: Runtime>(&mut self, rt: &R, ask: Ask) {
         if !self.has_branches(&ask) {
             return ask.asker.answer(rt, Answer::Refused(Refusal::WrongCount));
         }
@@ -211,17 +175,7 @@ where
     }
 
     /// Opens a connection for this.
-    fn open_for<R>(&mut self, rt: &R, ask: Ask)
-    where
-        R: Net<Listener = TcpListener, Stream = TcpStream>
-            + Wait
-            + Threads
-            + Eprint
-            + Copy
-            + Send
-            + Drop
-            + 'static,
-    {
+    fn open_for<R: Runtime>(&mut self, rt: &R, ask: Ask) {
         let realm = ask.realm;
         self.make_room(rt, realm);
         let Ok(asker) = ask.asker.copy() else {
@@ -233,17 +187,12 @@ where
     }
 
     /// Starts the thread that calls a manager for this.
-    fn start_calls_for<R>(&mut self, rt: &R, realm: usize, ask: Ask) -> Result<(), AllocError>
-    where
-        R: Net<Listener = TcpListener, Stream = TcpStream>
-            + Wait
-            + Threads
-            + Eprint
-            + Copy
-            + Send
-            + Drop
-            + 'static,
-    {
+    fn start_calls_for<R: Runtime>(
+        &mut self,
+        rt: &R,
+        realm: usize,
+        ask: Ask,
+    ) -> Result<(), AllocError> {
         let Some(address) = address_in(&ask.request) else {
             return Err(AllocError);
         };

@@ -1,14 +1,11 @@
 //! The top body: it alone makes boxes, opens connections and joins threads.
 use crate::ending::end_accepting;
 use crate::rows::count_branches;
+use crate::runtime::Runtime;
 use crate::starting::{Shelves, Started, check, load, start};
 use simulated_branch::Simulated;
 use std::alloc::Global;
 use std::io::Write;
-use std::net::{Net, TcpListener, TcpStream};
-use std::sync::Wait;
-use std::thread::Threads;
-use std::time::Clock;
 use tip_branch::{Branch, Phase, Plan};
 use tip_core::Core;
 use tip_duties::ServeFault;
@@ -29,15 +26,7 @@ pub fn host_realms<R, S, W>(
     out: &mut W,
 ) -> Result<(), ServeFault>
 where
-    R: Net<Listener = TcpListener, Stream = TcpStream>
-        + Threads
-        + Wait
-        + Clock
-        + Eprint
-        + Copy
-        + Send
-        + Drop
-        + 'static,
+    R: Runtime,
     S: RowLog + Drop + Send + 'static,
     S::Medium: Send + 'static,
     W: Write,
@@ -59,15 +48,7 @@ fn host_watched<R, S, W>(
     out: &mut W,
 ) -> Result<(), ServeFault>
 where
-    R: Net<Listener = TcpListener, Stream = TcpStream>
-        + Threads
-        + Wait
-        + Clock
-        + Eprint
-        + Copy
-        + Send
-        + Drop
-        + 'static,
+    R: Runtime,
     S: RowLog + Drop + Send + 'static,
     S::Medium: Send + 'static,
     W: Write,

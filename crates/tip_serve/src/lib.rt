@@ -10,7 +10,9 @@ mod opening;
 mod renewing;
 mod retiring;
 mod rows;
+mod runtime;
 mod server;
 mod starting;
 
 pub use hosting::host_realms;
+pub use runtime::Runtime;

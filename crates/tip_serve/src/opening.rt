@@ -2,17 +2,16 @@
 ghost use Rattle.tip_branch.specs.Always.{Always};
 
 use crate::rows::fresh;
+use crate::runtime::Runtime;
 use crate::server::{Live, Server};
-use std::alloc::{AllocError, Global};
+use std::alloc::AllocError;
 use std::sync::{Arc, Wait};
-use std::thread::Threads;
-use std::time::Clock;
 use tip_branch::{Branch, HeldFresh};
 use tip_control::{Answer, Request};
 use tip_duties::{Connection, Note};
 use tip_host::{HostEvent, HostFault, Seat, Stepped};
 use tip_line::{Refusal, Word};
-use tip_notices::{Arrival, Ask, Asker, Kept};
+use tip_notices::{Arrival, Asker, Kept};
 use tip_rows::RowLog;
 use tip_session::DeskFault;
 use tip_shared::run_errand;
@@ -61,16 +60,13 @@ where
     S::Medium: Send,
 {
     /// Makes a socket a connection with these boxes, and starts its threads. One that is not taken is closed.
-    pub fn open<R>(
+    pub fn open<R: Runtime>(
         &mut self,
         rt: &R,
         arrival: Arrival,
         is_second: bool,
         boxes: Vec<Box<dyn Branch + Send>>,
-    )
-    where
-        R: Wait + Threads + Clock + Eprint + Copy + Send + Drop + 'static,
-    {
+    ) {
         match self.open_at_host(rt, &arrival, boxes) {
             Ok((seat, asker)) => {
                 let realm = arrival.realm;
@@ -134,10 +130,7 @@ where
     }
 
     /// Starts the threads of a connection that was opened at the host; where there is none for it, it is lost.
-    fn run<R>(&mut self, rt: &R, arrival: Arrival, seat: Seat, asker: Option<Asker>)
-    where
-        R: Wait + Threads + Clock + Eprint + Copy + Send + Drop + 'static,
-    {
+    fn run<R: Runtime>(&mut self, rt: &R, arrival: Arrival, seat: Seat, asker: Option<Asker>) {
         let is_accepted = arrival.dial.is_none();
         let Some(place) = self.free.pop() else {
             return;
@@ -157,15 +150,13 @@ where
     }
 
     /// Starts the threads of a connection; else it says in a word why there are none.
-    fn start<R>(
+    fn start<R: Runtime>(
         &mut self,
         rt: &R,
         arrival: Arrival,
         seat: Seat,
         place: usize,
     ) -> Result<(), &'static str>
-    where
-        R: Wait + Threads + Clock + Eprint + Copy + Send + Drop + 'static,
         requires { Always }
     {
         let link = self.link(arrival, seat, place).map_err(|_| "memory")?;

@@ -2,11 +2,10 @@
 ghost use Rattle.tip_branch.specs.Always.{Always};
 
 use crate::rows::dealt_to_rows;
+use crate::runtime::Runtime;
 use crate::server::{Caller, Server};
 use std::alloc::{AllocError, Global};
-use std::net::{Net, TcpListener, TcpStream};
 use std::sync::{Arc, Wait};
-use std::thread::Threads;
 use tip_branch::Branch;
 use tip_control::Answer;
 use tip_duties::{Dial, Duties, Note};
@@ -23,24 +22,14 @@ where
     S::Medium: Send,
 {
     /// A realm starts again by what is stored of it, with these boxes for its rows, and does what it does at each start.
-    pub fn renew<R>(
+    pub fn renew<R: Runtime>(
         &mut self,
         rt: &R,
         realm: usize,
         recovery: Recovery,
         pool: Vec<Box<dyn Branch + Send>>,
         asker: Option<Asker>,
-    )
-    where
-        R: Net<Listener = TcpListener, Stream = TcpStream>
-            + Wait
-            + Threads
-            + Eprint
-            + Copy
-            + Send
-            + Drop
-            + 'static,
-    {
+    ) {
         let epoch = recovery.epoch().saturating_add(1);
         match self.start_again(rt, realm, recovery, pool) {
             Ok(Duties { resumes, dials }) => {
@@ -99,17 +88,7 @@ where
     }
 
     /// These managers are called, by a thread of their own; false where there is none.
-    pub fn call<R>(&mut self, rt: &R, realm: usize, dials: Vec<Dial>) -> bool
-    where
-        R: Net<Listener = TcpListener, Stream = TcpStream>
-            + Wait
-            + Threads
-            + Eprint
-            + Copy
-            + Send
-            + Drop
-            + 'static,
-    {
+    pub fn call<R: Runtime>(&mut self, rt: &R, realm: usize, dials: Vec<Dial>) -> bool {
         if dials.is_empty() {
             return true;
         }
@@ -124,22 +103,12 @@ where
     }
 
     /// Starts the thread that makes these calls.
-    pub fn start_calls<R>(
+    pub fn start_calls<R: Runtime>(
         &mut self,
         rt: &R,
         realm: usize,
         calls: Vec<Call>,
-    ) -> Result<(), AllocError>
-    where
-        R: Net<Listener = TcpListener, Stream = TcpStream>
-            + Wait
-            + Threads
-            + Eprint
-            + Copy
-            + Send
-            + Drop
-            + 'static,
-    {
+    ) -> Result<(), AllocError> {
         let place = self.caller_place(rt)?;
         let Some(served) = self.realms.get(realm) else {
             return Err(AllocError);

@@ -3,11 +3,10 @@ ghost use Rattle.tip_branch.specs.Always.{Always};
 
 use crate::opening::NotOpened;
 use crate::rows::count_in;
+use crate::runtime::Runtime;
 use std::alloc::Global;
-use std::net::{Net, TcpListener, TcpStream};
 use std::sync::{Arc, Wait};
-use std::thread::{JoinHandle, Threads};
-use std::time::Clock;
+use std::thread::JoinHandle;
 use tip_branch::{Branch, Phase, Plan};
 use tip_control::Answer;
 use tip_duties::Note;
@@ -122,17 +121,7 @@ where
     S::Medium: Send,
 {
     /// What is to be done next; None where the server is to end.
-    pub fn next<R>(&mut self, rt: &R) -> Option<Task>
-    where
-        R: Net<Listener = TcpListener, Stream = TcpStream>
-            + Wait
-            + Threads
-            + Eprint
-            + Copy
-            + Send
-            + Drop
-            + 'static,
-    {
+    pub fn next<R: Runtime>(&mut self, rt: &R) -> Option<Task> {
         for _ in rt.forever() {
             if let Some(task) = self.held_task(rt) {
                 return Some(task);
@@ -150,17 +139,7 @@ where
     }
 
     /// Does what a notice wants, or says which task that is.
-    fn heed<R>(&mut self, rt: &R, notice: Notice) -> Option<Task>
-    where
-        R: Net<Listener = TcpListener, Stream = TcpStream>
-            + Wait
-            + Threads
-            + Eprint
-            + Copy
-            + Send
-            + Drop
-            + 'static,
-    {
+    fn heed<R: Runtime>(&mut self, rt: &R, notice: Notice) -> Option<Task> {
         match notice {
             Notice::Arrived(arrival) => {
                 return Some(Task::Open {
@@ -220,18 +199,7 @@ where
     }
 
     /// Does a task, with the boxes that it wants.
-    pub fn act<R>(&mut self, rt: &R, task: Task, boxes: Vec<Box<dyn Branch + Send>>)
-    where
-        R: Net<Listener = TcpListener, Stream = TcpStream>
-            + Wait
-            + Threads
-            + Clock
-            + Eprint
-            + Copy
-            + Send
-            + Drop
-            + 'static,
-    {
+    pub fn act<R: Runtime>(&mut self, rt: &R, task: Task, boxes: Vec<Box<dyn Branch + Send>>) {
         match task {
             Task::Open { arrival, is_second } => self.open(rt, arrival, is_second, boxes),
             Task::Renew {

@@ -2,19 +2,18 @@
 ghost use Rattle.tip_branch.specs.Always.{Always};
 
 use crate::rows::dealt_to_all;
+use crate::runtime::Runtime;
 use crate::server::{Served, Server, Start};
 use std::alloc::{AllocError, Global};
 use std::io::Write;
 use std::net::{Net, TcpListener, TcpStream};
-use std::sync::{Arc, Wait};
-use std::thread::{JoinHandle, Threads};
-use std::time::Clock;
+use std::sync::Arc;
+use std::thread::JoinHandle;
 use tip_branch::Branch;
 use tip_core::Core;
 use tip_duties::{Duties, Heading, ServeFault, declarations, has_row_ahead, plans_for};
 use tip_host::Host;
 use tip_journal::Pass;
-use tip_line::Realm;
 use tip_notices::{Doubts, Inbox, Log, Slots, Watcher};
 use tip_recovery::Recovery;
 use tip_rows::RowLog;
@@ -192,15 +191,7 @@ where
         out: &mut W,
     ) -> Result<Vec<Door<'a>>, ServeFault>
     where
-        R: Net<Listener = TcpListener, Stream = TcpStream>
-            + Wait
-            + Threads
-            + Clock
-            + Eprint
-            + Copy
-            + Send
-            + Drop
-            + 'static,
+        R: Runtime,
         W: Write,
     {
         let entrances = listen_all(rt, self.alloc, config)?;
@@ -219,14 +210,11 @@ where
     }
 
     /// Starts the threads that accept connections.
-    fn open_doors<R>(
+    fn open_doors<R: Runtime>(
         &mut self,
         rt: &R,
         entrances: Vec<Entrance<'a>>,
-    ) -> Result<Vec<Door<'a>>, ServeFault>
-    where
-        R: Wait + Threads + Clock + Copy + Send + Drop + 'static,
-    {
+    ) -> Result<Vec<Door<'a>>, ServeFault> {
         let mut doors = Vec::with_capacity(self.alloc, entrances.len())?;
         for entrance in entrances {
             let place = entrance.place;
@@ -239,13 +227,11 @@ where
     }
 
     /// Starts the thread that accepts the connections that come in at a place.
-    fn start_accepting<R>(
+    fn start_accepting<R: Runtime>(
         &self,
         rt: &R,
         entrance: Entrance<'a>,
     ) -> Result<JoinHandle<()>, AllocError>
-    where
-        R: Wait + Threads + Clock + Copy + Send + Drop + 'static,
         requires { Always }
     {
         let Entrance {
