@@ -1,11 +1,11 @@
 //! One line of a script, as it is read.
-ghost use Rattle.std.specs.Prelude.{◌≡◌, ℕ, ◌∷◌, [], None, Some, IfOk, IfErr};
-ghost use Rattle.std.specs.Io.KnownBytes.{Consumes, IsAtEnd};
-ghost use Rattle.script_lines.specs.Lines.{Reads};
-ghost use Rattle.script_lines.specs.declared.line.LineFault.TheVariants as faults;
+ghost use Rattle.std.specs.Prelude.{◌≡◌, ◌≤◌, ◌<◌, ℕ, List, Option, [], length, slice_index, IfOk};
+ghost use Rattle.memchr.specs.Find.{Nowhere, Passes, is_byte};
+ghost use Rattle.script_lines.specs.Lines.{IsFront, Reads, ReadsOn, has_read, longest_line};
 
-use std::alloc::{AllocError, AllocFailed, Global};
-use std::io::{BufRead, Read};
+use memchr::memchr;
+use std::alloc::{AllocError, Global};
+use std::io::BufRead;
 use thiserror::Error;
 
 /// The octets that a line may have, without its end.
@@ -20,12 +20,12 @@ pub enum LineFault {
     Memory,
 }
 
-impl<T: Drop> From<AllocFailed<T>> for LineFault {
+impl From<AllocError> for LineFault {
     ghost use Rattle.script_lines.specs.declared.line.LineFault.TheVariants.{Memory};
 
     ghost from_gives = { λ _ fault. fault ≡ Memory };
 
-    fn from(_: AllocFailed<T>) -> LineFault {
+    fn from(_: AllocError) -> LineFault {
         LineFault::Memory
     }
 }
@@ -56,24 +56,39 @@ impl ScriptLine {
         })
     }
 
-    /// Reads the next line in place of this one, octet by octet: what is read should have a buffer.
+    /// Reads the next line in place of this one, as much of it at once as the input has in its buffer.
     pub fn read<R: BufRead>(&mut self, input: &mut R) -> Result<LineEnd, LineFault>
         ensures { Reads (R.remaining input.old) (R.remaining input.new) self.new.octets.items
             result }
     {
         self.octets.clear();
-        for _ in 0..LONGEST_LINE {
-            match next_octet(input)? {
-                None => return Ok(LineEnd::EndOfInput),
-                Some(b'\n') => return Ok(LineEnd::LineFeed),
-                Some(octet) => self.octets.push(octet)?,
+        for _ in 0..=LONGEST_LINE {
+            if let Some(end) = self.read_on(input)? {
+                return Ok(end);
             }
         }
-        match next_octet(input)? {
-            None => Ok(LineEnd::EndOfInput),
-            Some(b'\n') => Ok(LineEnd::LineFeed),
-            Some(_) => Ok(LineEnd::TooLong),
+        unreachable!()
+    }
+
+    /// Takes what the input has in its buffer, as far as it is of this line. None where the line goes on behind it.
+    fn read_on<R: BufRead>(&mut self, input: &mut R) -> Result<Option<LineEnd>, LineFault>
+        requires { length self.old.octets.items ≤ longest_line }
+        ensures { (start : Option (List ℕ)) →
+            has_read start (R.remaining input.old) self.old.octets.items →
+            ReadsOn start (R.remaining input.new) self.old.octets.items self.new.octets.items
+            result }
+    {
+        let Ok(buffer) = input.fill_buf() else {
+            return Err(LineFault::Read);
+        };
+        if buffer.is_empty() {
+            return Ok(Some(LineEnd::EndOfInput));
         }
+        let (count, end) = front_of(buffer, LONGEST_LINE - self.octets.len());
+        self.octets.extend_from_slice(&buffer[..count])?;
+        let taken = if end.is_some() { count + 1 } else { count };
+        input.consume(taken);
+        Ok(end)
     }
 
     /// The octets of the line.
@@ -84,20 +99,29 @@ impl ScriptLine {
     }
 }
 
-/// Reads one octet; none at the end of the input.
-fn next_octet<R: BufRead>(input: &mut R) -> Result<Option<u8>, LineFault>
-    ensures end { IfOk result (λ octet. octet ≡ None → Consumes (R.remaining input.old)
-        (R.remaining input.new) [] × IsAtEnd (R.remaining input.new)) }
-    ensures octet { IfOk result (λ octet. (o : ℕ) → octet ≡ Some o →
-        Consumes (R.remaining input.old) (R.remaining input.new) (o ∷ [])) }
-    ensures kept { IfErr result
-        (λ fault. Consumes (R.remaining input.old) (R.remaining input.new) []) }
-    ensures fault { IfErr result (λ fault. fault ≡ faults.Read) }
+/// How many octets at the front of a buffer are of a line that may have so many more, and how it ends behind them; None where it
+/// goes on behind the buffer.
+fn front_of(buffer: &[u8], room: usize) -> (usize, Option<LineEnd>)
+    ensures { IsFront buffer.now room result.0 result.1 }
 {
-    let mut octet = [0];
-    match input.read(&mut octet) {
-        Ok(0) => Ok(None),
-        Ok(_) => Ok(Some(octet[0])),
-        Err(_) => Err(LineFault::Read),
+    let line = feed_in(buffer);
+    if room < line {
+        (room, Some(LineEnd::TooLong))
+    } else if line < buffer.len() {
+        (line, Some(LineEnd::LineFeed))
+    } else {
+        (line, None)
+    }
+}
+
+/// Where the first line feed is; at the end of the buffer where there is none.
+fn feed_in(buffer: &[u8]) -> usize
+    ensures within { result ≤ length buffer.now }
+    ensures inner { Nowhere (Passes (is_byte 10) buffer.now) 0 result }
+    ensures feed { result < length buffer.now → slice_index buffer.now result ≡ 10 }
+{
+    match memchr(b'\n', buffer) {
+        Some(place) => place,
+        None => buffer.len(),
     }
 }

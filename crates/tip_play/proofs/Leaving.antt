@@ -5,8 +5,9 @@ use Rattle.std.proofs.lemmas.Bool.{false≢true, le-leb, lt-leb}
 use Rattle.std.proofs.lemmas.List.{append-nil, append_assoc}
 use Rattle.std.specs.Prelude.{IfOk}
 use Rattle.std.proofs.lemmas.Option.{none-some}
-use Rattle.std.proofs.KnownBytes.{Consumes-trans, Consumes-whole}
+use Rattle.std.proofs.KnownBytes.{Consumes-trans}
 use Rattle.script_lines.specs.Lines.{AreOfLine, IsTooLong, Reads, is_line_feed, longest_line}
+use Rattle.script_lines.proofs.Reading.{known_end, whole_read}
 use Rattle.script_lines.specs.declared.line.LineEnd.{LineEnd}
 use Rattle.script_lines.specs.declared.line.LineEnd.TheVariants.{LineFeed, EndOfInput, TooLong}
 use Rattle.tip_rows.specs.Keys.{Key}
@@ -142,7 +143,7 @@ module _ {S : Type 0} (kept : Keeping S) (basis : Basis) where
         of_whole kept basis (Some script) left' (so.read ++ (line ++ 10 ∷ [])) (λ s. StandsAt s number so.played.now line) (Consumes-trans (Some script) left left' so.read (line ++ 10 ∷ []) so.consumed reads.1)
         (λ rest. subst (λ s. StandsAt s number so.played.now line) (sym (behind_feed kept basis so.read line rest)) (as_read ((so.read ++ line) ++ 10 ∷ rest) reads.0 (fed stage number so.read line old mid first store (next_to reads.0) rest)))
     line_at EndOfInput other reads =
-        Consumes-whole (Some script) left' (so.read ++ line) (λ s. StandsAt s number so.played.now line) (Consumes-trans (Some script) left left' so.read line so.consumed reads.1) reads.2 (as_read (so.read ++ line) reads.0 (last stage number so.read line old mid first store (next_to reads.0)))
+        whole_read (Some script) left' (so.read ++ line) (λ s. StandsAt s number so.played.now line) (Consumes-trans (Some script) left left' so.read line so.consumed reads.1) (known_end (Some script) left left' so.read so.consumed reads.2) (as_read (so.read ++ line) reads.0 (last stage number so.read line old mid first store (next_to reads.0)))
     line_at TooLong other reads = absurd (other refl)
 
     line_left : (end : LineEnd) → end ≢ TooLong → Reads left left' line (Ok end) → IsLeft kept (scene_behind basis so.played.now (move_of line)) first store → LeavesBehind kept basis script number first store
@@ -177,7 +178,7 @@ module _ {S : Type 0} (kept : Keeping S) (basis : Basis) where
         })
     done_left EndOfInput other reads does here =
         let reached = done_of reads.0 does in
-        Consumes-whole (Some script) left' (so.read ++ line) (λ s. LeavesAfter kept basis s first store) (Consumes-trans (Some script) left left' so.read line so.consumed reads.1) reads.2 (record {
+        whole_read (Some script) left' (so.read ++ line) (λ s. LeavesAfter kept basis s first store) (Consumes-trans (Some script) left left' so.read line so.consumed reads.1) (known_end (Some script) left left' so.read so.consumed reads.2) (record {
           before = ended ((so.read ++ line) ++ 10 ∷ []);
           behind = [];
           lines = last_line (so.read ++ line) ∙ sym (ended_feed (so.read ++ line)) ∙ sym (append-nil (ended ((so.read ++ line) ++ 10 ∷ [])));

@@ -1,14 +1,15 @@
 -- A script that is read line by line.
 use Rattle.tip_rows.specs.Logs.{Keeping, Log}
-use Rattle.std.proofs.Common.{◌≡◌, ◌≢◌, ◌+◌, ◌++◌, ◌∷◌, [], ℕ, Bool, true, false, List, Option, Some, None, Ok, Err, IfSome, Result, map, refl, sym, ap, ◌∙◌, subst}
+use Rattle.std.proofs.Common.{◌≡◌, ◌≢◌, ◌+◌, ◌++◌, ◌∷◌, [], ℕ, Bool, true, false, List, Option, Some, None, Ok, Err, IfSome, OnSome, Result, map, refl, sym, ap, ◌∙◌, subst}
 use Rattle.std.proofs.lemmas.List.{append-nil, append_assoc}
 use Rattle.std.specs.Io.KnownBytes.{Consumes, IsAtEnd}
-use Rattle.std.proofs.KnownBytes.{Consumes-nil, Consumes-trans, Consumes-whole}
+use Rattle.std.proofs.KnownBytes.{Consumes-nil, Consumes-trans}
 use Rattle.std.specs.List.{list_all}
 use Rattle.std.specs.Prelude.{◌&&◌, IfOk}
 use Rattle.std.proofs.lemmas.List.Folds.{list_all-append}
 use Rattle.tip_line.proofs.StopLemmas.{and_left, and_right}
 use Rattle.script_lines.specs.Lines.{AreOfLine, Reads, is_inner}
+use Rattle.script_lines.proofs.Reading.{known_end, whole_read}
 use Rattle.script_lines.specs.declared.line.LineEnd.{LineEnd}
 use Rattle.script_lines.specs.declared.line.LineEnd.TheVariants.{LineFeed, EndOfInput, TooLong}
 use Rattle.script_lines.specs.declared.line.LineFault.{LineFault}
@@ -116,7 +117,7 @@ module _ {S : Type 0} (kept : Keeping S) (basis : Basis) where
       (λ rest. subst P (sym (behind_feed so.read line rest)) (fed_covered so.read line rest so.played.closed reads.0.inner)))
   line_covered stage number whole left left' old new line EndOfInput so covers other reads =
       let P = λ (script : List ℕ). covers_all basis script ≡ true → is_covered basis (move_of line) ≡ true in
-      covered_so whole covers (Consumes-whole whole left' (so.read ++ line) P (Consumes-trans whole left left' so.read line so.consumed reads.1) reads.2 (last_covered so.read line so.played.closed reads.0.inner))
+      covered_so whole covers (whole_read whole left' (so.read ++ line) P (Consumes-trans whole left left' so.read line so.consumed reads.1) (known_end whole left left' so.read so.consumed reads.2) (last_covered so.read line so.played.closed reads.0.inner))
   line_covered stage number whole left left' old new line TooLong so covers other reads = absurd (other refl)
 
   fails_fed : (stage : AStage S) (number : ℕ) (whole left left' old mid new : Option (List ℕ)) (line : List ℕ) (why : PlayFault) → HasRead stage number whole left old mid → AreOfLine line → Consumes left left' (line ++ 10 ∷ []) → ((now : Stage) → IsStage kept basis stage now → Acts kept basis number (acted basis now line) mid new (Err why)) → IfSome whole (λ script. Transcribes basis script left' old new (Err why))
@@ -132,9 +133,9 @@ module _ {S : Type 0} (kept : Keeping S) (basis : Basis) where
   never_read stage number read line old mid new fault.Store so acts = λ e. absurd cc
 
   -- it is the last one
-  fails_at_end : (stage : AStage S) (number : ℕ) (whole left left' old mid new : Option (List ℕ)) (line : List ℕ) (why : PlayFault) → HasRead stage number whole left old mid → AreOfLine line → Consumes left left' line → IsAtEnd left' → ((now : Stage) → IsStage kept basis stage now → Acts kept basis number (acted basis now line) mid new (Err why)) → IfSome whole (λ script. Transcribes basis script left' old new (Err why))
+  fails_at_end : (stage : AStage S) (number : ℕ) (whole left left' old mid new : Option (List ℕ)) (line : List ℕ) (why : PlayFault) → HasRead stage number whole left old mid → AreOfLine line → Consumes left left' line → OnSome left (IsAtEnd left') → ((now : Stage) → IsStage kept basis stage now → Acts kept basis number (acted basis now line) mid new (Err why)) → IfSome whole (λ script. Transcribes basis script left' old new (Err why))
   fails_at_end stage number whole left left' old mid new line why so are taken end acts =
-      Consumes-whole whole left' (so.read ++ line) (λ script. Transcribes basis script left' old new (Err why)) (Consumes-trans whole left left' so.read line so.consumed taken) end
+      whole_read whole left' (so.read ++ line) (λ script. Transcribes basis script left' old new (Err why)) (Consumes-trans whole left left' so.read line so.consumed taken) (known_end whole left left' so.read so.consumed end)
       (lines.fails_last kept basis (so.read ++ line) old new left' why (never_read stage number so.read line old mid new why so.played acts)
       (lines.fails_next kept basis stage number so.read line [] old mid new left' why (lines.next_line kept basis stage number so.read line old mid so.played are) acts))
 
@@ -159,7 +160,7 @@ module _ {S : Type 0} (kept : Keeping S) (basis : Basis) where
     pub number : ℕ
     pub read : List ℕ
     pub consumed : Consumes whole left read
-    pub end : IsAtEnd left
+    pub end : OnSome whole (IsAtEnd left)
     pub played : HasPlayed kept basis stage number (read ++ 10 ∷ []) old new
 
   -- a line was played, and was the last one
@@ -170,25 +171,25 @@ module _ {S : Type 0} (kept : Keeping S) (basis : Basis) where
         number = number + 1;
         read = so.read ++ line;
         consumed = Consumes-trans whole left left' so.read line so.consumed last.1;
-        end = last.2;
+        end = known_end whole left left' so.read so.consumed last.2;
         played = lines.plays_next kept basis stage stage' number so.read line old mid new (lines.next_line kept basis stage number so.read line old mid so.played last.0) acts;
       }
 
   -- nothing more is written
   pub ended_front : (stage : AStage S) (whole left old new : Option (List ℕ)) → HasEnded stage whole left old new → IfSome whole (λ script. IsFront basis script old new)
-  ended_front stage whole left old new so = Consumes-whole whole left so.read (λ script. IsFront basis script old new) so.consumed so.end (lines.last_front kept basis so.read old new (subst (λ l. IsFront basis l old new) (append-nil (so.read ++ 10 ∷ [])) (lines.front_played kept basis stage so.number (so.read ++ 10 ∷ []) [] old new so.played)))
+  ended_front stage whole left old new so = whole_read whole left so.read (λ script. IsFront basis script old new) so.consumed so.end (lines.last_front kept basis so.read old new (subst (λ l. IsFront basis l old new) (append-nil (so.read ++ 10 ∷ [])) (lines.front_played kept basis stage so.number (so.read ++ 10 ∷ []) [] old new so.played)))
 
   -- the realms have started, if they had not
   pub script_closes : (stage : AStage S) (whole left old mid new : Option (List ℕ)) (result : Result (Unit {0}) PlayFault) → HasEnded stage whole left old mid → ((now : Stage) → IsStage kept basis stage now → Closes (closing_of basis now) mid new result) → IfSome whole (λ script. Transcribes basis script left old new result)
   script_closes stage whole left old mid new result so closes =
-      Consumes-whole whole left so.read (λ script. Transcribes basis script left old new result) so.consumed so.end
+      whole_read whole left so.read (λ script. Transcribes basis script left old new result) so.consumed so.end
       (lines.closes kept basis stage so.number so.read old mid new left result so.played (closes so.played.now so.played.stands))
 
   -- so it has reached this stage
   pub ended_at : (stage : AStage S) (whole left old new : Option (List ℕ)) (script : List ℕ) → whole ≡ Some script → (so : HasEnded stage whole left old new) → (all_played basis script).ending ≡ Reached so.played.now
   ended_at stage whole left old new script is so =
       let P = λ (script : List ℕ). (all_played basis script).ending ≡ Reached so.played.now in
-      subst (λ w. IfSome w P) is (Consumes-whole whole left so.read P so.consumed so.end (ap (λ (p : Played). p.ending) (played_last basis so.read) ∙ so.played.reached))
+      subst (λ w. IfSome w P) is (whole_read whole left so.read P so.consumed so.end (ap (λ (p : Played). p.ending) (played_last basis so.read) ∙ so.played.reached))
 
   -- and its realms are stored as they are there
   pub leaves_end : {E : Type 0} (P : Stage → Type 0) (script : List ℕ) (names : List (List ℕ)) (first old mid : S) (result : Result S (E × S)) → old ≡ mid → Trusts kept mid (λ store. store) result → (kept.is_true mid → (now : Stage) × P now × ((all_played basis script).ending ≡ Reached now) × ((starts : ℕ) × OthersStay kept starts names first mid)) →

@@ -1,6 +1,7 @@
-use Rattle.script_lines.proofs.Reading.{IsSoFar}
+use Rattle.std.proofs.Common.{◌≤◌, length}
+use Rattle.script_lines.specs.Lines.{has_read}
 use Rattle.script_lines.proofs.line.ScriptLine.read.Given as goal
 
--- so many octets of the line were read
+-- so much of the line was read, an octet for each turn at least
 abbrev pub invariant-loop : goal.invariant-loop
-invariant-loop g l = IsSoFar (g.R.Read.remaining l.fn.input) (g.R.Read.remaining l.input) l.self.octets.items l.counter
+invariant-loop g l = has_read (g.R.Read.remaining l.fn.input) (g.R.Read.remaining l.input) l.self.octets.items × (l.counter ≤ length l.self.octets.items)
