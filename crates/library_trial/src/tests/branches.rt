@@ -1,4 +1,5 @@
 //! What no clause says: dropped parties, and whose branches are told.
+ghost use Rattle.tip_branch.specs.Always.{Always};
 
 use counting_branch::{Counters, Probe};
 use std::alloc::Global;
@@ -6,8 +7,8 @@ use std::sync::{Arc, Mutex};
 use std::test::Fail;
 use std::thread;
 use tip_branch::{
-    Badge, Branch, Errand, Fresh, HeldFresh, HeldParty, NotesRoom, Party, PartyRoom, Phase, Plan,
-    Settled, Vote, are_numbers,
+    Badge, Branch, Errand, Fresh, HeldFresh, HeldParty, Member, NotesRoom, Party, PartyRoom, Phase,
+    Plan, Settled, Vote, are_numbers,
 };
 use tip_line::{Id, Realm};
 
@@ -93,28 +94,41 @@ fn make_unlike(
     Ok(boxes)
 }
 
+/// What one of the unlike branches is known by.
+fn badge_of((plan, mark): (Plan, u64)) -> Badge {
+    Badge { plan, mark }
+}
+
+/// Whether each member is noted as one of the unlike branches, in their order.
+fn are_noted(members: &[Member]) -> bool {
+    members.iter().zip(UNLIKE).all(|(member, branch)| member.standing.badge == badge_of(branch))
+}
+
+/// Whether each has counted so many votes, commits and aborts.
+fn have_counted(counters: &[Arc<Counters>], counted: (u64, u64, u64)) -> bool {
+    counters.iter().all(|own| own.counted() == counted)
+}
+
+/// Whether a party of the unlike branches votes yes, and the late one among them asks for more time.
+fn votes_and_waits(party: &mut Party) -> bool
+    requires { Always }
+{
+    party.give(Errand::Vote);
+    let vote = party.vote_all();
+    party.give(Errand::Commit);
+    vote == Vote::Yes && party.settle() == Settled::Later && party.phase_of(2) == Some(Phase::Ready)
+}
+
 #[test]
 fn each_fresh_box_is_told_what_its_mark_is_noted_for(rt: HostRuntime) -> Result<(), Fail> {
     let alloc = rt.alloc();
     let mut counters = Vec::new(alloc);
     let mut party = make_party(alloc, make_unlike(alloc, Phase::Active, &mut counters)?)?;
-    for (member, (plan, mark)) in party.members().iter().zip(UNLIKE) {
-        assert_eq!(rt; member.standing.badge, Badge { plan, mark });
-    }
-    party.give(Errand::Vote);
-    assert_eq!(rt; party.vote_all(), Vote::Yes);
-    party.give(Errand::Commit);
-    assert_eq!(rt; party.settle(), Settled::Later);
-    for (own, counted) in counters.iter().zip([(1, 1, 0), (1, 1, 0), (1, 1, 0)]) {
-        assert_eq!(rt; own.counted(), counted);
-    }
-    assert_eq!(rt; party.phase_of(2), Some(Phase::Ready));
-    for (branch, (_, mark)) in party.spend().iter().zip(UNLIKE) {
-        assert_eq!(rt; branch.mark(), mark);
-    }
-    for own in counters.iter() {
-        assert_eq!(rt; own.counted(), (1, 1, 0));
-    }
+    assert!(rt; are_noted(party.members()));
+    assert!(rt; votes_and_waits(&mut party));
+    assert!(rt; have_counted(&counters, (1, 1, 0)));
+    assert!(rt; are_marked(&party.spend(), &[71, 82, 93]));
+    assert!(rt; have_counted(&counters, (1, 1, 0)));
     Ok(())
 }
 

@@ -46,9 +46,9 @@ fn rest_of<'a>(
 }
 
 /// The keys and texts of a realm's rows.
-fn texts_of(
+fn texts_of<L: RowLog>(
     alloc: Global,
-    rows: &mut MemRows<&LocalHeap>,
+    rows: &mut L,
     realm: &Realm,
 ) -> Result<Vec<(Key, String)>, Fail> {
     let mut texts = Vec::new(alloc);
@@ -58,26 +58,21 @@ fn texts_of(
     Ok(texts)
 }
 
-/// Four rows of a realm, with no list of their own.
-fn four_rows<'a>(
-    alloc: Global,
-    heap: &'a LocalHeap,
-    realm: &Realm,
-) -> Result<MemRows<&'a LocalHeap>, Fail> {
-    let mut rows = MemRows::new_in(alloc, heap);
+/// Puts four rows of a realm, with no list of their own.
+fn put_four<L: RowLog>(alloc: Global, rows: &mut L, realm: &Realm) -> Result<(), Fail> {
     let row = Row::parse(alloc, b"2 C -")?;
     for number in 5..9u32 {
         let key = Key::new(1, 9, number).ok_or("a key")?;
         rows.put(realm, key, &row)?;
     }
-    Ok(rows)
+    Ok(())
 }
 
 /// Whether a row more is refused; then the rows and the heap stay as they were.
-fn refuses(
+fn refuses<L: RowLog>(
     alloc: Global,
     heap: &LocalHeap,
-    rows: &mut MemRows<&LocalHeap>,
+    rows: &mut L,
     sample: &Sample,
 ) -> Result<bool, Fail> {
     let texts = texts_of(alloc, rows, &sample.realm)?;
@@ -92,17 +87,29 @@ fn refuses(
 }
 
 /// Whether four rows, with this much room on their heap, take a row more; if not, they stand, and take it once there is room.
-fn is_put_at_once(alloc: Global, sample: &Sample, units: usize) -> Result<bool, Fail> {
-    let heap = LocalHeap::new(alloc, HEAP_LEN)?;
-    let mut rows = four_rows(alloc, &heap, &sample.realm)?;
+fn is_put_at_once<L: RowLog>(
+    alloc: Global,
+    heap: &LocalHeap,
+    rows: &mut L,
+    sample: &Sample,
+    units: usize,
+) -> Result<bool, Fail> {
+    put_four(alloc, rows, &sample.realm)?;
     let others = heap.free().saturating_sub(units.wrapping_mul(UNIT));
-    let rest = Vec::<u8, &LocalHeap>::with_capacity(&heap, others)?;
-    let is_refused = refuses(alloc, &heap, &mut rows, sample)?;
+    let rest = Vec::<u8, &LocalHeap>::with_capacity(heap, others)?;
+    let is_refused = refuses(alloc, heap, rows, sample)?;
     drop(rest);
     if is_refused {
         rows.put(&sample.realm, sample.key, &sample.row)?;
     }
     Ok(!is_refused)
+}
+
+/// The same of rows on a heap of their own.
+fn is_put_on_a_heap(alloc: Global, sample: &Sample, units: usize) -> Result<bool, Fail> {
+    let heap = LocalHeap::new(alloc, HEAP_LEN)?;
+    let mut rows = MemRows::new_in(alloc, &heap);
+    is_put_at_once(alloc, &heap, &mut rows, sample, units)
 }
 
 #[test]
@@ -111,7 +118,7 @@ fn a_refused_row_leaves_all_rows(rt: HostRuntime) -> Result<(), Fail> {
     for number in [1, 6] {
         let sample = make_sample(alloc, number, LONG)?;
         assert!(rt;
-            is_refused_in_little(|units| is_put_at_once(alloc, &sample, units))?,
+            is_refused_in_little(|units| is_put_on_a_heap(alloc, &sample, units))?,
             "{number}"
         );
     }
@@ -119,7 +126,7 @@ fn a_refused_row_leaves_all_rows(rt: HostRuntime) -> Result<(), Fail> {
 }
 
 /// Whether a row more is refused, and the rise of an epoch is not.
-fn refuses_a_row_alone(rows: &mut MemRows<&LocalHeap>, sample: &Sample) -> bool {
+fn refuses_a_row_alone<L: RowLog>(rows: &mut L, sample: &Sample) -> bool {
     rows.put(&sample.realm, sample.key, &sample.row) == Err(Refused)
         && rows.raise_epoch(&sample.realm) == Ok(())
 }
