@@ -99,6 +99,7 @@ impl Reader {
         ensures seat { self.new.seat ≡ self.old.seat }
         ensures gives { (more : List ℕ) → gives self.new more ≡ gives self.old more }
         ensures none { result ≡ false → IsIdle self.old }
+        ensures some { IsIdle self.old → result ≡ false }
     {
         match &mut self.stream {
             Stream::Lines(lines) => lines.has_next(),

@@ -2,7 +2,7 @@
 use Rattle.std.proofs.Common.{◌≡◌, ℕ, List, [], ◌∷◌, ◌++◌, Option, Some, None, option_map, subst, sym, ap, ◌∙◌}
 use Rattle.std.proofs.lemmas.List.{append-nil}
 use Rattle.std.specs.Borrow.{Bor}
-use Rattle.tip_line.specs.Reading.{Item, Text, Bad, Leaves, Gives, item_of, items_of}
+use Rattle.tip_line.specs.Reading.{Item, Text, Bad, Leaves, Gives, Reads, item_of, items_of}
 use Rattle.tip_line.specs.declared.lines.Cause.{Cause}
 use Rattle.tip_line.specs.declared.lines.Line.{Line}
 use Rattle.tip_line.specs.declared.lines.Line.TheVariants as line
@@ -22,3 +22,7 @@ pub nothing_given : (old new : List ℕ) (r : Option Line) → Gives old (option
 nothing_given old new r given is =
     let g = subst (λ s. Gives old (option_map item_of s) new) is given in
     (ap items_of (append-nil old) ∙ reads_one old (items_of old) [] (reads_items old) g.0, λ more. sym (given_behind old [] new g.1 more))
+
+-- where it gives nothing, nothing is read
+pub nothing_read : (octets : List ℕ) → items_of (octets ++ []) ≡ [] → Reads octets []
+nothing_read octets none = subst (Reads octets) (sym (ap items_of (append-nil octets)) ∙ none) (reads_items octets)

@@ -84,16 +84,23 @@ reads_fault octets cause s more =
     subst (λ o. Reads o (Bad cause ∷ [])) (sym regroup)
     (faulty (take at octets) (drop (at + 1) octets ++ more) (slice_index octets at) cause s.2 s.3 (subst (λ n. IsCause n (slice_index octets at) cause) (sym (length-take-le at octets (omega (arith, s.1)))) s.4))
 
--- where nothing is read, no line has come whole
-pub open_where_nothing : (octets : List ℕ) (found : Found) → FoundAt octets found → Reads octets [] → IsWithin octets
-open_where_nothing octets Nothing f r = f
-open_where_nothing octets (Line len) f r =
+-- where a line has come whole, or a fault, something is read
+pub line_is_read : (octets : List ℕ) (len : ℕ) → FoundAt octets (Line len) → ¬ Reads octets []
+line_is_read octets len f r =
     let g = goes_on r (take len octets) (drop (len + 1) octets) (slice_index octets len) f.0.1 f.0.2 (parts_at octets len f.0.0) in
     let said_is = said_text (take len octets) f.1 in
     let nothing : [] ≡ Text (text_of (take len octets)) ∷ g.later = g.items_are ∙ ap (λ items. items ++ g.later) said_is in
-    absurd cc
-open_where_nothing octets (Fault cause) f r =
-    absurd (never_nothing r refl (take f.0 octets) (drop (f.0 + 1) octets) (slice_index octets f.0) cause f.2 f.3 (subst (λ n. IsCause n (slice_index octets f.0) cause) (sym (length-take-le f.0 octets (omega (arith, f.1)))) f.4) (parts_at octets f.0 f.1))
+    cc
+
+pub fault_is_read : (octets : List ℕ) (cause : Cause) → FoundAt octets (Fault cause) → ¬ Reads octets []
+fault_is_read octets cause f r =
+    never_nothing r refl (take f.0 octets) (drop (f.0 + 1) octets) (slice_index octets f.0) cause f.2 f.3 (subst (λ n. IsCause n (slice_index octets f.0) cause) (sym (length-take-le f.0 octets (omega (arith, f.1)))) f.4) (parts_at octets f.0 f.1)
+
+-- where nothing is read, no line has come whole
+pub open_where_nothing : (octets : List ℕ) (found : Found) → FoundAt octets found → Reads octets [] → IsWithin octets
+open_where_nothing octets Nothing f r = f
+open_where_nothing octets (Line len) f r = absurd (line_is_read octets len f r)
+open_where_nothing octets (Fault cause) f r = absurd (fault_is_read octets cause f r)
 
 -- nothing is read of either, where one leaves the other
 pub nothing_left : (old new : List ℕ) → Leaves old [] new → Reads old [] → Reads new []

@@ -1,5 +1,5 @@
 //! The lines of a stream of octets (RFC 2371, section 11).
-ghost use Rattle.std.specs.Prelude.{◌≡◌, ◌≤◌, ◌++◌, [], false, ℕ, List, length, take, min, IfOk, OnOk, OnErr, option_map, ⊤};
+ghost use Rattle.std.specs.Prelude.{◌≡◌, ◌≤◌, ◌++◌, [], false, ℕ, List, length, take, min, IfOk, OnOk, OnErr, option_map, ⊤, ◌↔◌};
 ghost use Rattle.std.specs.Borrow.{sem, follows_so};
 ghost use mathlib.Core.Option.{none};
 ghost use Rattle.tip_line.specs.Reading.{Reads, Leaves, Gives, item_of};
@@ -75,7 +75,7 @@ impl<A: Allocator> Lines<A> {
 
     /// Whether a line has come whole, or the fault that ends the stream. Blank lines at the front are passed over.
     pub fn has_next(&mut self) -> bool
-        ensures none { result ≡ false → Reads self.old [] }
+        ensures none { (result ≡ false) ↔ Reads self.old [] }
         ensures left { Leaves self.old [] self.new }
     {
         match self.buffer.find() {
