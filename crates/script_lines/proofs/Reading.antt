@@ -8,7 +8,7 @@ use Rattle.std.proofs.KnownBytes.{Consumes-kept, Consumes-trans, Consumes-whole}
 use Rattle.std.proofs.lemmas.List.{take_more}
 use Rattle.std.proofs.lemmas.List.Folds.{list_all-append, list_all_more}
 use Rattle.memchr.specs.Find.{Nowhere, Passes, is_byte}
-use Rattle.script_lines.specs.Lines.{AreOfLine, IsFront, Reads, ReadsOn, has_read, is_inner, longest_line}
+use Rattle.script_lines.specs.Lines.{AreOfLine, IsFront, Reads, ReadsOn, HasRead, is_inner, longest_line}
 use Rattle.script_lines.specs.declared.line.LineEnd.{LineEnd}
 use Rattle.script_lines.specs.declared.line.LineEnd.TheVariants.{LineFeed, EndOfInput, TooLong}
 
@@ -46,7 +46,7 @@ at_end None new shown kept end none = tt
 at_end (Some xs) None shown kept end none = absurd kept
 at_end (Some xs) (Some ys) shown kept end none = kept ∙ end none
 
-pub ends : (start old new : Option (List ℕ)) (line shown : List ℕ) → Keeps old new → IfSome old (λ xs. length shown ≡ 0 → xs ≡ []) → length shown ≡ 0 → has_read start old line → Reads start new line (Ok EndOfInput)
+pub ends : (start old new : Option (List ℕ)) (line shown : List ℕ) → Keeps old new → IfSome old (λ xs. length shown ≡ 0 → xs ≡ []) → length shown ≡ 0 → HasRead start old line → Reads start new line (Ok EndOfInput)
 ends start old new line shown kept end none so = (so.0, Consumes-kept start old new line so.1 kept, known_end start old new line so.1 (at_end old new shown kept end none))
 
 -- What a buffer has of it
@@ -55,14 +55,14 @@ module _ (start mid new : Option (List ℕ)) (line buffer : List ℕ) (count roo
   abbrev pub more : List ℕ
   more = take count buffer
 
-  grown : (end : Option LineEnd) → IsFront buffer room count end → has_read start mid line → AreOfLine (line ++ more)
+  grown : (end : Option LineEnd) → IsFront buffer room count end → HasRead start mid line → AreOfLine (line ++ more)
   grown end front so = record {
     inner = list_all-append is_inner line more ∙ rw (so.0.inner, front.2) refl;
     short = let few = front.1 in let long = length-take-le count buffer front.0 in omega (arith, length-append line more, long, few, left, short);
   }
 
   -- with the octet behind it
-  taken_with : has_read start mid line → count < length buffer → Consumes mid new (take (count + 1) buffer) → Consumes start new ((line ++ more) ++ slice_index buffer count ∷ [])
+  taken_with : HasRead start mid line → count < length buffer → Consumes mid new (take (count + 1) buffer) → Consumes start new ((line ++ more) ++ slice_index buffer count ∷ [])
   taken_with so at taken =
       subst (Consumes start new) (sym (append_assoc line more (slice_index buffer count ∷ [])))
       (Consumes-trans start mid new line (more ++ slice_index buffer count ∷ []) so.1 (subst (Consumes mid new) (take_more buffer count 0 at) taken))
@@ -75,7 +75,7 @@ module _ (start mid new : Option (List ℕ)) (line buffer : List ℕ) (count roo
   is_within (Some EndOfInput) front = absurd front.3
 
   -- what was read on
-  pub reads_on : (end : Option LineEnd) → IsFront buffer room count end → 0 < length buffer → has_read start mid line → Consumes mid new (take (cond (is_some end) (count + 1) count) buffer) → ReadsOn start new line (line ++ more) (Ok end)
+  pub reads_on : (end : Option LineEnd) → IsFront buffer room count end → 0 < length buffer → HasRead start mid line → Consumes mid new (take (cond (is_some end) (count + 1) count) buffer) → ReadsOn start new line (line ++ more) (Ok end)
   reads_on None front some so taken = ((grown None front so, Consumes-trans start mid new line more so.1 taken), let long = length-take-le count buffer front.0 in omega (arith, length-append line more, long, front.3, some))
   reads_on (Some LineFeed) front some so taken = (grown (Some LineFeed) front so, subst (λ o. Consumes start new ((line ++ more) ++ o ∷ [])) front.3.1 (taken_with so front.3.0 taken))
   reads_on (Some TooLong) front some so taken = (

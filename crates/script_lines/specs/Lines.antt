@@ -38,12 +38,12 @@ Reads old new line (Err fault.Read) = AreOfLine line × Consumes old new line
 Reads old new line (Err fault.Memory) = ⊤
 
 -- so much of a line was read
-abbrev pub has_read : Option (List ℕ) → Option (List ℕ) → List ℕ → Type 0
-has_read old new line = Reads old new line (Err fault.Read)
+abbrev pub HasRead : Option (List ℕ) → Option (List ℕ) → List ℕ → Type 0
+HasRead old new line = Reads old new line (Err fault.Read)
 
 -- more of it was read, up to its end, or it goes on
 abbrev pub ReadsOn : Option (List ℕ) → Option (List ℕ) → List ℕ → List ℕ → Result (Option LineEnd) LineFault → Type 0
-ReadsOn old new before line (Ok None) = has_read old new line × (length before < length line)
+ReadsOn old new before line (Ok None) = HasRead old new line × (length before < length line)
 ReadsOn old new before line (Ok (Some end)) = Reads old new line (Ok end)
 ReadsOn old new before line (Err fault) = Reads old new line (Err fault)
 

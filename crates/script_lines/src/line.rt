@@ -1,7 +1,7 @@
 //! One line of a script, as it is read.
 ghost use Rattle.std.specs.Prelude.{◌≡◌, ◌≤◌, ◌<◌, ℕ, List, Option, [], length, slice_index, IfOk};
 ghost use Rattle.memchr.specs.Find.{Nowhere, Passes, is_byte};
-ghost use Rattle.script_lines.specs.Lines.{IsFront, Reads, ReadsOn, has_read, longest_line};
+ghost use Rattle.script_lines.specs.Lines.{HasRead, IsFront, Reads, ReadsOn, longest_line};
 
 use memchr::memchr;
 use std::alloc::{AllocError, Global};
@@ -74,7 +74,7 @@ impl ScriptLine {
     fn read_on<R: BufRead>(&mut self, input: &mut R) -> Result<Option<LineEnd>, LineFault>
         requires { length self.old.octets.items ≤ longest_line }
         ensures { (start : Option (List ℕ)) →
-            has_read start (R.remaining input.old) self.old.octets.items →
+            HasRead start (R.remaining input.old) self.old.octets.items →
             ReadsOn start (R.remaining input.new) self.old.octets.items self.new.octets.items
             result }
     {
