@@ -9,3 +9,4 @@ pub mod PartsLemmas
 pub mod Readings
 pub mod Spellings
 pub mod Joins
+pub mod KnownLemmas

@@ -84,7 +84,7 @@ name-apart a b h = elim (cases_Bool (bytes_eq a b)) [
   | inr apart ↦ apart
 ]
 
-not_true : (b : Bool) → not b ≡ false → b ≡ true
+pub not_true : (b : Bool) → not b ≡ false → b ≡ true
 not_true true h = refl
 not_true false h = cc
 

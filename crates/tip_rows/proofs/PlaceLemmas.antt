@@ -10,6 +10,7 @@ use Rattle.std.specs.List.Sorted.{IsPartitionPoint, IsPartitionedBy}
 use Rattle.std.proofs.lemmas.Bool.{cases_Bool}
 use Rattle.tip_line.proofs.StopLemmas.{and_left, and_right}
 use Rattle.tip_rows.specs.Keys.{Key, comes_before}
+use Rattle.tip_rows.specs.declared.row.Row.{Row}
 use Rattle.tip_rows.specs.Memory.{Stored, place_before, are_placed, is_before, is_at, is_other, stands_at, put_in}
 use Rattle.tip_rows.proofs.OrderLemmas.{before_not_here, leads, leads-less, place-other, place-sym, place-trans, same_place}
 
@@ -61,6 +62,18 @@ put_over s (x ∷ rows) zero front at = simp (at_not_before s.realm s.key x at, 
 put_over s (x ∷ rows) (suc i) front at =
     let first : is_before s.realm s.key x ≡ true = front 0 x (omega arith) (omega arith) in
     simp first (ap (λ (xs : List Stored). x ∷ xs) (put_over s rows i (λ k d from less. front (suc k) d (omega arith) (omega (arith, less))) at))
+
+at_here : (realm : List ℕ) (key : Key) (rows : List Stored) (i : ℕ) (d : Stored) → stands_at realm key rows i ≡ true → is_at realm key (get_or rows i d) ≡ true
+at_here realm key [] i d at = absurd (cc)
+at_here realm key (x ∷ rows) zero d at = at
+at_here realm key (x ∷ rows) (suc i) d at = at_here realm key rows i d at
+
+-- the same where what is set is the row alone
+pub put_within : (realm : List ℕ) (key : Key) (row : Row) (rows : List Stored) (i : ℕ) (old : Stored) → AllWithin (λ x. is_before realm key x ≡ true) rows 0 i → stands_at realm key rows i ≡ true → get_or rows i old ≡ old → slice_set rows i (record old { row = row }) ≡ put_in (record { realm = realm; key = key; row = row }) rows
+put_within realm key row rows i old front at here =
+    let same = same_place old.realm old.key realm key (ap (is_at realm key) (sym here) ∙ at_here realm key rows i old at) in
+    let set : record old { row = row } ≡ record { realm = realm; key = key; row = row } = λ i. record { realm = same.0 i; key = same.1 i; row = row } in
+    ap (slice_set rows i) set ∙ put_over (record { realm = realm; key = key; row = row }) rows i front at
 
 -- a row inserted between those that stand before its place and the others, where none stands at it
 pub put_new : (s : Stored) (rows : List Stored) (i : ℕ) → IsPartitionPoint (λ x. is_before s.realm s.key x ≡ true) (λ x. is_before s.realm s.key x ≡ false) rows i → i ≤ length rows → stands_at s.realm s.key rows i ≡ false → insert rows i s ≡ put_in s rows

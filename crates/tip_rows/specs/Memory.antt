@@ -41,9 +41,13 @@ abbrev pub are_placed : List Stored → Bool
 are_placed [] = true
 are_placed (s ∷ rows) = list_all (λ t. place_before s.realm s.key t.realm t.key) rows && are_placed rows
 
--- the realms are in the order of their names, and the rows in that of their places
+-- the realms are in the order of their names
+abbrev pub are_by_name : List Known → Bool
+are_by_name known = are_rising_names (map (λ k. k.realm) known)
+
+-- so they are, and the rows are in that of their places
 pub record IsKept (known : List Known) (rows : List Stored) : Type 0 where
-  pub names : are_rising_names (map (λ k. k.realm) known) ≡ true
+  pub names : are_by_name known ≡ true
   pub realms : list_all is_realm (map (λ k. k.realm) known) ≡ true
   pub placed : are_placed rows ≡ true
 

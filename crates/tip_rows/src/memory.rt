@@ -5,8 +5,8 @@ ghost use Rattle.std.specs.Option.{option_copied};
 ghost use Rattle.std.specs.List.{list_any, position};
 ghost use Rattle.std.specs.List.Sorted.{IsPartitionPoint};
 ghost use Rattle.tip_line.specs.Words.{is_realm};
-ghost use Rattle.tip_rows.specs.Logs.{Log, empty_log, counted, last_epoch, with_row, without_row, with_all_raised, with_raised, with_epoch, IsSpent, IsPart, AreNames};
-ghost use Rattle.tip_rows.specs.Memory.{IsDemanded, log_of, is_due_in, epoch_in, is_named, due_in, part, raised_known, raised_named, epoch_named, refusing_named, is_at_end, are_placed, is_before, stands_at, put_in, is_other, is_of, is_of_earlier, is_from, known_in};
+ghost use Rattle.tip_rows.specs.Logs.{Log, empty_log, counted, last_epoch, with_row, without_row, with_all_raised, with_raised, with_epoch, IsSpent, IsPart, AreNames, name_before};
+ghost use Rattle.tip_rows.specs.Memory.{IsDemanded, are_by_name, log_of, is_due_in, epoch_in, is_named, due_in, part, raised_known, raised_named, epoch_named, refusing_named, is_at_end, are_placed, is_before, stands_at, put_in, is_other, is_of, is_of_earlier, is_from, known_in};
 
 use crate::heap_row::HeapRow;
 use crate::key::Key;
@@ -326,15 +326,25 @@ fn set_due<A: Allocator>(known: &mut Vec<Known, A>, realm: &Realm, is_refusing: 
     }
 }
 
-/// The realm of a name.
+/// The realm of a name, found by halves.
 fn find<'a>(known: &'a [Known], realm: &Realm) -> Option<&'a Known>
+    requires { are_by_name known.now ≡ true }
     ensures { option_copied result ≡ find (is_named realm.now) known.now }
 {
-    known.iter().find(|k| is_named(k, realm))
+    let Some(place) = first_from(known, realm.as_str()) else {
+        return None;
+    };
+    let first = &known[place];
+    if is_named(first, realm) {
+        Some(first)
+    } else {
+        None
+    }
 }
 
 /// Whether a refusal is due.
 fn is_due(known: &[Known], realm: &Realm) -> bool
+    requires { are_by_name known.now ≡ true }
     ensures { result ≡ due_in known.now realm.now }
 {
     match find(known, realm) {
@@ -345,6 +355,7 @@ fn is_due(known: &[Known], realm: &Realm) -> bool
 
 /// The epoch of a realm; 0 where it is not known.
 fn epoch_of(known: &[Known], realm: &Realm) -> u32
+    requires { are_by_name known.now ≡ true }
     ensures { unwrap_or (epoch_in known.now realm.now) (pos 0) ≡ pos result }
 {
     match find(known, realm) {
@@ -355,6 +366,7 @@ fn epoch_of(known: &[Known], realm: &Realm) -> u32
 
 /// Whether the epoch of a realm is at its end.
 fn is_at_end(known: &[Known], realm: &Realm) -> bool
+    requires { are_by_name known.now ≡ true }
     ensures { IsTrue result ↔ (epoch_in known.now realm.now ≡ Some (pos last_epoch)) }
 {
     epoch_of(known, realm) == u32::MAX
@@ -362,6 +374,7 @@ fn is_at_end(known: &[Known], realm: &Realm) -> bool
 
 /// Makes a realm known.
 fn know_in<A: Allocator>(known: &mut Vec<Known, A>, realm: &Realm) -> Result<(), AllocError>
+    requires { are_by_name known.old.items ≡ true }
     ensures ok { OnOk result (known.new.items ≡ known_in
         (record { realm = realm.now; epoch = 0; is_refusing = false }) known.old.items) }
     ensures realm { OnOk result (is_realm realm.now ≡ true) }
@@ -387,21 +400,27 @@ fn newly_known(realm: &Realm) -> Result<Known, AllocError>
     })
 }
 
-/// The first known realm whose name does not come before this one.
+/// The first known realm whose name does not come before this one, found by halves.
 fn first_from(known: &[Known], name: &str) -> Option<usize>
+    requires { are_by_name known.now ≡ true }
     ensures { result ≡ position (is_from name.now) known.now }
 {
-    known.iter().position(|k| is_from(k, name))
+    let place = known.partition_point(|k| is_earlier(k, name));
+    if place < known.len() {
+        Some(place)
+    } else {
+        None
+    }
 }
 
-/// Whether the name of a known realm does not come before this one.
-fn is_from(known: &Known, name: &str) -> bool
-    ensures { result ≡ is_from name.now known.now }
+/// Whether the name of a known realm comes before this one.
+fn is_earlier(known: &Known, name: &str) -> bool
+    ensures { result ≡ name_before known.now.realm name.now }
 {
-    !known.realm.as_str().cmp(name).is_lt()
+    known.realm.as_str().cmp(name).is_lt()
 }
 
-/// Adds or replaces an equal row.
+/// Adds an equal row, or puts it in place of another, for which nothing but its lists grows.
 fn put_copy<A: Allocator + Copy>(
     rows: &mut Vec<Stored<A>, A>,
     realm: &Realm,
@@ -414,12 +433,19 @@ fn put_copy<A: Allocator + Copy>(
     ensures err { OnErr result (rows.new.items ≡ rows.old.items) }
 {
     let heap = *rows.allocator();
+    let row = HeapRow::of(heap, row)?;
+    let index = place_of(rows, realm, key);
+    if stands_at(rows, index, realm, key) {
+        *rows[index].row = row;
+        return Ok(());
+    }
     let stored = Stored {
         realm: realm.copy()?,
         key,
-        row: Box::new(heap, HeapRow::of(heap, row)?)?,
+        row: Box::new(heap, row)?,
     };
-    put_in(rows, stored)
+    rows.insert(index, stored)?;
+    Ok(())
 }
 
 /// Whether an epoch is at its end.
@@ -427,21 +453,6 @@ fn one_is_at_end(known: &[Known]) -> bool
     ensures { result ≡ list_any is_at_end known.now }
 {
     known.iter().any(|k| k.epoch == u32::MAX)
-}
-
-/// Adds or replaces a row.
-fn put_in<A: Allocator>(rows: &mut Vec<Stored<A>, A>, stored: Stored<A>) -> Result<(), AllocError>
-    requires { are_placed rows.old.items ≡ true }
-    ensures ok { OnOk result (rows.new.items ≡ put_in stored rows.old.items) }
-    ensures err { OnErr result (rows.new.items ≡ rows.old.items) }
-{
-    let index = place_of(rows, &stored.realm, stored.key);
-    if stands_at(rows, index, &stored.realm, stored.key) {
-        rows[index] = stored;
-    } else {
-        rows.insert(index, stored)?;
-    }
-    Ok(())
 }
 
 /// Removes a row.

@@ -9,9 +9,6 @@ use tip_rows::{Key, MemRows, Refused, Row, RowLog};
 /// How many octets the heap has.
 const HEAP_LEN: usize = 8192;
 
-/// How many octets a row takes at most that has no list of its own.
-const ROW_LEN: usize = 256;
-
 /// In how many octets a heap hands out memory, at least.
 const UNIT: usize = 16;
 
@@ -169,19 +166,16 @@ fn a_full_heap_takes_a_realm_for_which_there_is_a_place(rt: HostRuntime) -> Resu
     Ok(())
 }
 
-/// Whether a row is put in place of another on a heap that has room for a row apart, and no more.
 fn is_replaced(alloc: Global, sample: &Sample) -> Result<bool, Fail> {
     let heap = LocalHeap::new(alloc, HEAP_LEN)?;
     let mut rows = MemRows::new_in(alloc, &heap);
     rows.put(&sample.realm, sample.key, &sample.row)?;
-    let room = Vec::<u8, &LocalHeap>::with_capacity(&heap, ROW_LEN)?;
     let _rest = rest_of(alloc, &heap)?;
-    drop(room);
     Ok(is_put_and_removed(&mut rows, sample))
 }
 
 #[test]
-fn a_heap_with_room_for_a_row_takes_it_in_place_of_another(rt: HostRuntime) -> Result<(), Fail> {
+fn a_full_heap_takes_a_row_in_place_of_another(rt: HostRuntime) -> Result<(), Fail> {
     let sample = make_sample(rt.alloc(), 1, "2 C -")?;
     assert!(rt; is_replaced(rt.alloc(), &sample)?);
     Ok(())
