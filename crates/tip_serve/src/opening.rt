@@ -3,18 +3,20 @@ ghost use Rattle.tip_branch.specs.Always.{Always};
 
 use crate::rows::fresh;
 use crate::runtime::Runtime;
-use crate::server::{Live, Server};
-use std::alloc::AllocError;
+use crate::server::{Live, Served, Server};
+use std::alloc::{AllocError, Global};
 use std::sync::{Arc, Wait};
 use tip_branch::{Branch, HeldFresh};
 use tip_control::{Answer, Request};
 use tip_duties::{Connection, Note};
-use tip_host::{HostEvent, HostFault, Seat, Stepped};
+use tip_honest::Entry;
+use tip_host::{HostEvent, HostFault, Seat, Stepped, Work};
+use tip_journal::Pass;
 use tip_line::{Refusal, Word};
-use tip_notices::{Arrival, Asker, Kept};
+use tip_notices::{Arrival, Ask, Asker, Inbox, Kept, Log};
 use tip_rows::RowLog;
 use tip_session::DeskFault;
-use tip_shared::run_errand;
+use tip_shared::{Shared, run_errand};
 use tip_threads::{Link, peer_of, start_session};
 
 /// Why a socket is no connection.
@@ -53,6 +55,29 @@ impl From<AllocError> for NotOpened {
     fn from(_: AllocError) -> NotOpened {
         NotOpened::Memory
     }
+}
+
+impl From<HostFault> for NotOpened {
+    fn from(fault: HostFault) -> NotOpened {
+        NotOpened::Fault(fault)
+    }
+}
+
+/// What the threads of all connections share.
+#[derive(Drop)]
+struct Common<S> {
+    shared: Arc<Shared<S>>,
+    inbox: Arc<Inbox>,
+    log: Arc<Log>,
+}
+
+/// What came of an event at the host.
+#[derive(Clone, Copy)]
+struct Came {
+    /// The seat of a connection that it made.
+    opened: Option<Seat>,
+    /// Why nothing was done, if so.
+    refusal: Option<Refusal>,
 }
 
 impl<'a, S: RowLog + Drop + Send + 'static> Server<'a, S>
@@ -103,13 +128,11 @@ where
         let asker = asker_of(arrival)?;
         let boxes = fresh(self.alloc, boxes)?;
         let event = event_of(arrival, boxes)?;
-        match self.step(rt, arrival.realm, event) {
-            Ok(Stepped { reply, .. }) => match (reply.opened, reply.refusal) {
-                (Some(seat), _) => Ok((seat, asker)),
-                (None, Some(refusal)) => Err(NotOpened::Refused(refusal)),
-                (None, None) => Err(NotOpened::Memory),
-            },
-            Err(fault) => Err(NotOpened::Fault(fault)),
+        let came = self.happen(rt, arrival.realm, event)?;
+        match (came.opened, came.refusal) {
+            (Some(seat), _) => Ok((seat, asker)),
+            (None, Some(refusal)) => Err(NotOpened::Refused(refusal)),
+            (None, None) => Err(NotOpened::Memory),
         }
     }
 
@@ -173,35 +196,41 @@ where
 
     /// What the threads of a connection share.
     fn link(&self, arrival: Arrival, seat: Seat, place: usize) -> Result<Arc<Link<S>>, AllocError> {
+        let Some(served) = self.realms.get(arrival.realm) else {
+            return Err(AllocError);
+        };
+        let boxes = boxes_of(&arrival.ask)?;
+        let name = served.config.name.copy()?;
+        let Common { shared, inbox, log } = self.common()?;
         let Arrival {
-            realm,
             socket,
             dial,
             ask,
+            ..
         } = arrival;
-        let Some(served) = self.realms.get(realm) else {
-            return Err(AllocError);
-        };
-        let kept = match ask {
-            Some(ask) => {
-                let pulls = served.pulls_with(&ask);
-                let boxes = boxes_of(&ask.request)?;
-                Some(Kept::new(ask, boxes, pulls))
-            }
-            None => None,
-        };
         let link = Link {
-            shared: Arc::try_clone(&self.shared)?,
-            inbox: Arc::try_clone(&self.inbox)?,
-            log: Arc::try_clone(&self.log)?,
+            shared,
+            inbox,
+            log,
             socket,
-            name: served.config.name.copy()?,
+            name,
             seat,
             place,
             dial,
-            kept,
+            kept: kept_for(served, ask, boxes),
         };
         Ok(Arc::new(self.alloc, link)?)
+    }
+
+    /// What the threads of all connections share.
+    fn common(&self) -> Result<Common<S>, AllocError>
+        requires { Always }
+    {
+        Ok(Common {
+            shared: Arc::try_clone(&self.shared)?,
+            inbox: Arc::try_clone(&self.inbox)?,
+            log: Arc::try_clone(&self.log)?,
+        })
     }
 
     /// A connection was opened that can't be served.
@@ -220,28 +249,35 @@ where
         let _refused = self.make(rt, seat.realm, HostEvent::lost(seat));
     }
 
-    /// One event of the top body's own, and the errands that come of it; it says why nothing was done, if so. Where memory is
-    /// wanting the server is to end.
+    /// One event of the top body's own; it says why nothing was done, if so. Where memory is wanting the server is to end.
     pub fn make<R: Wait>(&mut self, rt: &R, realm: usize, event: HostEvent) -> Option<Refusal> {
-        let stepped = match self.step(rt, realm, event) {
-            Ok(stepped) => stepped,
+        match self.happen(rt, realm, event) {
+            Ok(came) => came.refusal,
             Err(fault) => {
                 self.is_short = self.is_short || matches!(fault, HostFault::Memory);
-                return Some(Refusal::from(fault));
-            }
-        };
-        let Stepped { reply, work } = stepped;
-        let Ok(work) = work else {
-            self.is_short = true;
-            return reply.refusal;
-        };
-        if let Some(served) = self.realms.get_mut(realm) {
-            let ran = run_errand(rt, self.alloc, &self.shared, &mut served.own, work);
-            if matches!(ran, Err(DeskFault::Memory)) {
-                self.is_short = true;
+                Some(Refusal::from(fault))
             }
         }
-        reply.refusal
+    }
+
+    /// An event at the host, and the errands that come of it. Where memory is wanting for one of these the server is to end.
+    fn happen<R: Wait>(
+        &mut self,
+        rt: &R,
+        realm: usize,
+        event: HostEvent,
+    ) -> Result<Came, HostFault> {
+        let Some(served) = self.realms.get_mut(realm) else {
+            return Err(HostFault::PassMismatch);
+        };
+        let (came, work) = match self.shared.step(rt, self.alloc, &mut served.own, event) {
+            Ok(stepped) => came_of(stepped),
+            Err((fault, _)) => return Err(fault),
+        };
+        if !is_run(rt, self.alloc, &self.shared, &mut served.own, work) {
+            self.is_short = true;
+        }
+        Ok(came)
     }
 
     /// Tells the operator why a socket is no connection.
@@ -262,6 +298,35 @@ where
             },
         );
     }
+}
+
+/// What came of an event, but for its errand.
+fn came_of(stepped: Stepped) -> (Came, Result<Option<Work>, AllocError>) {
+    let Stepped { reply, work } = stepped;
+    let came = Came {
+        opened: reply.opened,
+        refusal: reply.refusal,
+    };
+    (came, work)
+}
+
+/// Does the errand of an event, and those that come of it; false where memory is wanting.
+fn is_run<R: Wait, S: RowLog + Drop>(
+    rt: &R,
+    alloc: Global,
+    shared: &Shared<S>,
+    own: &mut Pass<Entry>,
+    work: Result<Option<Work>, AllocError>,
+) -> bool
+    requires { Always }
+{
+    let Ok(work) = work else {
+        return false;
+    };
+    !matches!(
+        run_errand(rt, alloc, shared, own, work),
+        Err(DeskFault::Memory)
+    )
 }
 
 /// The event of a socket that is to be a connection.
@@ -285,10 +350,22 @@ fn asker_of(arrival: &Arrival) -> Result<Option<Asker>, AllocError> {
     }
 }
 
-/// The letters of the boxes that come with a connection which is opened for this.
-fn boxes_of(request: &Request) -> Result<Option<Word>, AllocError> {
-    match request {
-        Request::Pull { boxes, .. } => Ok(Some(boxes.copy()?)),
+/// The letters of the boxes that come with a connection, where one is pulled on it.
+fn boxes_of(ask: &Option<Ask>) -> Result<Option<Word>, AllocError> {
+    match ask {
+        Some(
+            Ask {
+                request: Request::Pull { boxes, .. },
+                ..
+            },
+        ) => Ok(Some(boxes.copy()?)),
         _ => Ok(None),
     }
+}
+
+/// What is kept of a connection that is opened for this, if it is.
+fn kept_for(served: &Served<'_>, ask: Option<Ask>, boxes: Option<Word>) -> Option<Kept> {
+    let ask = ask?;
+    let pulls = served.pulls_with(&ask);
+    Some(Kept::new(ask, boxes, pulls))
 }

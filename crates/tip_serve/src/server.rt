@@ -11,7 +11,6 @@ use tip_branch::{Branch, Phase, Plan};
 use tip_control::Answer;
 use tip_duties::Note;
 use tip_honest::Entry;
-use tip_host::{HostEvent, HostFault, Stepped};
 use tip_journal::Pass;
 use tip_line::Refusal;
 use tip_notices::{Arrival, Ask, Asker, Doubts, Inbox, Log, Maker, News, Notice, Slots};
@@ -336,22 +335,6 @@ where
             {
                 live.link.shut();
             }
-        }
-    }
-
-    /// One event of the top body's own.
-    pub fn step<R: Wait>(
-        &mut self,
-        rt: &R,
-        realm: usize,
-        event: HostEvent,
-    ) -> Result<Stepped, HostFault> {
-        let Some(served) = self.realms.get_mut(realm) else {
-            return Err(HostFault::PassMismatch);
-        };
-        match self.shared.step(rt, self.alloc, &mut served.own, event) {
-            Ok(stepped) => Ok(stepped),
-            Err((fault, _)) => Err(fault),
         }
     }
 }

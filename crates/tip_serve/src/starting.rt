@@ -132,18 +132,37 @@ fn duties_of(alloc: Global, realms: &[Recovery]) -> Result<Vec<Duties>, AllocErr
 /// A host over these realms, with these boxes for their rows, behind its lock.
 fn open_shared<S: RowLog + Drop>(
     alloc: Global,
-    mut recovering: Recovering<S>,
-    mut pool: Vec<Box<dyn Branch + Send>>,
+    recovering: Recovering<S>,
+    pool: Vec<Box<dyn Branch + Send>>,
 ) -> Result<Arc<Shared<S>>, ServeFault> {
-    let boxes = dealt_to_all(alloc, &mut pool, recovering.realms())?;
-    if !recovering.adopt_all(boxes) {
-        return Err(ServeFault::Memory);
-    }
-    let Ok(host) = Host::open(alloc, recovering) else {
-        return Err(ServeFault::Memory);
-    };
+    let host = open_host(alloc, adopted(alloc, recovering, pool)?)?;
     match Shared::new(alloc, host) {
         Ok(shared) => Ok(Arc::new(alloc, shared)?),
+        Err(_) => Err(ServeFault::Memory),
+    }
+}
+
+/// These realms, with these boxes for their rows.
+fn adopted<S: RowLog + Drop>(
+    alloc: Global,
+    mut recovering: Recovering<S>,
+    mut pool: Vec<Box<dyn Branch + Send>>,
+) -> Result<Recovering<S>, ServeFault> {
+    let boxes = dealt_to_all(alloc, &mut pool, recovering.realms())?;
+    if recovering.adopt_all(boxes) {
+        Ok(recovering)
+    } else {
+        Err(ServeFault::Memory)
+    }
+}
+
+/// A host over these realms.
+fn open_host<S: RowLog + Drop>(
+    alloc: Global,
+    recovering: Recovering<S>,
+) -> Result<Host<S>, ServeFault> {
+    match Host::open(alloc, recovering) {
+        Ok(host) => Ok(host),
         Err(_) => Err(ServeFault::Memory),
     }
 }
