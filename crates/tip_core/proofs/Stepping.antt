@@ -14,7 +14,7 @@ use Rattle.tip_machine.specs.Heads.{starting}
 use Rattle.tip_machine.specs.Order.{concerned, in_turn, ordered, turn}
 use Rattle.tip_machine.specs.States.{State, started}
 use Rattle.tip_machine.specs.Steps.{attempt, chosen, entered, frozen, is_open, nowhere, returned, step}
-use Rattle.tip_machine.specs.Types.{Answer, Event, seen}
+use Rattle.tip_machine.specs.Types.{Answer, Event}
 use Rattle.tip_machine.specs.declared.event.Event.TheVariants.{AskPull, AskPush, Dial, Line, Lost, Open, Resume, Settled, Voted}
 use Rattle.tip_machine.specs.declared.event.Outcome.{Outcome}
 use Rattle.tip_machine.specs.declared.head.Head.{Head}
@@ -31,6 +31,9 @@ use Rattle.tip_rules.specs.Makings.{Made}
 use Rattle.tip_rules.specs.Needs.{Granted, HasNeeds, Suits, happened}
 use Rattle.tip_outlook.specs.Turns.{turn_in}
 use Rattle.tip_outlook.specs.declared.turns.Turn.{Turn}
+use Rattle.tip_outlook.specs.Endings.{EndsBy}
+use Rattle.tip_outlook.specs.Wanting.{foreseen}
+use Rattle.tip_outlook.specs.declared.next.Endings.{Endings}
 use Rattle.tip_rules.specs.Works.{Does, HaveCounts, Realms, Tables, no_head, state_in, state_of, tables_in, working}
 
 -- what the tables stand for, with room to note so many turns
@@ -103,8 +106,8 @@ module _ (state : State) (event : Event) (outcome : Outcome) where
     by false = refl
 
 -- where the tables did the work of an event, its realm went by its machine
-module _ (old new : Realms) (place : ℕ) (event : Event) (outcome : Outcome) (made after : Made) (lt : place < length old.heads.items)
-    (does : Does (working place outcome made old) (working place outcome after new) (happened (state_in place old) event outcome))
+module _ (old new : Realms) (place : ℕ) (event : Event) (outcome : Outcome) (endings : Endings) (made after : Made) (lt : place < length old.heads.items)
+    (does : Does (working place outcome endings made old) (working place outcome endings after new) (happened (state_in place old) event outcome))
     (apart : (other : ℕ) → other ≢ place → tables_in other new ≡ tables_in other old) where
   -- every other realm stays
   other_stays : (other : ℕ) → other ≢ place → state_in other new ≡ state_in other old
@@ -149,8 +152,8 @@ nowhere_steps realms turns place event outcome answer le is = record {
 -- Room
 
 -- the room that was made is what the work of the event needs
-pub needs : (realms : Realms) (place : ℕ) (outcome : Outcome) (made : Made) (event : Event) (room : Granted) → Suits (state_in place realms) (tables_in place realms).connections.free (tables_in place realms).transactions.free (of (tables_in place realms).transactions place) event room → made.free ≡ room.lines → made.room ≡ room.transaction → made.peer ≡ room.peer → made.ours ≡ room.ours → made.word ≡ room.word → HasNeeds event (working place outcome made realms)
-needs realms place outcome made event room suits lines transaction peer ours word = record {
+pub needs : (realms : Realms) (place : ℕ) (outcome : Outcome) (endings : Endings) (made : Made) (event : Event) (room : Granted) → Suits (state_in place realms) (tables_in place realms).connections.free (tables_in place realms).transactions.free (of (tables_in place realms).transactions place) event room → made.free ≡ room.lines → made.room ≡ room.transaction → made.peer ≡ room.peer → made.ours ≡ room.ours → made.word ≡ room.word → endings ≡ room.endings → HasNeeds event (working place outcome endings made realms)
+needs realms place outcome endings made event room suits lines transaction peer ours word ends = record {
   lines = omega (arith, suits.lines, lines);
   connections = suits.connections;
   transactions = suits.transactions;
@@ -159,6 +162,7 @@ needs realms place outcome made event room suits lines transaction peer ours wor
   peer = peer ∙ suits.peer;
   ours = ours ∙ suits.ours;
   word = word ∙ suits.word;
+  endings = λ is. subst (EndsBy (foreseen event (state_in place realms))) (sym ends) (suits.endings is);
 }
 
 pub room_for_it : (realms : Realms) (turns place : ℕ) (event : Event) (room : Granted) → place < length realms.heads.items → length (of (tables_in place realms).connections place) ≤ turns → Suits (state_in place realms) (tables_in place realms).connections.free (tables_in place realms).transactions.free (of (tables_in place realms).transactions place) event room → IsRoomFor (hosted realms turns) place event room

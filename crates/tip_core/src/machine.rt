@@ -28,7 +28,7 @@ use std::alloc::{AllocError, Global};
 use std::marker::Model;
 use tip_line::{Address, Id, Realm, Refusal};
 use tip_machine::{Connection, Event, Head, Outcome, Seat, Start, Transaction};
-use tip_outlook::Turns;
+use tip_outlook::{Next, Turns};
 use tip_recovery::Recovery;
 use tip_rows::Key;
 use tip_rules::{Realms, Room, Standing, Tables};
@@ -193,7 +193,7 @@ impl Core {
         ensures named { HaveNames self.new }
         ensures room { (place : ℕ) → room_in place self.new ≡ room_in place self.old }
     {
-        let (mut making, change) = room.into_parts();
+        let (mut making, Next { change, endings }) = room.into_parts();
         if realm >= self.realms.heads.len() {
             making.turn_down(Refusal::NoRealm, event);
             let answer = making.finish(&self.turns);
@@ -204,7 +204,7 @@ impl Core {
             };
         }
         note_turns(&mut self.turns, &self.realms, realm, &event);
-        let made = self.realms.step(realm, event, outcome, making);
+        let made = self.realms.step(realm, event, outcome, endings, making);
         let answer = made.finish(&self.turns);
         Happened {
             change,

@@ -3,3 +3,4 @@ pub mod Turning
 pub mod Outlooks
 pub mod Subordinates
 pub mod Naming
+pub mod Nexts

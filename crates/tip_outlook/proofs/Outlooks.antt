@@ -1,10 +1,8 @@
 -- What outlooks come to, and the rows that are made of them.
-use Rattle.std.proofs.Common.{◌≡◌, ◌≢◌, ◌<◌, ◌++◌, suc, take, length, get_or, append_assoc, Bool, true, false, cond, ℕ, List, [], ◌∷◌, Option, Some, None, map, refl, ap, sym, ◌∙◌, arith}
+use Rattle.std.proofs.Common.{◌≡◌, ◌<◌, ◌++◌, suc, take, length, get_or, append_assoc, Bool, true, false, cond, ℕ, List, [], ◌∷◌, map, refl, ap, sym, ◌∙◌, arith}
 use Rattle.std.specs.Prelude.{drop, filter}
 use Rattle.std.specs.List.{flat_map, list_all}
 use Rattle.std.proofs.Math.Seq.{take-suc}
-use Rattle.tip_line.specs.declared.command.CommandName.{CommandName}
-use Rattle.tip_line.specs.declared.command.CommandName.TheVariants as command
 use Rattle.tip_rows.specs.Branches.{are_branches, is_behind}
 use Rattle.tip_txn.specs.Decisions.{Decides}
 use Rattle.tip_txn.specs.Parts.{answers_of, changed_at, is_yes}
@@ -14,9 +12,8 @@ use Rattle.tip_txn.proofs.DecisionLemmas.{decides_one}
 use Rattle.tip_machine.proofs.Deciding.{decides}
 use Rattle.tip_machine.specs.Transactions.{decision, is_spent, members_at}
 use Rattle.tip_machine.specs.Types.{PartyPlace}
-use Rattle.tip_machine.specs.declared.transaction.Origin.{Origin}
 use Rattle.tip_machine.specs.declared.transaction.PartyPlace.TheVariants.{Here, Out, Spent}
-use Rattle.tip_outlook.specs.Wanting.{Outlook, agreed_change, away, pair_at, pairs_of}
+use Rattle.tip_outlook.specs.Wanting.{away, pair_at, pairs_of}
 
 -- Outlooks
 
@@ -40,24 +37,6 @@ spent_away Spent = refl
 pub ruleset deciding = (decided, others_stay)
 
 pub ruleset going_away = (decided, nobody_away, spent_away)
-
--- where the superior waits for neither, nothing is agreed
-pub agreed_none : (owed : Option CommandName) (from : Origin) (o : Outlook) → owed ≢ Some command.Prepare → owed ≢ Some command.Commit → agreed_change owed from o ≡ None
-agreed_none None from o prepare commit = refl
-agreed_none (Some command.Identify) from o prepare commit = refl
-agreed_none (Some command.Begin) from o prepare commit = refl
-agreed_none (Some command.Push) from o prepare commit = refl
-agreed_none (Some command.Pull) from o prepare commit = refl
-agreed_none (Some command.Prepare) from o prepare commit = absurd (prepare refl)
-agreed_none (Some command.Commit) from o prepare commit = absurd (commit refl)
-agreed_none (Some command.Abort) from o prepare commit = refl
-agreed_none (Some command.Query) from o prepare commit = refl
-agreed_none (Some command.Reconnect) from o prepare commit = refl
-agreed_none (Some command.Multiplex) from o prepare commit = refl
-agreed_none (Some command.Tls) from o prepare commit = refl
-agreed_none (Some command.Error) from o prepare commit = refl
-
-pub ruleset agreed_else = (agreed_none)
 
 -- Rows
 

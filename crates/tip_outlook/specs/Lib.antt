@@ -3,3 +3,4 @@ pub mod Turns
 pub mod Noting
 pub mod Deciding
 pub mod Wanting
+pub mod Endings

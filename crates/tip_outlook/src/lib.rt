@@ -2,6 +2,7 @@
 //! transaction will be once that is noted, and the change of its row that it wants then (RFC 2371, sections 10 and 13).
 #![tactic(auto)]
 
+mod next;
 mod noting;
 mod others;
 mod outlook;
@@ -9,6 +10,7 @@ mod query;
 mod rows;
 mod turns;
 
+pub use next::{Ending, Endings, Next};
 pub use noting::{Awaits, Note, ends, exists_of, pulled_of, version_of};
 pub use others::{Others, is_yes, refuses};
 pub use outlook::{Outlook, is_spent};

@@ -8,8 +8,10 @@ ghost use Rattle.tip_machine.specs.Types.{seen};
 ghost use Rattle.tip_machine.specs.declared.event.Change.TheVariants.{Put};
 ghost use Rattle.tip_machine.specs.declared.transaction.PartyPlace.TheVariants.{Here, Spent};
 ghost use Rattle.tip_outlook.specs.Noting.{noted};
-ghost use Rattle.tip_outlook.specs.Wanting.{agreed_change, asked, committed_of, concluded, finished, in_doubt_of, is_over, outlook, pairs_of, promised_of, wished};
+ghost use Rattle.tip_outlook.specs.Endings.{Agrees, Concludes, Follows, Reminds, waiting};
+ghost use Rattle.tip_outlook.specs.Wanting.{asked, committed_of, finished, in_doubt_of, is_over, outlook, pairs_of, promised_of};
 
+use crate::next::{Ending, Endings, Next};
 use crate::noting::Note;
 use crate::others::{Others, decide_noting};
 use crate::rows::promised;
@@ -145,62 +147,97 @@ impl<'a> Outlook<'a> {
         }
     }
 
-    /// The change that it wants, where this is owed to its superior.
-    pub fn wished(
-        &self,
-        alloc: Global,
-        owed: Option<CommandName>,
-    ) -> Result<Option<Change>, AllocError>
-        ensures { IfOk result (λ change. change ≡ wished owed self.now) }
+    /// What follows, where this is owed to its superior.
+    pub fn next(&self, alloc: Global, owed: Option<CommandName>) -> Result<Next, AllocError>
+        ensures { IfOk result (Follows self.now owed) }
     {
         match self.phase {
-            Phase::Active | Phase::Asking => self.concluded(alloc, owed),
-            Phase::Prepared | Phase::Aborted => Ok(None),
-            Phase::Committed => Ok(self.finished()),
+            Phase::Active | Phase::Asking => self.conclude(alloc, owed),
+            Phase::Prepared => Ok(Next::done(Ending::Nothing)),
+            Phase::Committed => Ok(self.remind()),
+            Phase::Aborted => Ok(Next::done(Ending::Abort)),
         }
     }
 
-    /// The change once the answers decide.
-    fn concluded(
-        &self,
-        alloc: Global,
-        owed: Option<CommandName>,
-    ) -> Result<Option<Change>, AllocError>
-        ensures { IfOk result (λ change. change ≡ concluded self.now.decision owed self.now) }
+    /// The answers decide.
+    #[tactic(auto, using(crate::proofs::Nexts::concluding))]
+    fn conclude(&self, alloc: Global, owed: Option<CommandName>) -> Result<Next, AllocError>
+        ensures { IfOk result (Concludes self.now owed) }
     {
         match self.decision {
-            Decision::Commit => self.agreed(alloc, owed),
-            Decision::Wait | Decision::Abort | Decision::ReadOnly => Ok(None),
+            Decision::Wait => Ok(Next::done(self.wait())),
+            Decision::Commit => self.agree(alloc, owed),
+            Decision::Abort => Ok(Next::done(Ending::Abort)),
+            Decision::ReadOnly => Ok(Next::done(Ending::Leave)),
         }
     }
 
-    /// The change once all agree: the row of what the superior asked for.
-    #[tactic(auto, using(crate::proofs::Outlooks::agreed_else))]
-    fn agreed(&self, alloc: Global, owed: Option<CommandName>) -> Result<Option<Change>, AllocError>
-        ensures { IfOk result (λ change. change ≡ agreed_change owed self.now.origin self.now) }
+    /// While an answer is missing, subordinates are asked as soon as they can be.
+    fn wait(&self) -> Ending
+        ensures { result ≡ waiting self.now.phase }
+    {
+        match self.phase {
+            Phase::Asking => Ending::Ask,
+            Phase::Active | Phase::Prepared | Phase::Committed | Phase::Aborted => Ending::Nothing,
+        }
+    }
+
+    /// All agree: what is stored before anybody is told hangs on what the superior asked. Refused, it is aborted.
+    #[tactic(auto, using(crate::proofs::Nexts::agreeing))]
+    fn agree(&self, alloc: Global, owed: Option<CommandName>) -> Result<Next, AllocError>
+        ensures { IfOk result (Agrees self.now owed) }
     {
         match owed {
-            Some(CommandName::Prepare) => self.promising(alloc),
-            Some(CommandName::Commit) => Ok(Some(self.committing(alloc)?)),
-            _ => Ok(None),
+            Some(CommandName::Prepare) => self.promise(alloc),
+            Some(CommandName::Commit) => Ok(Next {
+                change: Some(self.committing(alloc)?),
+                endings: Endings {
+                    stored: Ending::Commit,
+                    refused: Ending::Abort,
+                },
+            }),
+            _ => Ok(Next::done(Ending::Nothing)),
         }
     }
 
-    /// The row in doubt is stored, where the superior said where it is.
-    fn promising(&self, alloc: Global) -> Result<Option<Change>, AllocError>
-        ensures { IfOk result
-            (λ change. change ≡ agreed_change (Some Prepare) self.now.origin self.now) }
+    /// PREPARE was asked: the row in doubt is stored, where the superior said where it is.
+    #[tactic(auto, using(crate::proofs::Nexts::promising))]
+    fn promise(&self, alloc: Global) -> Result<Next, AllocError>
+        ensures { IfOk result (Agrees self.now (Some Prepare)) }
     {
         match &self.transaction.origin {
             Origin::Subordinate {
                 address: Some(address),
                 superior,
-            } => Ok(Some(self.put(self.row_in_doubt(alloc, address, superior)?))),
+            } => Ok(Next {
+                change: Some(self.put(self.row_in_doubt(alloc, address, superior)?)),
+                endings: Endings {
+                    stored: Ending::Promise,
+                    refused: Ending::Abort,
+                },
+            }),
             Origin::Subordinate {
                 address: None,
                 superior: _,
             }
-            | Origin::Root => Ok(None),
+            | Origin::Root => Ok(Next::done(Ending::Nothing)),
+        }
+    }
+
+    /// Committed: parts that are reached again are told, and it is forgotten once all have acknowledged.
+    #[tactic(auto, using(crate::proofs::Nexts::reminding))]
+    fn remind(&self) -> Next
+        ensures { Reminds self.now result }
+    {
+        match self.finished() {
+            Some(change) => Next {
+                change: Some(change),
+                endings: Endings {
+                    stored: Ending::Finish,
+                    refused: Ending::Remind,
+                },
+            },
+            None => Next::done(Ending::Remind),
         }
     }
 

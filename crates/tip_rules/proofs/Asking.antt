@@ -14,7 +14,7 @@ use Rattle.tip_line.specs.declared.response.Response.{Response as AResponse}
 use Rattle.tip_line.specs.declared.response.ResponseName.TheVariants as names
 use Rattle.tip_rows.specs.Keys.{Key}
 use Rattle.tip_table.specs.Lists.{changed}
-use Rattle.tip_machine.proofs.Walks.{found-number}
+use Rattle.tip_machine.proofs.Walks.{found-number, seated_there}
 use Rattle.tip_machine.specs.Changes.{attempt_on, attempt_on_key, change, tell}
 use Rattle.tip_machine.specs.Connections.{advanced, advanced_to, asks_for, has_number, is_idle, is_superior_of, role_in}
 use Rattle.tip_machine.specs.Failing.{closed, fail, gone, missed}
@@ -202,4 +202,4 @@ pub ruleset leaving = (leaves_so)
 pub found_itself : (held : Held) (number : ℕ) (c : Connection) → connection_of number (work_of held).state ≡ Some c → connection_of c.number (work_of held).state ≡ Some c
 found_itself held number c found = subst (λ n. connection_of n (work_of held).state ≡ Some c) (sym (found-number number (work_of held).state.connections c found)) found
 
-pub ruleset itself = (found_itself)
+pub ruleset itself = (found_itself, seated_there)

@@ -176,7 +176,7 @@ module _ (a : Held) (made : Made) (left : made ≡ record a.making { peer = None
   pub took_peer : (b : Held) (rule : Work → Work) → Does (record a { making = made }) b (rule (work_of (record a { making = made }))) → Does a b (rule (work_of a))
   took_peer b rule does =
       let d : Does (record a { making = record a.making { peer = None } }) b (rule (work_of a)) = subst (λ m. Does (record a { making = m }) b (rule (work_of (record a { making = m })))) left does in
-      record { own = d.own; others = d.others; realm = d.realm; count = d.count; connections = d.connections; transactions = d.transactions; lines = d.lines; outcome = d.outcome }
+      record { own = d.own; others = d.others; realm = d.realm; count = d.count; connections = d.connections; transactions = d.transactions; lines = d.lines; outcome = d.outcome; endings = d.endings }
 
   pub still_able : (number : ℕ) → MayMake number a → MayMake number (record a { making = made })
   still_able number able = subst (λ m. MayMake number (record a { making = m })) (sym left) (λ connection found room. let can = able connection found room in record { made = can.made; number = can.number; epoch = can.epoch; place = can.place; room = can.room })
@@ -238,6 +238,6 @@ took_room a b made number key room left is does =
     let work = change number (making room.party key) (work_of a) in
     let d : Does (record a { making = record a.making { room = None } }) b work = subst (λ m. Does (record a { making = m }) b (change number (making room.party key) (work_of (record a { making = m })))) left does in
     subst (λ (r : TransactionRoom). Does a b (change number (making r.party key) (work_of a))) is
-    (record { own = d.own; others = d.others; realm = d.realm; count = d.count; connections = d.connections; transactions = d.transactions; lines = d.lines; outcome = d.outcome })
+    (record { own = d.own; others = d.others; realm = d.realm; count = d.count; connections = d.connections; transactions = d.transactions; lines = d.lines; outcome = d.outcome; endings = d.endings })
 
 pub ruleset making_where_room = (room_made, boxes_enough)

@@ -2,36 +2,40 @@
 use Rattle.std.proofs.Common.{◌≡◌, ◌≤◌, Bool, true, false, cond, ℕ, List, [], ◌∷◌, Option, Some, None, length, map, refl, ap, arith, sym, subst, ◌∙◌}
 use Rattle.std.specs.Prelude.{◌||◌, filter, is_none, is_some}
 use Rattle.std.specs.List.{list_any}
-use Rattle.std.specs.Option.{option_and_then}
+use Rattle.std.specs.Option.{option_and_then, option_map_or}
 use Rattle.std.proofs.lemmas.Option.{none-some, same_Some}
 use Rattle.tip_branch.specs.Notes.{PartyNotes}
 use Rattle.tip_branch.specs.Votes.{ballot}
 use Rattle.tip_branch.specs.declared.member.Errand.{Errand}
 use Rattle.tip_branch.specs.declared.member.Errand.TheVariants as errand
 use Rattle.tip_branch.specs.declared.member.Member.{Member}
-use Rattle.tip_rows.specs.Keys.{Key}
-use Rattle.tip_table.specs.Kept.{StandsAt, item_at, of, with_item_at}
+use Rattle.tip_rows.specs.Keys.{Key, is_same}
+use Rattle.tip_table.specs.Kept.{item_at}
+use Rattle.tip_table.specs.Lists.{changed}
 use Rattle.tip_table.proofs.Standing.{standing, stands_written}
 use Rattle.tip_table.proofs.Standing.{found as found_first}
 use Rattle.tip_txn.specs.Parts.{answered, is_yes}
 use Rattle.tip_txn.specs.declared.answer.Ballot.{Ballot}
 use Rattle.tip_txn.specs.declared.answer.Ballot.TheVariants as answer
 use Rattle.tip_txn.specs.declared.answer.Decision.TheVariants as decision
-use Rattle.tip_machine.proofs.Walks.{found_passes}
 use Rattle.tip_line.specs.declared.refusal.Refusal.TheVariants.{Busy, NotActive}
 use Rattle.tip_machine.specs.Changes.{alter, refuse}
 use Rattle.tip_machine.specs.Connections.{is_on}
-use Rattle.tip_machine.specs.Proceeding.{dispatch, dispatched, errand_in, finish, give_out, let_go, proceed}
+use Rattle.tip_machine.specs.Proceeding.{dispatch, dispatched, errand_in, finish, give_out, let_go, owed_to_superior, proceed}
 use Rattle.tip_machine.specs.Requests.{owner, resume, resume_in, settled, settled_for, strange, voted, voted_for}
-use Rattle.tip_machine.specs.States.{Attempt, identified_by, transaction_of}
+use Rattle.tip_machine.specs.States.{Attempt, Work, identified_by, transaction_of}
 use Rattle.tip_machine.specs.Steps.{chosen}
-use Rattle.tip_machine.specs.Transactions.{as_answer, has_ready, is_committed, is_done, noting, party_answer, refuses, standing_at}
+use Rattle.tip_machine.specs.Transactions.{as_answer, has_key, has_ready, is_committed, is_done, noting, party_answer, refuses, standing_at}
 use Rattle.tip_machine.specs.Types.{PartyPlace, Transaction}
 use Rattle.tip_machine.specs.declared.transaction.PartyPlace.TheVariants.{Here, Out, Spent}
-use Rattle.tip_outlook.specs.Searches.{HeldTransaction, is_keyed}
-use Rattle.tip_rules.specs.Works.{Does, Held, is_aborting, is_committing, is_voting, IsIdle, lines_for, lines_of, MayDispatch, party_at, party_here, work_of}
+use Rattle.tip_outlook.specs.Searches.{HeldTransaction}
+use Rattle.tip_machine.specs.declared.event.Event.TheVariants.{Settled, Voted}
+use Rattle.tip_outlook.specs.Endings.{EndsBy, EndsSo, ended, ending_on}
+use Rattle.tip_outlook.specs.Wanting.{Course, back_at, foreseen, outlook, settled_wanted, vote_wanted}
+use Rattle.tip_rules.specs.Works.{ContinuesAs, Does, Held, is_aborting, is_committing, is_voting, IsIdle, lines_for, lines_of, MayDispatch, party_at, party_here, work_of}
 use Rattle.tip_rules.proofs.Losing.{same_room}
-use Rattle.tip_rules.proofs.Outcomes.{key_is}
+use Rattle.tip_rules.proofs.Outcomes.{altered_next, key_is}
+use Rattle.tip_rules.proofs.Owing.{altered_there}
 use Rattle.tip_rules.proofs.Proceeding.{dispatch_none, dispatch_some, quiet_dispatch}
 use Rattle.tip_rules.proofs.Works.{altered_from, may_idle, then}
 
@@ -78,10 +82,6 @@ pub ruleset answering = (answers_no, answers_yes, answers_read)
 
 -- It is here again
 
-pub stays_back : (old : Held) (key : Key) (place : ℕ) (at : PartyPlace) (item : HeldTransaction) → StandsAt old.transactions old.realm (is_keyed key) place → item_at old.transactions place ≡ Some item → StandsAt (with_item_at old.transactions place (record item { place = at })) old.realm (is_keyed key) place
-stays_back old key place at item here is = stands_written old.transactions old.realm (is_keyed key) place (record item { place = at }) here
-    (found_passes (is_keyed key) (of old.transactions old.realm) item (found_first old.transactions old.realm (is_keyed key) place here ∙ is))
-
 pub ruleset back = (standing)
 
 -- A vote
@@ -108,7 +108,31 @@ pub comes_back_so : (a b c : Held) (key : Key) (party : PartyNotes) → Does a b
 comes_back_so a b c key party first second =
     subst (λ o. Does a c (chosen (proceed key (alter key (standing_at (Here party)) (work_of a))) o)) first.outcome (then a b c (λ w. chosen (proceed key w) b.outcome) _ first second)
 
-pub ruleset taking = (room_back, idle_back, may_idle, votes_noted, comes_back_so)
+-- What follows is what was decided of the transaction with its party
+
+-- in two
+changed_again : (key : Key) (f h : Transaction → Transaction) → ((u : Transaction) → (f u).key ≡ u.key) → (ts : List Transaction) → changed (has_key key) h (changed (has_key key) f ts) ≡ changed (has_key key) (λ u. h (f u)) ts
+changed_again key f h keyed [] = refl
+changed_again key f h keyed (t ∷ ts) = step (has_key key t) refl (changed_again key f h keyed ts) where
+  step : (b : Bool) → has_key key t ≡ b → changed (has_key key) h (changed (has_key key) f ts) ≡ changed (has_key key) (λ u. h (f u)) ts → changed (has_key key) h (cond b (f t ∷ ts) (t ∷ changed (has_key key) f ts)) ≡ cond b (h (f t) ∷ ts) (t ∷ changed (has_key key) (λ u. h (f u)) ts)
+  step true is rest = subst (λ b. cond b (h (f t) ∷ ts) (f t ∷ changed (has_key key) h ts) ≡ h (f t) ∷ ts) (sym (ap (is_same key) (keyed t) ∙ is)) refl
+  step false is rest = rw is (ap (λ us. t ∷ us) rest)
+
+altered_again : (key : Key) (f h : Transaction → Transaction) (w : Work) → ((u : Transaction) → (f u).key ≡ u.key) → alter key h (alter key f w) ≡ alter key (λ u. h (f u)) w
+altered_again key f h w keyed = ap (λ ts. record w { state = record w.state { transactions = ts } }) (changed_again key f h keyed w.state.transactions)
+
+pub vote_next : (a b c : Held) (key : Key) (party : PartyNotes) (said : Ballot) → said ≡ party_answer party → ContinuesAs (transaction_of key (work_of a).state) (λ t. noting 0 (answered (party_answer party)) (standing_at (Here party) t)) a →
+    Does a b (alter key (standing_at (Here party)) (work_of a)) → Does b c (alter key (noting 0 (answered said)) (work_of b)) → chosen (proceed key (work_of c)) c.outcome ≡ ended key (ending_on c.outcome c.endings) (work_of c)
+vote_next a b c key party said same ends first second =
+    altered_next a c key (λ t. noting 0 (answered (party_answer party)) (standing_at (Here party) t)) (λ u. refl) ends
+    (subst (λ s. Does a c (alter key (λ t. noting 0 (answered s) (standing_at (Here party) t)) (work_of a))) same
+    (subst (Does a c) (altered_again key (standing_at (Here party)) (noting 0 (answered said)) (work_of a) (λ u. refl)) (then a b c (alter key (noting 0 (answered said))) _ first second)))
+
+pub back_next : (a b : Held) (key : Key) (party : PartyNotes) → ContinuesAs (transaction_of key (work_of a).state) (standing_at (Here party)) a → Does a b (alter key (standing_at (Here party)) (work_of a)) →
+    chosen (proceed key (work_of b)) b.outcome ≡ ended key (ending_on b.outcome b.endings) (work_of b)
+back_next a b key party ends does = altered_next a b key (standing_at (Here party)) (λ u. refl) ends does
+
+pub ruleset taking = (room_back, idle_back, may_idle, votes_noted, comes_back_so, vote_next, back_next)
 
 -- Whose party it is
 
@@ -147,6 +171,44 @@ module _ (a b : Held) (party : PartyNotes) where
       step (Out errand.Commit) same is = votes_at (Out errand.Commit) same does
       step (Out errand.Abort) same is = votes_at (Out errand.Abort) same does
       step Spent same is = votes_at Spent same does
+
+-- what was decided of a vote, or of what a party was told, is decided of its transaction
+pub vote_ends : (a : Held) (party : PartyNotes) (key : Key) → owner party (work_of a).state ≡ transaction_of key (work_of a).state → (here : Transaction) → transaction_of key (work_of a).state ≡ Some here → is_voting here.place ≡ true → EndsBy (foreseen (Voted party) (work_of a).state) a.endings →
+    ContinuesAs (transaction_of key (work_of a).state) (λ t. noting 0 (answered (party_answer party)) (standing_at (Here party) t)) a
+vote_ends a party key own here there out ends =
+    subst (λ o. ContinuesAs o (λ t. noting 0 (answered (party_answer party)) (standing_at (Here party) t)) a) (sym there)
+    (by here.place out (subst (λ o. EndsBy (option_map_or (λ t. vote_wanted t.place party t (work_of a).state) o Course.Stays) a.endings) (own ∙ there) ends)) where
+      by : (place : PartyPlace) → is_voting place ≡ true → EndsBy (vote_wanted place party here (work_of a).state) a.endings → EndsSo (outlook (noting 0 (answered (party_answer party)) (standing_at (Here party) here))) (owed_to_superior here.key (work_of a).state) a.endings
+      by (Here other) is so = absurd (cc)
+      by (Out errand.Idle) is so = absurd (cc)
+      by (Out errand.Vote) is so = so
+      by (Out errand.Commit) is so = absurd (cc)
+      by (Out errand.Abort) is so = absurd (cc)
+      by Spent is so = absurd (cc)
+
+module _ (a : Held) (party : PartyNotes) (key : Key) (own : owner party (work_of a).state ≡ transaction_of key (work_of a).state) (here : Transaction) (there : transaction_of key (work_of a).state ≡ Some here) (ends : EndsBy (foreseen (Settled party) (work_of a).state) a.endings) where
+  told_ends : EndsBy (settled_wanted here.place party here (work_of a).state) a.endings
+  told_ends = subst (λ o. EndsBy (option_map_or (λ t. settled_wanted t.place party t (work_of a).state) o Course.Stays) a.endings) (own ∙ there) ends
+
+  pub commit_ends : is_committing here.place ≡ true → ContinuesAs (transaction_of key (work_of a).state) (standing_at (back_at party)) a
+  commit_ends out = subst (λ o. ContinuesAs o (standing_at (back_at party)) a) (sym there) (by here.place out told_ends) where
+    by : (place : PartyPlace) → is_committing place ≡ true → EndsBy (settled_wanted place party here (work_of a).state) a.endings → EndsSo (outlook (standing_at (back_at party) here)) (owed_to_superior here.key (work_of a).state) a.endings
+    by (Here other) is so = absurd (cc)
+    by (Out errand.Idle) is so = absurd (cc)
+    by (Out errand.Vote) is so = absurd (cc)
+    by (Out errand.Commit) is so = so
+    by (Out errand.Abort) is so = absurd (cc)
+    by Spent is so = absurd (cc)
+
+  pub abort_ends : is_aborting here.place ≡ true → ContinuesAs (transaction_of key (work_of a).state) (standing_at (Here party)) a
+  abort_ends out = subst (λ o. ContinuesAs o (standing_at (Here party)) a) (sym there) (by here.place out told_ends) where
+    by : (place : PartyPlace) → is_aborting place ≡ true → EndsBy (settled_wanted place party here (work_of a).state) a.endings → EndsSo (outlook (standing_at (Here party) here)) (owed_to_superior here.key (work_of a).state) a.endings
+    by (Here other) is so = absurd (cc)
+    by (Out errand.Idle) is so = absurd (cc)
+    by (Out errand.Vote) is so = absurd (cc)
+    by (Out errand.Commit) is so = absurd (cc)
+    by (Out errand.Abort) is so = so
+    by Spent is so = absurd (cc)
 
 -- a party that is out is not here
 pub voting_out : (place : ℕ) (held : Held) (item : HeldTransaction) → item_at held.transactions place ≡ Some item → is_voting item.place ≡ true → party_here place held ≡ None
@@ -206,7 +268,37 @@ pub waits_on : (a b c : Held) (key : Key) (party : PartyNotes) (waits : Bool) �
 waits_on a b c key party waits same is first second =
     subst (λ w. Does a c (chosen (proceed key (cond w (alter key (standing_at (Here party)) (work_of a)) (dispatch key (alter key (standing_at (Here party)) (work_of a))))) a.outcome)) (sym is ∙ same) (comes_back_so a b c key party first second)
 
-pub ruleset acknowledging = (room_back, room_dispatched, idle_back, may_idle, may_dispatched, acknowledges_all, waits_on)
+-- what was decided of the transaction with its party, which waits, or without it
+waiting_next : (a : Held) (o : Option Transaction) (party : PartyNotes) (waits : Bool) → waits ≡ has_ready party → ContinuesAs o (standing_at (back_at party)) a → ContinuesAs o (standing_at (cond waits (Here party) Spent)) a
+waiting_next a None party waits same ends = ends
+waiting_next a (Some t) party waits same ends = subst (λ w. EndsSo (outlook (standing_at (cond w (Here party) Spent) t)) (owed_to_superior t.key (work_of a).state) a.endings) (sym same) ends
+
+pub waits_next : (a b : Held) (key : Key) (party : PartyNotes) (waits : Bool) → waits ≡ has_ready party → waits ≡ true → ContinuesAs (transaction_of key (work_of a).state) (standing_at (back_at party)) a → Does a b (alter key (standing_at (Here party)) (work_of a)) →
+    chosen (proceed key (work_of b)) b.outcome ≡ ended key (ending_on b.outcome b.endings) (work_of b)
+waits_next a b key party waits same is ends does =
+    back_next a b key party (subst (λ w. ContinuesAs (transaction_of key (work_of a).state) (standing_at (cond w (Here party) Spent)) a) is (waiting_next a (transaction_of key (work_of a).state) party waits same ends)) does
+
+pub spent_next : (a b c : Held) (key : Key) (party : PartyNotes) (waits : Bool) → waits ≡ has_ready party → waits ≡ false → ContinuesAs (transaction_of key (work_of a).state) (standing_at (back_at party)) a →
+    Does a b (alter key (standing_at (Here party)) (work_of a)) → Does b c (dispatch key (work_of b)) → chosen (proceed key (work_of c)) c.outcome ≡ ended key (ending_on c.outcome c.endings) (work_of c)
+spent_next a b c key party waits same is ends first second = by (transaction_of key (work_of a).state) refl (subst (λ w. ContinuesAs (transaction_of key (work_of a).state) (standing_at (cond w (Here party) Spent)) a) is (waiting_next a (transaction_of key (work_of a).state) party waits same ends)) where
+  by : (o : Option Transaction) → transaction_of key (work_of a).state ≡ o → ContinuesAs o (standing_at Spent) a → chosen (proceed key (work_of c)) c.outcome ≡ ended key (ending_on c.outcome c.endings) (work_of c)
+  by None none so = absurd so
+  by (Some t) found so =
+      let named : key ≡ t.key = key_is a key t found in
+      let there : transaction_of t.key (work_of a).state ≡ Some t = subst (λ k. transaction_of k (work_of a).state ≡ Some t) named found in
+      let here : transaction_of t.key (alter t.key (standing_at (Here party)) (work_of a)).state ≡ Some (standing_at (Here party) t) = altered_there t (standing_at (Here party)) (λ u. refl) (work_of a) there in
+      let both : Does a c (dispatch key (alter key (standing_at (Here party)) (work_of a))) = then a b c (dispatch key) _ first second in
+      let gone : dispatch t.key (alter t.key (standing_at (Here party)) (work_of a)) ≡ let_go party t.key (alter t.key (standing_at (Here party)) (work_of a)) =
+      dispatch_some t.key (alter t.key (standing_at (Here party)) (work_of a)) (standing_at (Here party) t) here
+      ∙ ap (λ r. cond r (give_out (errand_in t.phase) party t.key (alter t.key (standing_at (Here party)) (work_of a))) (let_go party t.key (alter t.key (standing_at (Here party)) (work_of a)))) (sym same ∙ is) in
+      let own : work_of c ≡ let_go party t.key (alter t.key (standing_at (Here party)) (work_of a)) = both.own ∙ ap (λ k. dispatch k (alter k (standing_at (Here party)) (work_of a))) named ∙ gone in
+      subst (λ w. chosen (proceed key w) c.outcome ≡ ended key (ending_on c.outcome c.endings) w) (sym own)
+      (subst (λ e. chosen (proceed key (let_go party t.key (alter t.key (standing_at (Here party)) (work_of a)))) c.outcome ≡ ended key (ending_on c.outcome e) (let_go party t.key (alter t.key (standing_at (Here party)) (work_of a)))) (sym both.endings)
+      (subst (λ k. chosen (proceed k (let_go party t.key (alter t.key (standing_at (Here party)) (work_of a)))) c.outcome ≡ ended k (ending_on c.outcome a.endings) (let_go party t.key (alter t.key (standing_at (Here party)) (work_of a)))) (sym named)
+      (so (standing_at Spent t) (let_go party t.key (alter t.key (standing_at (Here party)) (work_of a))) c.outcome refl refl
+      (altered_there (standing_at (Here party) t) (standing_at Spent) (λ u. refl) (alter t.key (standing_at (Here party)) (work_of a)) here))))
+
+pub ruleset acknowledging = (room_back, room_dispatched, idle_back, may_idle, may_dispatched, acknowledges_all, waits_on, waits_next, spent_next)
 
 module _ (a b : Held) (party : PartyNotes) where
   pub settled_none : owner party (work_of a).state ≡ None → Does a b (chosen (strange party (work_of a)) a.outcome) → Does a b (chosen (settled (owner party (work_of a).state) party (work_of a)) a.outcome)

@@ -3,6 +3,9 @@ use Rattle.std.proofs.Common.{◌≡◌, ◌<◌, ◌≤◌, ◌+◌, Bool, true
 use Rattle.std.specs.Prelude.{◌&&◌, filter, find, is_some, nat_le}
 use Rattle.std.specs.Option.{option_and_then, option_map_or}
 use Rattle.std.proofs.lemmas.Option.{same_Some}
+use Rattle.tip_line.specs.Command.{name_of}
+use Rattle.tip_line.specs.declared.command.Command.{Command as ACommand}
+use Rattle.tip_line.specs.declared.command.Command.TheVariants as commands
 use Rattle.tip_line.specs.declared.command.CommandName.{CommandName}
 use Rattle.tip_line.specs.declared.command.CommandName.TheVariants as command
 use Rattle.tip_rows.specs.Keys.{Key}
@@ -15,7 +18,7 @@ use Rattle.tip_machine.specs.Changes.{attempt_on, change, reply, tell}
 use Rattle.tip_machine.specs.Commands.{decide_abort, decide_commit, exists, identify, obey, prepare, query, superior_role}
 use Rattle.tip_machine.specs.Connections.{has_number, identified, is_on, owing}
 use Rattle.tip_machine.specs.Failing.{closed, fail, gone, wrong}
-use Rattle.tip_machine.specs.Proceeding.{abort, ask, commit}
+use Rattle.tip_machine.specs.Proceeding.{abort, ask, commit, owed_to_superior}
 use Rattle.tip_machine.specs.States.{Attempt, Work, connection_of, identified_by, transaction_of}
 use Rattle.tip_machine.specs.Steps.{chosen}
 use Rattle.tip_machine.specs.Transactions.{row_committed}
@@ -27,7 +30,13 @@ use Rattle.tip_machine.specs.declared.connection.Role.{Role}
 use Rattle.tip_machine.specs.declared.connection.Role.TheVariants.{Subordinate, Superior}
 use Rattle.tip_machine.specs.declared.event.Change.TheVariants.{Put, Remove}
 use Rattle.tip_machine.specs.declared.event.Outcome.{Outcome}
-use Rattle.tip_rules.specs.Works.{Does, Held, IsIdle, lines_as, lines_at, lines_for, work_of}
+use Rattle.tip_outlook.specs.Endings.{EndsBy, EndsSo}
+use Rattle.tip_conn.specs.Table.{admit_of}
+use Rattle.tip_conn.specs.declared.state.Admit.{Admit}
+use Rattle.tip_conn.specs.declared.state.Admit.TheVariants.{Serve}
+use Rattle.tip_outlook.specs.Wanting.{Course, admitted_wanted, asked, command_wanted, commit_for, commit_wanted, is_admitted, of_superior, outlook, owed_then, prepare_for, prepare_wanted}
+use Rattle.tip_rules.proofs.Owing.{owed_now}
+use Rattle.tip_rules.specs.Works.{ContinuesAs, Does, Held, IsIdle, lines_as, lines_at, lines_for, work_of}
 use Rattle.tip_rules.proofs.Beginnings.{giving_stands, standing_number}
 use Rattle.tip_rules.proofs.Losing.{same_room}
 use Rattle.tip_rules.proofs.Outcomes.{key_is}
@@ -125,6 +134,58 @@ module _ (a b : Held) (number : ℕ) (command : CommandName) (connection : Conne
 
     pub obeys_some : (k : Key) (t : Transaction) (d : Held) → key ≡ Some k → transaction_of k (work_of b).state ≡ Some t → Does b d (chosen (rule t (work_of b)) b.outcome) → Does a d (chosen (obey command rule connection (work_of a)) a.outcome)
     obeys_some k t d some there second = obeys_so d (subst (λ o. Does b d (chosen (attempt_on (option_and_then (λ k. transaction_of k (work_of b).state) o) rule (work_of b)) b.outcome)) (sym some) (subst (λ t. Does b d (chosen (attempt_on t rule (work_of b)) b.outcome)) (sym there) second))
+
+-- What was decided of an active transaction, once its superior waits
+
+module _ (a b : Held) (number : ℕ) (line : ACommand) (wants : Transaction → Course) (connection : Connection) (found : connection_of number (work_of a).state ≡ Some connection) (first : Does a b (change number (owing (name_of line)) (work_of a)))
+    (is : command_wanted line connection (work_of a).state ≡ of_superior wants connection (work_of a).state) (next : EndsBy (command_wanted line connection (work_of a).state) a.endings) where
+  there_itself : connection_of connection.number (work_of a).state ≡ Some connection
+  there_itself = subst (λ n. connection_of n (work_of a).state ≡ Some connection) (sym (found-number number (work_of a).state.connections connection found)) found
+
+  -- of the transaction whose superior it is
+  wanted_there : (key : Key) (t : Transaction) → connection.role ≡ Some (Superior key) → transaction_of key (work_of a).state ≡ Some t → EndsBy (wants t) a.endings
+  wanted_there key t role there =
+      subst (λ o. EndsBy (option_map_or wants o Course.Stays) a.endings) there
+      (subst (λ r. EndsBy (option_map_or (λ k. option_map_or wants (transaction_of k (work_of a).state) Course.Stays) (superior_role r) Course.Stays) a.endings) role
+      (subst (λ course. EndsBy course a.endings) is next))
+
+  owed_next : (key : Key) (t : Transaction) → connection.role ≡ Some (Superior key) → transaction_of key (work_of a).state ≡ Some t → wants t ≡ Course.GoesOn (outlook (asked t)) (owed_then (name_of line) connection.number t.key (work_of a).state) →
+      EndsSo (outlook (asked t)) (owed_to_superior t.key (work_of b).state) b.endings
+  owed_next key t role there so =
+      let own : work_of b ≡ change connection.number (owing (name_of line)) (work_of a) = first.own ∙ ap (λ n. change n (owing (name_of line)) (work_of a)) (sym (found-number number (work_of a).state.connections connection found)) in
+      let owed = owed_now (work_of a) connection there_itself (name_of line) key t role there in
+      subst (λ e. EndsSo (outlook (asked t)) (owed_to_superior t.key (work_of b).state) e) (sym first.endings)
+      (subst (λ o. EndsSo (outlook (asked t)) o a.endings) (sym (ap (λ w. owed_to_superior t.key w.state) own ∙ owed))
+      (subst (λ course. EndsBy course a.endings) so (wanted_there key t role there)))
+
+  -- as it is found behind the command
+  asked_of : (key : Key) → superior_role connection.role ≡ Some key → (t : Transaction) → transaction_of key (work_of b).state ≡ Some t → wants t ≡ Course.GoesOn (outlook (asked t)) (owed_then (name_of line) connection.number t.key (work_of a).state) →
+      ContinuesAs (transaction_of key (work_of b).state) asked b
+  asked_of key role t there so = subst (λ o. ContinuesAs o asked b) (sym there) (owed_next key t (on_role connection.role role) (sym (ap (λ w. transaction_of key w.state) first.own) ∙ there) so) where
+    on_role : (r : Option Role) → superior_role r ≡ Some key → r ≡ Some (Superior key)
+    on_role None none = absurd (cc)
+    on_role (Some (Superior other)) some = ap (λ k. Some (Superior k)) (same_Some other key some)
+    on_role (Some (Subordinate other part)) none = absurd (cc)
+
+-- of a command that is served
+pub served_next : (held : Held) (number : ℕ) (line : ACommand) (admit : Admit) (here connection : Connection) → connection_of number (work_of held).state ≡ Some here → admit ≡ admit_of here.state here.side (name_of line) → admit ≡ Serve → connection_of number (work_of held).state ≡ Some connection →
+    EndsBy (admitted_wanted line connection (work_of held).state) held.endings → EndsBy (command_wanted line connection (work_of held).state) held.endings
+served_next held number line admit here connection there is serves found next =
+    subst (λ a. EndsBy (cond (is_admitted a) (command_wanted line connection (work_of held).state) Course.Stays) held.endings) (ap (λ (c : Connection). admit_of c.state c.side (name_of line)) (same_Some connection here (sym found ∙ there)) ∙ sym is ∙ serves) next
+
+pub commit_next : (a b : Held) (number : ℕ) (connection : Connection) → connection_of number (work_of a).state ≡ Some connection → Does a b (change number (owing command.Commit) (work_of a)) → EndsBy (command_wanted commands.Commit connection (work_of a).state) a.endings →
+    (key : Key) → superior_role connection.role ≡ Some key → (t : Transaction) → transaction_of key (work_of b).state ≡ Some t → t.phase ≡ Active → ContinuesAs (transaction_of key (work_of b).state) asked b
+commit_next a b number connection found first next key role t there active =
+    asked_of a b number commands.Commit (commit_for connection.number (work_of a).state) connection found first refl next key role t there
+    (ap (λ p. commit_wanted p (owed_then command.Commit connection.number t.key (work_of a).state) t) active)
+
+pub prepare_next : (a b : Held) (number : ℕ) (connection : Connection) → connection_of number (work_of a).state ≡ Some connection → Does a b (change number (owing command.Prepare) (work_of a)) → EndsBy (command_wanted commands.Prepare connection (work_of a).state) a.endings →
+    (key : Key) → superior_role connection.role ≡ Some key → (t : Transaction) → transaction_of key (work_of b).state ≡ Some t → t.phase ≡ Active → is_some connection.peer ≡ true → ContinuesAs (transaction_of key (work_of b).state) asked b
+prepare_next a b number connection found first next key role t there active reachable =
+    asked_of a b number commands.Prepare (prepare_for connection.peer connection.number (work_of a).state) connection found first refl next key role t there (by connection.peer reachable) where
+      by : (peer : Option (List ℕ)) → is_some peer ≡ true → prepare_wanted t.phase peer (owed_then command.Prepare connection.number t.key (work_of a).state) t ≡ Course.GoesOn (outlook (asked t)) (owed_then command.Prepare connection.number t.key (work_of a).state)
+      by None none = absurd (cc)
+      by (Some address) some = ap (λ p. prepare_wanted p (Some address) (owed_then command.Prepare connection.number t.key (work_of a).state) t) active
 
 -- hanging up asks nothing of what is owed
 closed_owing : (command : CommandName) (connection : Connection) (w : Work) → closed (owing command connection) w ≡ closed connection w

@@ -30,7 +30,7 @@ module _ (a : Held) (made : Made) (peer ours word : Option (List ℕ)) (left : m
   pub took_words : (b : Held) (rule : Work → Work) → Does (record a { making = made }) b (rule (work_of (record a { making = made }))) → Does a b (rule (work_of a))
   took_words b rule does =
       let d : Does (record a { making = record a.making { peer = peer; ours = ours; word = word } }) b (rule (work_of a)) = subst (λ m. Does (record a { making = m }) b (rule (work_of (record a { making = m })))) left does in
-      record { own = d.own; others = d.others; realm = d.realm; count = d.count; connections = d.connections; transactions = d.transactions; lines = d.lines; outcome = d.outcome }
+      record { own = d.own; others = d.others; realm = d.realm; count = d.count; connections = d.connections; transactions = d.transactions; lines = d.lines; outcome = d.outcome; endings = d.endings }
 
 dials_so : (address : List ℕ) (purpose : Purpose) (boxes : List Badge) (w : Work) (room : Bool) → has_place (length boxes) w.state ≡ room → dial address purpose boxes w ≡ cond room (tell (w.state.head.given + 1) (Ask (asked.Identify w.state.head.address address)) (added (dialled address purpose boxes) w)) (hand_back boxes (refuse Full w))
 unfolding dial

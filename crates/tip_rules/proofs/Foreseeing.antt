@@ -1,21 +1,16 @@
 -- What an event wants is what reading alone foresees.
-use Rattle.std.proofs.Common.{arith, ◌≡◌, ◌++◌, ◌+◌, ◌==◌, ◌&&◌, Bool, true, false, cond, ℕ, List, [], ◌∷◌, Option, Some, None, refl, ap, sym, ◌∙◌}
-use Rattle.std.specs.Prelude.{drop, filter, find, not, if◌then◌else◌}
-use Rattle.std.specs.List.{flat_map}
-use Rattle.std.specs.Option.{option_and_then}
-use Rattle.std.proofs.lemmas.Bool.Decides.{nat_tests}
+use Rattle.std.proofs.Common.{◌≡◌, ◌==◌, Bool, true, false, cond, ℕ, List, [], ◌∷◌, Option, Some, None, refl, ap, sym, ◌∙◌}
+use Rattle.std.specs.Prelude.{drop, find}
+use Rattle.std.specs.Option.{option_and_then, option_map_or}
 use Rattle.std.proofs.lemmas.Option.{none-some, same_Some}
 use Rattle.std.specs.Str.{bytes_eq}
 use Rattle.tip_branch.specs.Notes.{PartyNotes}
 use Rattle.tip_branch.specs.declared.member.Errand.TheVariants as errand
-use Rattle.tip_conn.specs.Table.{admit_of, next_of}
+use Rattle.tip_conn.specs.Table.{admit_of}
 use Rattle.tip_conn.specs.declared.state.Admit.{Admit}
 use Rattle.tip_conn.specs.declared.state.Admit.TheVariants.{Serve, Wrong}
 use Rattle.tip_conn.specs.declared.state.Side.{Side}
 use Rattle.tip_conn.specs.declared.state.Side.TheVariants.{Primary, Secondary}
-use Rattle.tip_conn.specs.declared.state.State.{State as ConnectionState}
-use Rattle.tip_conn.specs.declared.state.State.TheVariants as states
-use Rattle.tip_conn.specs.declared.state.Turn.{Turn}
 use Rattle.tip_line.specs.Command.{name_of}
 use Rattle.tip_line.specs.declared.command.Command.{Command as ACommand}
 use Rattle.tip_line.specs.declared.command.Command.TheVariants as commands
@@ -29,19 +24,16 @@ use Rattle.tip_line.specs.declared.refusal.Refusal.TheVariants.{Busy, NotActive}
 use Rattle.tip_rows.proofs.OrderLemmas.{same_key}
 use Rattle.tip_rows.specs.Keys.{Key, is_same}
 use Rattle.tip_rows.specs.declared.row.Row.TheVariants as row
-use Rattle.tip_table.proofs.Standing.{change_none}
-use Rattle.tip_table.specs.Lists.{changed}
-use Rattle.tip_txn.specs.Parts.{answered, is_yes}
+use Rattle.tip_txn.specs.Parts.{answered}
 use Rattle.tip_txn.specs.declared.answer.Decision.{Decision}
 use Rattle.tip_txn.specs.declared.answer.Decision.TheVariants as decision
 use Rattle.tip_txn.specs.declared.answer.Phase.{Phase}
 use Rattle.tip_txn.specs.declared.answer.Phase.TheVariants.{Active, Asking, Prepared, Committed, Aborted}
-use Rattle.tip_txn.specs.declared.part.Participant.{Participant}
-use Rattle.tip_machine.proofs.Walks.{found_changed, found_passes, on_found, seated_there, there_by_key}
+use Rattle.tip_machine.proofs.Walks.{found_changed, found_passes, seated_there, there_by_key}
 use Rattle.tip_machine.specs.Answers.{identifier}
 use Rattle.tip_machine.specs.Changes.{alter, attempt_on, change, end, refuse}
 use Rattle.tip_machine.specs.Commands.{commanded, decide_abort, decide_commit, obey, prepare, serve_if, superior_role}
-use Rattle.tip_machine.specs.Connections.{advanced, advanced_to, asks_for, has_number, is_secondary, is_superior_of, may_take, owing, role_in}
+use Rattle.tip_machine.specs.Connections.{may_take, owing}
 use Rattle.tip_machine.specs.Proceeding.{abort, agree, ask, asked_for_votes, conclude, dispatch, enter, errand_in, finish, give_out, let_go, owed_to_superior, proceed, proceed_in}
 use Rattle.tip_machine.specs.Reactions.{commits, react}
 use Rattle.tip_machine.specs.Requests.{hear, line, owner, resume, resume_in, settled, settled_for, voted, voted_for}
@@ -49,7 +41,7 @@ use Rattle.tip_machine.specs.Failing.{closed}
 use Rattle.tip_machine.specs.Responses.{go_on, is_in_doubt, presume_abort}
 use Rattle.tip_machine.specs.States.{Attempt, State, Work, connection_of, identified_by, seated, transaction_of}
 use Rattle.tip_machine.specs.Steps.{attempt, entered, is_open, wanted, wants}
-use Rattle.tip_machine.specs.Transactions.{decision_of, entering, has_id, has_key, has_ready, is_committed, is_done, is_spent, noting, pair_of, party_answer, standing_at, willing_from}
+use Rattle.tip_machine.specs.Transactions.{decision_of, entering, has_id, has_key, has_ready, is_committed, is_done, noting, party_answer, standing_at}
 use Rattle.tip_machine.specs.Types.{Connection, Event, PartyPlace, Transaction}
 use Rattle.tip_machine.specs.declared.event.Event.TheVariants.{AskPull, AskPush, Dial, Line, Lost, Open, Resume, Settled, Voted}
 use Rattle.tip_machine.specs.declared.event.Change.{Change}
@@ -65,27 +57,17 @@ use Rattle.tip_machine.specs.declared.connection.Role.TheVariants.{Subordinate, 
 use Rattle.tip_machine.specs.declared.transaction.Origin.{Origin}
 use Rattle.tip_machine.specs.declared.transaction.Origin.TheVariants as origin
 use Rattle.tip_machine.specs.declared.transaction.PartyPlace.TheVariants.{Here, Out, Spent}
-use Rattle.tip_rules.proofs.Outcomes.{acknowledged_all}
+use Rattle.tip_rules.proofs.Owing.{altered_there, none_altered, not_both, owed_after, owed_now, same_self}
 use Rattle.tip_rules.proofs.Proceeding.{dispatch_some}
 use Rattle.tip_rules.proofs.Responses.{hears_identified, hears_nothing, hears_part, hears_pull, hears_query, hears_to_ask, hears_to_reach, noting_nobody, noting_part_of}
 use Rattle.tip_outlook.specs.Noting.{awaits_of, exists_of, identifying, note_of, noted, noting_as, part_of, pulled_of, pulling, querying, responding, version_of}
 use Rattle.tip_outlook.specs.declared.noting.Awaits.{Awaits}
 use Rattle.tip_outlook.specs.declared.noting.Awaits.TheVariants as awaits
-use Rattle.tip_outlook.specs.Wanting.{abort_for, abort_wanted, agreed_change, answer_wanted, asked, away, command_wanted, commit_for, commit_wanted, concluded, finished, foreseen, forgotten, hears_responses, is_admitted, is_over, line_wanted, of_superior, outlook, owed_then, pair_at, pairs_of, prepare_for, prepare_wanted, presume_wanted, promised_of, query_wanted, response_wanted, resume_wanted, resumed_at, said_wanted, settled_wanted, vote_wanted, wanted_noting, wanted_of_part, wished, wished_in}
+use Rattle.tip_outlook.specs.Endings.{Meets}
+use Rattle.tip_outlook.specs.Wanting.{Course, abort_for, abort_wanted, agreed_change, answer_wanted, asked, asking_for, away, change_of, command_wanted, commit_for, commit_wanted, concluded, finished, foreseen, forgotten, is_admitted, line_wanted, of_superior, outlook, owed_then, prepare_for, prepare_wanted, presume_wanted, promised_of, query_wanted, resume_wanted, resumed_at, said_wanted, settled_wanted, taken_wanted, vote_wanted, wanted_noting, wanted_of_part, wished, wished_in}
+use Rattle.tip_outlook.specs.declared.next.Next.{Next}
+use Rattle.tip_outlook.proofs.Nexts.{over_done, pairs_from}
 use Rattle.tip_outlook.specs.declared.noting.Note.{Note}
-
--- The rows
-
-pairs_from : (part : ℕ) (parts : List Participant) → flat_map (λ s. pair_of s.1.address s.1.id) (willing_from part parts) ≡ pairs_of parts
-pairs_from part [] = refl
-pairs_from part (p ∷ parts) = step (is_yes p.answer) (pairs_from (part + 1) parts) where
-  step : (yes : Bool) → flat_map (λ s. pair_of s.1.address s.1.id) (willing_from (part + 1) parts) ≡ pairs_of parts →
-      flat_map (λ s. pair_of s.1.address s.1.id) (cond yes ((part, p) ∷ willing_from (part + 1) parts) (willing_from (part + 1) parts)) ≡ flat_map pair_at (cond yes (p ∷ filter (λ part. is_yes part.answer) parts) (filter (λ part. is_yes part.answer) parts))
-  step true rest = ap (λ pairs. pair_of p.address p.id ++ pairs) rest
-  step false rest = rest
-
-over_done : (t : Transaction) → is_done t ≡ is_over (outlook t)
-over_done t = ap (λ b. is_spent t.place && b) (acknowledged_all 1 (drop 1 t.parts))
 
 -- What follows
 
@@ -131,11 +113,6 @@ proceed_wants : (key : Key) (w : Work) (t : Transaction) → transaction_of key 
 unfolding proceed
 proceed_wants key w t found = ap (λ o. wanted (attempt_on o (λ t. proceed_in t.phase t) w)) found ∙ phase_wants t w t.phase
 
--- a transaction that is there by its own key is there when it is altered
-module _ (t : Transaction) (f : Transaction → Transaction) (keyed : (u : Transaction) → (f u).key ≡ u.key) where
-  altered_there : (w : Work) → transaction_of t.key w.state ≡ Some t → transaction_of t.key (alter t.key f w).state ≡ Some (f t)
-  altered_there w found = found_changed t.key f w.state.transactions t found (ap (is_same t.key) (keyed t) ∙ found_passes (has_key t.key) w.state.transactions t found)
-
 -- Asking
 
 ask_wants : (t : Transaction) (w : Work) → transaction_of t.key w.state ≡ Some t → wanted (ask t w) ≡ wished (owed_to_superior t.key w.state) (outlook (asked t))
@@ -149,57 +126,31 @@ ask_wants t w found = step t.place refl where
   step (Out errand) is = proceed_wants t.key (enter Asking t.key w) (entering Asking t) there ∙ ap (λ p. wished (owed_to_superior t.key w.state) (outlook (record t { phase = Asking; place = p }))) is
   step Spent is = proceed_wants t.key (enter Asking t.key w) (entering Asking t) there ∙ ap (λ p. wished (owed_to_superior t.key w.state) (outlook (record t { phase = Asking; place = p }))) is
 
-same_self : (key : Key) → is_same key key ≡ true
-same_self key = grind (arith, nat_tests)
-
--- What is owed once a command came
-
-not_both : (b : Bool) → b ≡ true → b ≡ false → {T : Type 0} → T
-not_both true is not = absurd (cc)
-not_both false is not = absurd (cc)
-
-first_owed : (command : CommandName) (number : ℕ) (key : Key) (cs : List Connection) (c : Connection) → find (has_number number) cs ≡ Some c → is_superior_of key c ≡ true →
-    option_and_then (λ d. d.owed) (find (is_superior_of key) (changed (has_number number) (owing command) cs)) ≡ option_and_then (λ d. if has_number number d then Some command else d.owed) (find (is_superior_of key) cs)
-first_owed command number key [] c is superior = absurd (none-some c is)
-first_owed command number key (x ∷ xs) c is superior = at (has_number number x) refl (is_superior_of key x) refl is (λ later. first_owed command number key xs c later superior) where
-  at : (there : Bool) → has_number number x ≡ there → (on : Bool) → is_superior_of key x ≡ on → cond there (Some x) (find (has_number number) xs) ≡ Some c →
-      (find (has_number number) xs ≡ Some c → option_and_then (λ d. d.owed) (find (is_superior_of key) (changed (has_number number) (owing command) xs)) ≡ option_and_then (λ d. if has_number number d then Some command else d.owed) (find (is_superior_of key) xs)) →
-      option_and_then (λ d. d.owed) (find (is_superior_of key) (cond there (owing command x ∷ xs) (x ∷ changed (has_number number) (owing command) xs))) ≡ option_and_then (λ d. if has_number number d then Some command else d.owed) (cond on (Some x) (find (is_superior_of key) xs))
-  at true numbered true on here later = rw (on, numbered) refl
-  at true numbered false off here later = not_both (is_superior_of key x) (ap (is_superior_of key) (same_Some x c here) ∙ superior) off
-  at false other true on here later = rw (on, other) refl
-  at false other false off here later = rw off (later here)
-
 -- Commands
 
 module _ (w : Work) (c : Connection) (there : connection_of c.number w.state ≡ Some c) where
-  owed_now : (command : CommandName) (key : Key) (t : Transaction) → c.role ≡ Some (Superior key) → transaction_of key w.state ≡ Some t → owed_to_superior t.key (change c.number (owing command) w).state ≡ owed_then command c.number t.key w.state
-  owed_now command key t on found =
-      let same : key ≡ t.key = on_found (λ k. key ≡ k) key w.state.transactions t found refl in
-      first_owed command c.number t.key w.state.connections c there (ap (asks_for t.key) on ∙ ap (is_same t.key) same ∙ same_self t.key)
-
-  prepare_wants : (key : Key) (t : Transaction) → c.role ≡ Some (Superior key) → transaction_of key w.state ≡ Some t → wanted (prepare t.phase c.peer c t (change c.number (owing command.Prepare) w)) ≡ prepare_for c.peer c.number w.state t
+  prepare_wants : (key : Key) (t : Transaction) → c.role ≡ Some (Superior key) → transaction_of key w.state ≡ Some t → wanted (prepare t.phase c.peer c t (change c.number (owing command.Prepare) w)) ≡ change_of (prepare_for c.peer c.number w.state t)
   prepare_wants key t on found = step t.phase c.peer where
-    step : (phase : Phase) (peer : Option (List ℕ)) → wanted (prepare phase peer c t (change c.number (owing command.Prepare) w)) ≡ prepare_wanted phase peer (owed_then command.Prepare c.number t.key w.state) t
-    step Active (Some address) = ask_wants t (change c.number (owing command.Prepare) w) (there_by_key key w.state.transactions t found) ∙ ap (λ owed. wished owed (outlook (asked t))) (owed_now command.Prepare key t on found)
+    step : (phase : Phase) (peer : Option (List ℕ)) → wanted (prepare phase peer c t (change c.number (owing command.Prepare) w)) ≡ change_of (prepare_wanted phase peer (owed_then command.Prepare c.number t.key w.state) t)
+    step Active (Some address) = ask_wants t (change c.number (owing command.Prepare) w) (there_by_key key w.state.transactions t found) ∙ ap (λ owed. wished owed (outlook (asked t))) (owed_now w c there command.Prepare key t on found)
     step Active None = refl
     step Asking peer = refl
     step Prepared peer = refl
     step Committed peer = refl
     step Aborted peer = refl
 
-  commit_wants : (key : Key) (t : Transaction) → c.role ≡ Some (Superior key) → transaction_of key w.state ≡ Some t → wanted (decide_commit t.phase c t (change c.number (owing command.Commit) w)) ≡ commit_for c.number w.state t
+  commit_wants : (key : Key) (t : Transaction) → c.role ≡ Some (Superior key) → transaction_of key w.state ≡ Some t → wanted (decide_commit t.phase c t (change c.number (owing command.Commit) w)) ≡ change_of (commit_for c.number w.state t)
   commit_wants key t on found = step t.phase where
-    step : (phase : Phase) → wanted (decide_commit phase c t (change c.number (owing command.Commit) w)) ≡ commit_wanted phase (owed_then command.Commit c.number t.key w.state) t
-    step Active = ask_wants t (change c.number (owing command.Commit) w) (there_by_key key w.state.transactions t found) ∙ ap (λ owed. wished owed (outlook (asked t))) (owed_now command.Commit key t on found)
+    step : (phase : Phase) → wanted (decide_commit phase c t (change c.number (owing command.Commit) w)) ≡ change_of (commit_wanted phase (owed_then command.Commit c.number t.key w.state) t)
+    step Active = ask_wants t (change c.number (owing command.Commit) w) (there_by_key key w.state.transactions t found) ∙ ap (λ owed. wished owed (outlook (asked t))) (owed_now w c there command.Commit key t on found)
     step Asking = refl
     step Prepared = ap (λ pairs. Some (Put t.key (row.Committed (promised_of (outlook t)) pairs))) (pairs_from 1 (drop 1 t.parts))
     step Committed = refl
     step Aborted = refl
 
-  abort_wants : (t : Transaction) (v : Work) → wanted (decide_abort t.phase c t v) ≡ abort_for t
+  abort_wants : (t : Transaction) (v : Work) → wanted (decide_abort t.phase c t v) ≡ change_of (abort_for t)
   abort_wants t v = step t.phase where
-    step : (phase : Phase) → wanted (decide_abort phase c t v) ≡ abort_wanted phase t
+    step : (phase : Phase) → wanted (decide_abort phase c t v) ≡ change_of (abort_wanted phase t)
     step Active = refl
     step Asking = refl
     step Prepared = refl
@@ -207,20 +158,20 @@ module _ (w : Work) (c : Connection) (there : connection_of c.number w.state ≡
     step Aborted = refl
 
   -- a rule of the transaction whose superior is on the connection
-  module _ (name : CommandName) (rule : Transaction → Work → Attempt) (wants : Transaction → Option Change)
-      (each : (key : Key) (t : Transaction) → c.role ≡ Some (Superior key) → transaction_of key w.state ≡ Some t → wanted (rule t (change c.number (owing name) w)) ≡ wants t) where
-    obey_wants : wanted (obey name rule c w) ≡ of_superior wants c w.state
+  module _ (name : CommandName) (rule : Transaction → Work → Attempt) (wants : Transaction → Course)
+      (each : (key : Key) (t : Transaction) → c.role ≡ Some (Superior key) → transaction_of key w.state ≡ Some t → wanted (rule t (change c.number (owing name) w)) ≡ change_of (wants t)) where
+    obey_wants : wanted (obey name rule c w) ≡ change_of (of_superior wants c w.state)
     obey_wants = at c.role refl where
-      found_at : (key : Key) → c.role ≡ Some (Superior key) → (found : Option Transaction) → transaction_of key w.state ≡ found → wanted (attempt_on found rule (change c.number (owing name) w)) ≡ option_and_then wants found
+      found_at : (key : Key) → c.role ≡ Some (Superior key) → (found : Option Transaction) → transaction_of key w.state ≡ found → wanted (attempt_on found rule (change c.number (owing name) w)) ≡ change_of (option_map_or wants found Course.Stays)
       found_at key on None is = refl
       found_at key on (Some t) is = each key t on is
 
-      at : (role : Option Role) → c.role ≡ role → wanted (attempt_on (option_and_then (λ key. transaction_of key w.state) (superior_role role)) rule (change c.number (owing name) w)) ≡ option_and_then (λ key. option_and_then wants (transaction_of key w.state)) (superior_role role)
+      at : (role : Option Role) → c.role ≡ role → wanted (attempt_on (option_and_then (λ key. transaction_of key w.state) (superior_role role)) rule (change c.number (owing name) w)) ≡ change_of (option_map_or (λ key. option_map_or wants (transaction_of key w.state) Course.Stays) (superior_role role) Course.Stays)
       at None on = refl
       at (Some (Superior key)) on = found_at key on (transaction_of key w.state) refl
       at (Some (Subordinate key part)) on = refl
 
-  served_wants : (line : ACommand) → wanted (serve_if Serve line c w) ≡ command_wanted line c w.state
+  served_wants : (line : ACommand) → wanted (serve_if Serve line c w) ≡ change_of (command_wanted line c w.state)
   served_wants (commands.Identify lowest highest primary secondary) = refl
   served_wants commands.Begin = refl
   served_wants (commands.Push superior) = refl
@@ -234,7 +185,7 @@ module _ (w : Work) (c : Connection) (there : connection_of c.number w.state ≡
   served_wants commands.Tls = refl
   served_wants commands.Error = refl
 
-  admitted_wants : (admit : Admit) (line : ACommand) → wanted (serve_if admit line c w) ≡ cond (is_admitted admit) (command_wanted line c w.state) None
+  admitted_wants : (admit : Admit) (line : ACommand) → wanted (serve_if admit line c w) ≡ change_of (cond (is_admitted admit) (command_wanted line c w.state) Course.Stays)
   admitted_wants Serve line = served_wants line
   admitted_wants Wrong line = refl
 
@@ -252,92 +203,38 @@ module _ (w : Work) (c : Connection) (there : connection_of c.number w.state ≡
   primary_wants commands.Tls = refl
   primary_wants commands.Error = refl
 
-  hear_wants : (side : Side) → c.side ≡ side → (line : ACommand) → wanted (hear side (Command line) c w) ≡ cond (is_admitted (admit_of c.state side (name_of line))) (command_wanted line c w.state) None
+  -- we hear commands as the secondary
+  hear_wants : (side : Side) → (line : ACommand) → wanted (hear side (Command line) c w) ≡ change_of (taken_wanted side (Command line) c w.state)
   unfolding commanded
-  hear_wants Primary is line = primary_wants line
-  hear_wants Secondary is line = ap (λ s. wanted (serve_if (admit_of c.state s (name_of line)) line c w)) is ∙ admitted_wants (admit_of c.state Secondary (name_of line)) line
+  hear_wants Primary line = primary_wants line
+  hear_wants Secondary line = admitted_wants (admit_of c.state c.side (name_of line)) line
 
-  taken_wants : (line : ACommand) → wanted (cond (may_take c) (hear c.side (Command line) c w) (Attempt.Done (refuse Busy w))) ≡ line_wanted (Some c) line w.state
-  taken_wants line = step (may_take c) where
-    step : (b : Bool) → wanted (cond b (hear c.side (Command line) c w) (Attempt.Done (refuse Busy w))) ≡ cond (b && is_admitted (admit_of c.state c.side (name_of line))) (command_wanted line c w.state) None
-    step true = hear_wants c.side refl line
-    step false = refl
-
--- what is no command wants nothing
-quiet_line : (side : Side) (c : Connection) (w : Work) → (wanted (hear side Malformed c w) ≡ None)
+-- what is no line wants nothing
+quiet_line : (side : Side) (c : Connection) (w : Work) → wanted (hear side Malformed c w) ≡ change_of (taken_wanted side Malformed c w.state)
 quiet_line Primary c w = refl
 quiet_line Secondary c w = refl
 
-module _ (w : Work) where
-  line_wants : (found : Option Connection) → ((c : Connection) → found ≡ Some c → connection_of c.number w.state ≡ Some c) → (line' : ACommand) → wanted (line found (Command line') w) ≡ line_wanted found line' w.state
-  unfolding line
-  line_wants None there line' = refl
-  line_wants (Some c) there line' = taken_wants w c (there c refl) line'
-
-  other_line : (found : Option Connection) (heard : Heard) → ((c : Connection) (side : Side) → wanted (hear side heard c w) ≡ None) → wanted (line found heard w) ≡ None
-  unfolding line
-  other_line None heard quiet = refl
-  other_line (Some c) heard quiet = step (may_take c) where
-    step : (b : Bool) → wanted (cond b (hear c.side heard c w) (Attempt.Done (refuse Busy w))) ≡ None
-    step true = quiet c c.side
-    step false = refl
-
 -- Responses
-
--- the superior's connection is where it was, once another connection is changed
-same_superior : (key : Key) (number : ℕ) (f : Connection → Connection) (cs : List Connection) (c : Connection) → find (has_number number) cs ≡ Some c → is_superior_of key c ≡ false → is_superior_of key (f c) ≡ false → find (is_superior_of key) (changed (has_number number) f cs) ≡ find (is_superior_of key) cs
-same_superior key number f [] c is off later = absurd (none-some c is)
-same_superior key number f (x ∷ xs) c is off later = at (has_number number x) refl is (same_superior key number f xs c) where
-  at : (this : Bool) → has_number number x ≡ this → cond this (Some x) (find (has_number number) xs) ≡ Some c → (find (has_number number) xs ≡ Some c → is_superior_of key c ≡ false → is_superior_of key (f c) ≡ false → find (is_superior_of key) (changed (has_number number) f xs) ≡ find (is_superior_of key) xs) →
-      find (is_superior_of key) (cond this (f x ∷ xs) (x ∷ changed (has_number number) f xs)) ≡ cond (is_superior_of key x) (Some x) (find (is_superior_of key) xs)
-  at true so here rest =
-      let same : x ≡ c = same_Some x c here in
-      ap (λ b. cond b (Some (f x)) (find (is_superior_of key) xs)) (ap (λ d. is_superior_of key (f d)) same ∙ later) ∙ sym (ap (λ b. cond b (Some x) (find (is_superior_of key) xs)) (ap (is_superior_of key) same ∙ off))
-  at false so there rest = ap (λ found. cond (is_superior_of key x) (Some x) found) (rest there off later)
-
-kept_off : (key : Key) (at : ConnectionState) (role : Option Role) → asks_for key role ≡ false → asks_for key (role_in at role) ≡ false
-kept_off key states.Initial role off = off
-kept_off key states.Idle role off = refl
-kept_off key states.Begun role off = off
-kept_off key states.Enlisted role off = off
-kept_off key states.Prepared role off = off
-kept_off key states.Error role off = off
-
-advanced_off : (key : Key) (to : Option (ConnectionState × Turn)) (c : Connection) → is_superior_of key c ≡ false → is_superior_of key (advanced_to to c) ≡ false
-advanced_off key None c off = off
-advanced_off key (Some place) c off = kept_off key place.0 c.role off
-
-none_altered : (key : Key) (f : Transaction → Transaction) (w : Work) → transaction_of key w.state ≡ None → transaction_of key (alter key f w).state ≡ None
-none_altered key f w none = ap (find (has_key key)) (change_none (has_key key) f w.state.transactions none) ∙ none
 
 proceed_none : (key : Key) (w : Work) → transaction_of key w.state ≡ None → wanted (proceed key w) ≡ None
 unfolding proceed
 proceed_none key w none = ap (λ o. wanted (attempt_on o (λ t. proceed_in t.phase t) w)) none
 
 module _ (w : Work) (c : Connection) (there : connection_of c.number w.state ≡ Some c) where
-  owed_after : (name : CommandName) (said : ResponseName) (key : Key) (place : Key × ℕ) → part_of c.role ≡ Some place → owed_to_superior key (go_on name said c w).state ≡ owed_to_superior key w.state
-  owed_after name said key place is =
-      let off : is_superior_of key c ≡ false = at c.role is in
-      ap (option_and_then (λ d. d.owed)) (same_superior key c.number (advanced name said) w.state.connections c there off (advanced_off key (next_of name c.state said) c off)) where
-        at : (role : Option Role) → part_of role ≡ Some place → asks_for key role ≡ false
-        at None so = refl
-        at (Some (Superior other)) so = absurd (none-some place so)
-        at (Some (Subordinate other part)) so = refl
-
-  noted_wants : (n : Note) (name : CommandName) (said : ResponseName) → wanted (noting_as n c.role (go_on name said c w)) ≡ wanted_of_part n (part_of c.role) w.state
+  noted_wants : (n : Note) (name : CommandName) (said : ResponseName) → wanted (noting_as n c.role (go_on name said c w)) ≡ change_of (wanted_of_part n (part_of c.role) w.state)
   noted_wants n name said = step (part_of c.role) refl where
     -- the transaction of the part
-    on : (key : Key) (part : ℕ) → part_of c.role ≡ Some (key, part) → (found : Option Transaction) → transaction_of key w.state ≡ found → wanted (proceed key (alter key (noting part (noted n)) (go_on name said c w))) ≡ option_and_then (wanted_noting n part w.state) found
+    on : (key : Key) (part : ℕ) → part_of c.role ≡ Some (key, part) → (found : Option Transaction) → transaction_of key w.state ≡ found → wanted (proceed key (alter key (noting part (noted n)) (go_on name said c w))) ≡ change_of (option_map_or (wanted_noting n part w.state) found Course.Stays)
     on key part is None none = proceed_none key _ (none_altered key (noting part (noted n)) (go_on name said c w) none)
     on key part is (Some t) found =
         proceed_wants key _ (noting part (noted n) t) (found_changed key (noting part (noted n)) w.state.transactions t found (found_passes (has_key key) w.state.transactions t found))
-        ∙ ap (λ owed. wished owed (outlook (noting part (noted n) t))) (owed_after name said t.key (key, part) is)
+        ∙ ap (λ owed. wished owed (outlook (noting part (noted n) t))) (owed_after w c there name said t.key (key, part) is)
 
-    step : (place : Option (Key × ℕ)) → part_of c.role ≡ place → wanted (noting_as n c.role (go_on name said c w)) ≡ wanted_of_part n place w.state
+    step : (place : Option (Key × ℕ)) → part_of c.role ≡ place → wanted (noting_as n c.role (go_on name said c w)) ≡ change_of (wanted_of_part n place w.state)
     step None is = ap wanted (noting_nobody n c.role (go_on name said c w) is)
     step (Some place) is = ap wanted (noting_part_of n c.role place.0 place.1 (go_on name said c w) is) ∙ on place.0 place.1 is (transaction_of place.0 w.state) refl
 
-  responding_wants : (n : Option Note) (name : CommandName) (said : AResponse) → wanted (responding n name said c w) ≡ answer_wanted n c w.state
+  responding_wants : (n : Option Note) (name : CommandName) (said : AResponse) → wanted (responding n name said c w) ≡ change_of (answer_wanted n c w.state)
   responding_wants None name said = refl
   responding_wants (Some n) name said = noted_wants n name (response_name said)
 
@@ -350,49 +247,55 @@ module _ (w : Work) (c : Connection) (there : connection_of c.number w.state ≡
   identifying_wants purpose None said = refl
   identifying_wants purpose (Some version) said = refl
 
-  querying_wants : (exists : Option Bool) (key : Key) (said : AResponse) → wanted (querying exists key said c w) ≡ query_wanted exists key c w.state
+  querying_wants : (exists : Option Bool) (key : Key) (said : AResponse) → wanted (querying exists key said c w) ≡ change_of (query_wanted exists key c w.state)
   querying_wants None key said = refl
   querying_wants (Some true) key said = refl
   querying_wants (Some false) key said = by (transaction_of key w.state) where
-    by : (found : Option Transaction) → wanted (attempt_on found (presume_abort c) (go_on command.Query names.QueriedNotFound c w)) ≡ option_and_then (presume_wanted (forgotten c w.state)) found
+    by : (found : Option Transaction) → wanted (attempt_on found (presume_abort c) (go_on command.Query names.QueriedNotFound c w)) ≡ change_of (option_map_or (presume_wanted (forgotten c w.state)) found Course.Stays)
     by None = refl
     by (Some t) = step (is_in_doubt (forgotten c w.state) t) where
-      step : (b : Bool) → wanted (cond b (Attempt.Asks (Remove t.key) (abort t.key (go_on command.Query names.QueriedNotFound c w)) (closed c (go_on command.Query names.QueriedNotFound c w))) (Attempt.Done (go_on command.Query names.QueriedNotFound c w))) ≡ cond b (Some (Remove t.key)) None
+      step : (b : Bool) → wanted (cond b (Attempt.Asks (Remove t.key) (abort t.key (go_on command.Query names.QueriedNotFound c w)) (closed c (go_on command.Query names.QueriedNotFound c w))) (Attempt.Done (go_on command.Query names.QueriedNotFound c w))) ≡ change_of (cond b (Course.Asks (Remove t.key)) Course.Stays)
       step true = refl
       step false = refl
 
-  said_wants : (said : AResponse) → wanted (hear Primary (Response said) c w) ≡ said_wanted (awaits_of c.awaited) said c w.state
+  said_wants : (said : AResponse) → wanted (hear Primary (Response said) c w) ≡ change_of (said_wanted (awaits_of c.awaited) said c w.state)
   said_wants said = step c.awaited refl where
-    of_part : (a : Option Awaited) → c.awaited ≡ a → (name : CommandName) → awaits_of a ≡ awaits.OfPart name → wanted (hear Primary (Response said) c w) ≡ said_wanted (awaits_of c.awaited) said c w.state
-    of_part a is name so = ap wanted (hears_part said c w name (ap awaits_of is ∙ so)) ∙ responding_wants (note_of c.awaited said) name said ∙ sym (ap (λ k. said_wanted k said c w.state) (ap awaits_of is ∙ so))
+    of_part : (a : Option Awaited) → c.awaited ≡ a → (name : CommandName) → awaits_of a ≡ awaits.OfPart name → wanted (hear Primary (Response said) c w) ≡ change_of (said_wanted (awaits_of c.awaited) said c w.state)
+    of_part a is name so = ap wanted (hears_part said c w name (ap awaits_of is ∙ so)) ∙ responding_wants (note_of c.awaited said) name said ∙ sym (ap (λ k. change_of (said_wanted k said c w.state)) (ap awaits_of is ∙ so))
 
-    step : (a : Option Awaited) → c.awaited ≡ a → wanted (hear Primary (Response said) c w) ≡ said_wanted (awaits_of c.awaited) said c w.state
-    step None is = ap wanted (hears_nothing said c w is) ∙ ap (λ b. said_wanted (awaits_of b) said c w.state) (sym is)
-    step (Some (awaited.Identify purposes.Plain)) is = ap wanted (hears_identified said c w (ap awaits_of is)) ∙ identifying_wants purposes.Plain (version_of said) said ∙ ap (λ b. said_wanted (awaits_of b) said c w.state) (sym is)
-    step (Some (awaited.Identify (purposes.Query id))) is = ap wanted (hears_to_ask said c w (ap awaits_of is)).1.1 ∙ identifying_wants (purposes.Query (hears_to_ask said c w (ap awaits_of is)).0) (version_of said) said ∙ ap (λ b. said_wanted (awaits_of b) said c w.state) (sym is)
-    step (Some (awaited.Identify (purposes.Reconnect id place))) is = let heard = hears_to_reach said c w (ap awaits_of is) in ap wanted heard.1.1 ∙ identifying_wants (purposes.Reconnect heard.0.0 heard.0.1) (version_of said) said ∙ ap (λ b. said_wanted (awaits_of b) said c w.state) (sym is)
+    step : (a : Option Awaited) → c.awaited ≡ a → wanted (hear Primary (Response said) c w) ≡ change_of (said_wanted (awaits_of c.awaited) said c w.state)
+    step None is = ap wanted (hears_nothing said c w is) ∙ ap (λ b. change_of (said_wanted (awaits_of b) said c w.state)) (sym is)
+    step (Some (awaited.Identify purposes.Plain)) is = ap wanted (hears_identified said c w (ap awaits_of is)) ∙ identifying_wants purposes.Plain (version_of said) said ∙ ap (λ b. change_of (said_wanted (awaits_of b) said c w.state)) (sym is)
+    step (Some (awaited.Identify (purposes.Query id))) is = ap wanted (hears_to_ask said c w (ap awaits_of is)).1.1 ∙ identifying_wants (purposes.Query (hears_to_ask said c w (ap awaits_of is)).0) (version_of said) said ∙ ap (λ b. change_of (said_wanted (awaits_of b) said c w.state)) (sym is)
+    step (Some (awaited.Identify (purposes.Reconnect id place))) is = let heard = hears_to_reach said c w (ap awaits_of is) in ap wanted heard.1.1 ∙ identifying_wants (purposes.Reconnect heard.0.0 heard.0.1) (version_of said) said ∙ ap (λ b. change_of (said_wanted (awaits_of b) said c w.state)) (sym is)
     step (Some awaited.Push) is = of_part (Some awaited.Push) is command.Push refl
-    step (Some awaited.Pull) is = ap wanted (hears_pull said c w (ap awaits_of is)) ∙ pulling_wants (pulled_of said) said ∙ ap (λ b. said_wanted (awaits_of b) said c w.state) (sym is)
+    step (Some awaited.Pull) is = ap wanted (hears_pull said c w (ap awaits_of is)) ∙ pulling_wants (pulled_of said) said ∙ ap (λ b. change_of (said_wanted (awaits_of b) said c w.state)) (sym is)
     step (Some awaited.Prepare) is = of_part (Some awaited.Prepare) is command.Prepare refl
     step (Some awaited.Commit) is = of_part (Some awaited.Commit) is command.Commit refl
     step (Some awaited.Abort) is = of_part (Some awaited.Abort) is command.Abort refl
-    step (Some (awaited.Query key)) is = ap wanted (hears_query said c w key (ap awaits_of is)) ∙ querying_wants (exists_of said) key said ∙ ap (λ b. said_wanted (awaits_of b) said c w.state) (sym is)
+    step (Some (awaited.Query key)) is = ap wanted (hears_query said c w key (ap awaits_of is)) ∙ querying_wants (exists_of said) key said ∙ ap (λ b. change_of (said_wanted (awaits_of b) said c w.state)) (sym is)
     step (Some awaited.Reconnect) is = of_part (Some awaited.Reconnect) is command.Reconnect refl
 
-  heard_wants : (side : Side) → c.side ≡ side → (said : AResponse) → wanted (hear side (Response said) c w) ≡ cond (not (is_secondary side)) (said_wanted (awaits_of c.awaited) said c w.state) None
-  heard_wants Primary is said = said_wants said
-  heard_wants Secondary is said = refl
+  -- we hear responses as the primary
+  heard_wants : (side : Side) → (said : AResponse) → wanted (hear side (Response said) c w) ≡ change_of (taken_wanted side (Response said) c w.state)
+  heard_wants Primary said = said_wants said
+  heard_wants Secondary said = refl
 
-  taken_response : (said : AResponse) → wanted (cond (may_take c) (hear c.side (Response said) c w) (Attempt.Done (refuse Busy w))) ≡ response_wanted (Some c) said w.state
-  taken_response said = step (may_take c) where
-    step : (b : Bool) → wanted (cond b (hear c.side (Response said) c w) (Attempt.Done (refuse Busy w))) ≡ cond (b && not (is_secondary c.side)) (said_wanted (awaits_of c.awaited) said c w.state) None
-    step true = heard_wants c.side refl said
-    step false = refl
+-- Lines
 
-response_wants : (w : Work) (found : Option Connection) → ((c : Connection) → found ≡ Some c → connection_of c.number w.state ≡ Some c) → (said : AResponse) → wanted (line found (Response said) w) ≡ response_wanted found said w.state
+module _ (w : Work) (c : Connection) (there : connection_of c.number w.state ≡ Some c) where
+  taken_wants : (heard : Heard) → wanted (hear c.side heard c w) ≡ change_of (taken_wanted c.side heard c w.state)
+  taken_wants (Command line) = hear_wants w c there c.side line
+  taken_wants (Response said) = heard_wants w c there c.side said
+  taken_wants Malformed = quiet_line c.side c w
+
+line_wants : (heard : Heard) (w : Work) (found : Option Connection) → ((c : Connection) → found ≡ Some c → connection_of c.number w.state ≡ Some c) → wanted (line found heard w) ≡ change_of (option_map_or (λ c. line_wanted heard c w.state) found Course.Stays)
 unfolding line
-response_wants w None there said = refl
-response_wants w (Some c) there said = taken_response w c (there c refl) said
+line_wants heard w None there = refl
+line_wants heard w (Some c) there = step (may_take c) where
+  step : (b : Bool) → wanted (cond b (hear c.side heard c w) (Attempt.Done (refuse Busy w))) ≡ change_of (cond b (taken_wanted c.side heard c w.state) Course.Stays)
+  step true = taken_wants w c (there c refl) heard
+  step false = refl
 
 -- Parties that come back
 
@@ -416,7 +319,7 @@ module _ (party : PartyNotes) (w : Work) (t : Transaction) (found : transaction_
   back_there : transaction_of t.key (alter t.key (standing_at (Here party)) w).state ≡ Some (standing_at (Here party) t)
   back_there = altered_there t (standing_at (Here party)) (λ u. refl) w found
 
-  vote_wants : (place : PartyPlace) → wanted (voted_for place party t w) ≡ vote_wanted place party t w.state
+  vote_wants : (place : PartyPlace) → wanted (voted_for place party t w) ≡ change_of (vote_wanted place party t w.state)
   vote_wants (Here other) = refl
   vote_wants (Out errand.Idle) = refl
   vote_wants (Out errand.Vote) = proceed_wants t.key _ (noting 0 (answered (party_answer party)) (standing_at (Here party) t)) (altered_there (standing_at (Here party) t) (noting 0 (answered (party_answer party))) (λ u. refl) (alter t.key (standing_at (Here party)) w) back_there)
@@ -431,7 +334,7 @@ module _ (party : PartyNotes) (w : Work) (t : Transaction) (found : transaction_
       ∙ ap (λ b. cond b (give_out (errand_in t.phase) party t.key (alter t.key (standing_at (Here party)) w)) (let_go party t.key (alter t.key (standing_at (Here party)) w))) is)
       ∙ proceed_wants t.key (let_go party t.key (alter t.key (standing_at (Here party)) w)) (standing_at Spent t) (altered_there (standing_at (Here party) t) (standing_at Spent) (λ u. refl) (alter t.key (standing_at (Here party)) w) back_there)
 
-  settled_wants : (place : PartyPlace) → wanted (settled_for place party t w) ≡ settled_wanted place party t w.state
+  settled_wants : (place : PartyPlace) → wanted (settled_for place party t w) ≡ change_of (settled_wanted place party t w.state)
   settled_wants (Here other) = refl
   settled_wants (Out errand.Idle) = refl
   settled_wants (Out errand.Vote) = refl
@@ -440,43 +343,45 @@ module _ (party : PartyNotes) (w : Work) (t : Transaction) (found : transaction_
   settled_wants Spent = refl
 
 module _ (party : PartyNotes) (w : Work) where
-  voted_wants : (found : Option Transaction) → owner party w.state ≡ found → wanted (voted found party w) ≡ option_and_then (λ t. vote_wanted t.place party t w.state) found
+  voted_wants : (found : Option Transaction) → owner party w.state ≡ found → wanted (voted found party w) ≡ change_of (option_map_or (λ t. vote_wanted t.place party t w.state) found Course.Stays)
   unfolding voted
   voted_wants None is = refl
   voted_wants (Some t) is = vote_wants party w t (owned_there party w.state t is) t.place
 
-  settled_all : (found : Option Transaction) → owner party w.state ≡ found → wanted (settled found party w) ≡ option_and_then (λ t. settled_wanted t.place party t w.state) found
+  settled_all : (found : Option Transaction) → owner party w.state ≡ found → wanted (settled found party w) ≡ change_of (option_map_or (λ t. settled_wanted t.place party t w.state) found Course.Stays)
   unfolding settled
   settled_all None is = refl
   settled_all (Some t) is = settled_wants party w t (owned_there party w.state t is) t.place
 
 -- What is tried again
 
-resumes : (found : Option Transaction) (w : Work) → wanted (resume found w) ≡ option_and_then resume_wanted found
+asked_for : (change : Option Change) → change ≡ change_of (asking_for change)
+asked_for None = refl
+asked_for (Some change) = refl
+
+resumes : (found : Option Transaction) (w : Work) → wanted (resume found w) ≡ change_of (option_map_or resume_wanted found Course.Stays)
 unfolding resume
 resumes None w = refl
 resumes (Some t) w = step (is_committed t.phase) where
-  over : (done : Bool) → is_done t ≡ done → wanted (cond done (finish t w) (Attempt.Done (refuse Busy w))) ≡ finished (outlook t)
-  over true is = finish_wants t w
-  over false is = sym (ap (λ b. cond b (Some (Remove t.key)) None) (sym (over_done t) ∙ is))
+  over : (done : Bool) → is_done t ≡ done → wanted (cond done (finish t w) (Attempt.Done (refuse Busy w))) ≡ change_of (asking_for (finished (outlook t)))
+  over true is = finish_wants t w ∙ asked_for (finished (outlook t))
+  over false is = sym (ap (λ b. change_of (asking_for (cond b (Some (Remove t.key)) None))) (sym (over_done t) ∙ is))
 
-  at : (place : PartyPlace) → wanted (resume_in place t w) ≡ resumed_at place t
+  at : (place : PartyPlace) → wanted (resume_in place t w) ≡ change_of (resumed_at place t)
   at (Here party) = refl
   at (Out errand) = refl
   at Spent = over (is_done t) refl
 
-  step : (b : Bool) → wanted (cond b (resume_in t.place t w) (Attempt.Done (refuse NotActive w))) ≡ cond b (resumed_at t.place t) None
+  step : (b : Bool) → wanted (cond b (resume_in t.place t w) (Attempt.Done (refuse NotActive w))) ≡ change_of (cond b (resumed_at t.place t) Course.Stays)
   step true = at t.place
   step false = refl
 
 -- Any event
 
-attempt_wants : (event : Event) (w : Work) → wanted (attempt event w) ≡ foreseen event w.state
+attempt_wants : (event : Event) (w : Work) → wanted (attempt event w) ≡ change_of (foreseen event w.state)
 attempt_wants (Open boxes) w = refl
 attempt_wants (Dial address purpose boxes) w = refl
-attempt_wants (Line seat (Command line)) w = line_wants w (seated seat w.state) (seated_there seat w.state) line
-attempt_wants (Line seat (Response said)) w = response_wants w (seated seat w.state) (seated_there seat w.state) said
-attempt_wants (Line seat Malformed) w = other_line w (seated seat w.state) Malformed (λ c side. quiet_line side c w)
+attempt_wants (Line seat heard) w = line_wants heard w (seated seat w.state) (seated_there seat w.state)
 attempt_wants (Voted party) w = voted_wants party w (owner party w.state) refl
 attempt_wants (Settled party) w = settled_all party w (owner party w.state) refl
 attempt_wants (Lost seat) w = refl
@@ -500,10 +405,6 @@ module _ (state : State) where
   command_before commands.Tls c = refl
   command_before commands.Error c = refl
 
-  line_before : (found : Option Connection) (line : ACommand) → line_wanted found line (entered state).state ≡ line_wanted found line state
-  line_before None line = refl
-  line_before (Some c) line = ap (λ change. cond (may_take c && is_admitted (admit_of c.state c.side (name_of line))) change None) (command_before line c)
-
   part_before : (n : Note) (place : Option (Key × ℕ)) → wanted_of_part n place (entered state).state ≡ wanted_of_part n place state
   part_before n None = refl
   part_before n (Some place) = refl
@@ -526,9 +427,13 @@ module _ (state : State) where
   said_before awaits.Pulled said c = refl
   said_before (awaits.Queried key) said c = query_before (exists_of said) key c
 
-  response_before : (found : Option Connection) (said : AResponse) → response_wanted found said (entered state).state ≡ response_wanted found said state
-  response_before None said = refl
-  response_before (Some c) said = ap (λ change. cond (hears_responses c) change None) (said_before (awaits_of c.awaited) said c)
+  taken_before : (side : Side) (heard : Heard) (c : Connection) → taken_wanted side heard c (entered state).state ≡ taken_wanted side heard c state
+  taken_before Secondary (Command line) c = ap (λ course. cond (is_admitted (admit_of c.state c.side (name_of line))) course Course.Stays) (command_before line c)
+  taken_before Primary (Command line) c = refl
+  taken_before Secondary (Response said) c = refl
+  taken_before Primary (Response said) c = said_before (awaits_of c.awaited) said c
+  taken_before Secondary Malformed c = refl
+  taken_before Primary Malformed c = refl
 
   vote_before : (place : PartyPlace) (party : PartyNotes) (t : Transaction) → vote_wanted place party t (entered state).state ≡ vote_wanted place party t state
   vote_before (Here other) party t = refl
@@ -546,18 +451,19 @@ module _ (state : State) where
   settled_before (Out errand.Abort) party t = refl
   settled_before Spent party t = refl
 
-  seen_before : (event : Event) → foreseen event (entered state).state ≡ foreseen event state
+  pub seen_before : (event : Event) → foreseen event (entered state).state ≡ foreseen event state
   seen_before (Open boxes) = refl
   seen_before (Dial address purpose boxes) = refl
-  seen_before (Line seat (Command line)) = line_before (seated seat state) line
-  seen_before (Line seat (Response said)) = response_before (seated seat state) said
-  seen_before (Line seat Malformed) = refl
+  seen_before (Line seat heard) = by (seated seat state) where
+    by : (found : Option Connection) → option_map_or (λ c. line_wanted heard c (entered state).state) found Course.Stays ≡ option_map_or (λ c. line_wanted heard c state) found Course.Stays
+    by None = refl
+    by (Some c) = ap (λ course. cond (may_take c) course Course.Stays) (taken_before c.side heard c)
   seen_before (Voted party) = by (owner party state) where
-    by : (found : Option Transaction) → option_and_then (λ t. vote_wanted t.place party t (entered state).state) found ≡ option_and_then (λ t. vote_wanted t.place party t state) found
+    by : (found : Option Transaction) → option_map_or (λ t. vote_wanted t.place party t (entered state).state) found Course.Stays ≡ option_map_or (λ t. vote_wanted t.place party t state) found Course.Stays
     by None = refl
     by (Some t) = vote_before t.place party t
   seen_before (Settled party) = by (owner party state) where
-    by : (found : Option Transaction) → option_and_then (λ t. settled_wanted t.place party t (entered state).state) found ≡ option_and_then (λ t. settled_wanted t.place party t state) found
+    by : (found : Option Transaction) → option_map_or (λ t. settled_wanted t.place party t (entered state).state) found Course.Stays ≡ option_map_or (λ t. settled_wanted t.place party t state) found Course.Stays
     by None = refl
     by (Some t) = settled_before t.place party t
   seen_before (Lost seat) = refl
@@ -565,10 +471,11 @@ module _ (state : State) where
   seen_before (AskPull seat superior) = refl
   seen_before (Resume id) = refl
 
-pub wants_here : (state : State) (event : Event) → is_open state ≡ true → wants state event ≡ foreseen event state
-wants_here state event is = ap (λ b. cond b (wanted (attempt event (entered state))) None) is ∙ attempt_wants event (entered state) ∙ seen_before state event
+-- the change of what was read ahead is the one that is wanted
+pub wants_here : (state : State) (event : Event) (next : Next) → is_open state ≡ true → Meets (foreseen event state) next → next.change ≡ wants state event
+wants_here state event next is meets = sym (ap (λ b. cond b (wanted (attempt event (entered state))) None) is ∙ attempt_wants event (entered state) ∙ ap change_of (seen_before state event) ∙ sym meets.change)
 
 pub wants_frozen : (state : State) (event : Event) → is_open state ≡ false → wants state event ≡ None
 wants_frozen state event is = ap (λ b. cond b (wanted (attempt event (entered state))) None) is
 
-pub ruleset wanting = (wants_here, wants_frozen)
+pub ruleset wanting = (wants_frozen)

@@ -3,6 +3,7 @@ use Rattle.std.proofs.Common.{◌≡◌, ◌≢◌, ◌<◌, ◌≤◌, ◌+◌,
 use Rattle.std.specs.Prelude.{find, is_some}
 use Rattle.std.specs.Option.{option_and_then, option_map_or}
 use Rattle.std.proofs.lemmas.Bool.Decides.{nat_tests}
+use Rattle.std.proofs.lemmas.Option.{same_Some}
 use Rattle.tip_conn.specs.declared.state.Side.{Side}
 use Rattle.tip_conn.specs.declared.state.Side.TheVariants.{Primary}
 use Rattle.tip_line.specs.declared.command.Command.{Command as ACommand}
@@ -36,6 +37,9 @@ use Rattle.tip_machine.proofs.Counting.{entered_below}
 use Rattle.tip_rules.proofs.Works.{then}
 use Rattle.tip_rules.specs.Growing.{CanGrow}
 use Rattle.tip_rules.specs.Needs.{HasNeeds, IsReady, begins, begins_on, happened, joined, lines_needed, peer_needed, room_on, transactions_for, ours_needed, word_needed}
+use Rattle.tip_outlook.specs.Endings.{EndsBy}
+use Rattle.tip_outlook.specs.Wanting.{Course, foreseen, line_wanted, taken_wanted}
+use Rattle.tip_rules.proofs.Foreseeing.{seen_before}
 use Rattle.tip_rules.specs.Pursuing.{word_for}
 use Rattle.tip_rules.specs.Rooms.{room_for}
 use Rattle.tip_outlook.specs.Searches.{is_named}
@@ -92,7 +96,16 @@ module _ (a b : Held) (seat : Seat) (heard : Heard) (outcome : Outcome) where
     pub line_heard : (side : Side) → may_take c ≡ true → c.side ≡ side → ((d : Connection) → connection_of seat.number (work_of a).state ≡ Some d → Does a b (chosen (hear side heard d (work_of a)) outcome)) → Does a b (chosen (line (seated seat (work_of a).state) heard (work_of a)) outcome)
     line_heard side is at does = taken_so true is (subst (λ s. Does a b (chosen (hear s heard c (work_of a)) outcome)) (sym at) (does c there))
 
-pub ruleset lining = (line_stale, line_busy, line_heard)
+-- what was decided of a line that is taken
+pub line_next : (held : Held) (seat : Seat) (heard : Heard) (here : Connection) → seated seat (work_of held).state ≡ connection_of seat.number (work_of held).state → connection_of seat.number (work_of held).state ≡ Some here → may_take here ≡ true → (side : Side) → here.side ≡ side → EndsBy (foreseen (Line seat heard) (work_of held).state) held.endings →
+    (c : Connection) → connection_of seat.number (work_of held).state ≡ Some c → EndsBy (taken_wanted side heard c (work_of held).state) held.endings
+line_next held seat heard here same there takes side at ends c found =
+    subst (λ (d : Connection). EndsBy (taken_wanted side heard d (work_of held).state) held.endings) (same_Some here c (sym there ∙ found))
+    (subst (λ s. EndsBy (taken_wanted s heard here (work_of held).state) held.endings) at
+    (subst (λ b. EndsBy (cond b (taken_wanted here.side heard here (work_of held).state) Course.Stays) held.endings) takes
+    (subst (λ o. EndsBy (option_map_or (λ (d : Connection). line_wanted heard d (work_of held).state) o Course.Stays) held.endings) (same ∙ there) ends)))
+
+pub ruleset lining = (line_stale, line_busy, line_heard, line_next)
 
 -- Events
 
@@ -221,6 +234,7 @@ module _ (a b : Held) (event : Event) (here : a.realm < length a.heads.items) (c
     numbered = subst (λ (s : State). are_numbered s ≡ true) (sym state_is) counts.numbered;
     lines = let same = ap (lines_needed event) state_is ∙ needed_before event (work_of a).state in let free : b.making.free ≡ a.making.free = ap (λ (h : Held). h.making.free) rest in let enough = needs.lines in omega (arith, same, free, enough);
     connections = let free : b.connections.free ≡ a.connections.free = ap (λ (h : Held). h.connections.free) rest in let enough = needs.connections in omega (arith, free, enough);
+    endings = subst (λ e. EndsBy (foreseen event (work_of b).state) e) (sym (ap (λ (h : Held). h.endings) rest)) (subst (λ course. EndsBy course a.endings) (sym (ap (foreseen event) state_is ∙ seen_before (work_of a).state event)) (needs.endings open_is));
     able = λ number begins_there c there room. able_at number begins_there c (sym (ap (connection_of number) state_is) ∙ there) (sym (ap (has_room c) state_is) ∙ room);
     part = λ id joins item found. needs.part id joins item (sym (ap (λ (h : Held). find (is_named (work_of a).state.head.name id) (of h.transactions h.realm)) rest) ∙ ap (λ (s : State). find (is_named s.head.name id) (of b.transactions b.realm)) (sym state_is) ∙ found);
     peer = ap (λ (h : Held). h.making.peer) rest ∙ needs.peer ∙ sym (peer_before event (work_of a).state) ∙ sym (ap (peer_needed event) state_is);

@@ -22,6 +22,7 @@ use Rattle.tip_machine.specs.declared.head.Head.{Head}
 use Rattle.tip_rules.specs.Standing.{standing_of, standing_on}
 use Rattle.tip_outlook.specs.Searches.{HeldTransaction}
 use Rattle.tip_rules.specs.Makings.{Made}
+use Rattle.tip_outlook.specs.declared.next.Endings.{Endings}
 use Rattle.tip_rules.specs.Works.{Held, Realms, Tables, connected, no_head, state_in, state_of, tables_in, working}
 use Rattle.tip_rules.specs.declared.standing.Standing.{Standing}
 use Rattle.tip_rules.specs.declared.standing.Standing.TheVariants.{Gone}
@@ -56,12 +57,12 @@ same_state s t head connections transactions =
     ∙ ap (λ (ts : List Transaction). record { head = t.head; connections = t.connections; transactions = ts }) transactions
 
 -- tables that were lent, and in which no item has changed
-module _ (old mid new : Realms) (realm : ℕ) (outcome : Outcome) (idle back : Made) (lent prepared : Held)
-    (is_lent : lent ≡ working realm outcome idle old)
+module _ (old mid new : Realms) (realm : ℕ) (outcome : Outcome) (endings : Endings) (idle back : Made) (lent prepared : Held)
+    (is_lent : lent ≡ working realm outcome endings idle old)
     (connections : (r : ℕ) → of prepared.connections r ≡ of lent.connections r)
     (transactions : (r : ℕ) → map seen (of prepared.transactions r) ≡ map seen (of lent.transactions r))
     (rest : prepared ≡ record lent { connections = prepared.connections; transactions = prepared.transactions })
-    (taken : working prepared.realm prepared.outcome back new ≡ prepared)
+    (taken : working prepared.realm prepared.outcome prepared.endings back new ≡ prepared)
     (lends : (other : ℕ) → other ≢ realm → tables_in other mid ≡ tables_in other old)
     (takes : (other : ℕ) → other ≢ prepared.realm → tables_in other new ≡ tables_in other mid) where
   own : prepared.realm ≡ realm

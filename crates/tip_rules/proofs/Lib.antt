@@ -22,3 +22,4 @@ pub mod Happening
 pub mod Joining
 pub mod Lending
 pub mod Superiors
+pub mod Owing

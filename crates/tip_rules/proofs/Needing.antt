@@ -1,7 +1,7 @@
 -- What an event needs is counted on the tables.
-use Rattle.std.proofs.Common.{◌≡◌, ◌<◌, ◌+◌, ℕ, List, [], ◌∷◌, Bool, true, false, cond, Option, Some, None, inl, inr, map, refl, ap, arith, subst, sym, ◌∙◌}
+use Rattle.std.proofs.Common.{◌≡◌, ◌≢◌, ◌<◌, ◌+◌, ◌==◌, ℕ, List, [], ◌∷◌, Bool, true, false, cond, Option, Some, None, inl, inr, map, refl, ap, arith, subst, sym, ◌∙◌}
 use Rattle.std.specs.Prelude.{find, option_map}
-use Rattle.std.specs.Option.{option_and_then, option_map_or}
+use Rattle.std.specs.Option.{option_and_then}
 use Rattle.std.proofs.lemmas.Bool.{cases_eq}
 use Rattle.std.proofs.lemmas.Bool.Decides.{nat_tests}
 use Rattle.std.proofs.lemmas.Option.{none-some, same_Some}
@@ -11,10 +11,11 @@ use Rattle.tip_table.specs.Kept.{StandsAt, item_at, of, with_item_at}
 use Rattle.tip_table.specs.Lists.{changed}
 use Rattle.tip_table.proofs.Standing.{write, write_others}
 use Rattle.tip_table.proofs.Standing.{found as found_first}
-use Rattle.tip_machine.specs.Connections.{has_number, key_queried}
+use Rattle.tip_machine.specs.Connections.{has_number}
 use Rattle.tip_machine.specs.Counts.{HasCounts}
 use Rattle.tip_machine.specs.Requests.{owner}
-use Rattle.tip_machine.specs.States.{connection_of, has_room, transaction_of}
+use Rattle.tip_machine.specs.States.{connection_of, has_room, seated, transaction_of}
+use Rattle.tip_machine.specs.declared.event.Seat.{Seat}
 use Rattle.tip_machine.specs.Steps.{is_open}
 use Rattle.tip_machine.specs.Transactions.{has_key, next_key}
 use Rattle.tip_machine.specs.Types.{Connection, Event, Transaction, seen}
@@ -25,13 +26,11 @@ use Rattle.tip_rules.proofs.Works.{find-seen}
 use Rattle.tip_machine.proofs.Counting.{entered_below}
 use Rattle.tip_machine.proofs.Walks.{found-number}
 use Rattle.tip_rules.specs.Growing.{CanGrow}
-use Rattle.tip_rules.specs.Needs.{MayJoin, begins_on, joined_by, room_needed, room_on}
+use Rattle.tip_machine.specs.declared.event.Event.TheVariants.{AskPull, AskPush, Dial, Line, Lost, Open, Resume, Settled, Voted}
+use Rattle.tip_rules.specs.Needs.{MayJoin, begins, begins_on, joined_by, number_in, own_of, room_needed, room_on}
 use Rattle.tip_rules.specs.Rooms.{TransactionRoom, room_for}
 use Rattle.tip_outlook.specs.Searches.{HeldTransaction, is_keyed, is_named}
-use Rattle.tip_rules.specs.Works.{Held, lines_as, lines_at, lines_for, lines_of, peer_of, work_of}
-
-pub lines_there : (held : Held) (number place : ℕ) (item : Connection) → StandsAt held.connections held.realm (has_number number) place → item_at held.connections place ≡ Some item → (lines : ℕ) → lines ≡ lines_as item.role (work_of held).state → lines ≡ lines_at number (work_of held).state
-lines_there held number place item here is lines same = same ∙ sym (ap (λ o. option_map_or (λ c. lines_as c.role (work_of held).state) o 0) (standing_number held number place item here is))
+use Rattle.tip_rules.specs.Works.{Held, lines_for, lines_of, work_of}
 
 -- where the transaction of a key stands, it is open
 pub keyed_there : (held : Held) (key : Key) (place : ℕ) → StandsAt held.transactions held.realm (is_keyed key) place → (t : Transaction) × (transaction_of key (work_of held).state ≡ Some t)
@@ -84,23 +83,50 @@ grown_part event realm id transactions is grows other also = subst (λ i. CanGro
 
 pub ruleset growing = (grown_nowhere)
 
--- where the other side of a connection is
+-- The connection that an event comes on
 
-pub peer_there : (held : Held) (number place : ℕ) (item : Connection) → StandsAt held.connections held.realm (has_number number) place → item_at held.connections place ≡ Some item → (peer : Option (List ℕ)) → peer ≡ item.peer → peer ≡ peer_of number (work_of held).state
-peer_there held number place item here is peer same = same ∙ sym (ap (λ o. option_and_then (λ c. c.peer) o) (standing_number held number place item here is))
+module _ (held : Held) (event : Event) where
+  own_so : (number : Option ℕ) → number_in event ≡ number → own_of event (work_of held).state ≡ option_and_then (λ n. connection_of n (work_of held).state) number
+  own_so number is = ap (option_and_then (λ n. connection_of n (work_of held).state)) is
 
-pub peer_nowhere : (held : Held) (number : ℕ) → connection_of number (work_of held).state ≡ None → None ≡ peer_of number (work_of held).state
-peer_nowhere held number none = sym (ap (λ o. option_and_then (λ (c : Connection). c.peer) o) none)
+  pub own_none : None ≡ number_in event → None ≡ own_of event (work_of held).state
+  own_none none = sym (own_so None (sym none))
 
-pub queried_there : (held : Held) (number place : ℕ) (item : Connection) → StandsAt held.connections held.realm (has_number number) place → item_at held.connections place ≡ Some item → (key : Option Key) → key ≡ key_queried item.awaited → key ≡ option_and_then (λ c. key_queried c.awaited) (connection_of number (work_of held).state)
-queried_there held number place item here is key same = same ∙ sym (ap (option_and_then (λ (c : Connection). key_queried c.awaited)) (standing_number held number place item here is))
+  pub own_nowhere : (number : ℕ) → Some number ≡ number_in event → connection_of number (work_of held).state ≡ None → None ≡ own_of event (work_of held).state
+  own_nowhere number is none = sym (own_so (Some number) (sym is) ∙ none)
 
-pub queried_nowhere : (held : Held) (number : ℕ) → connection_of number (work_of held).state ≡ None → None ≡ option_and_then (λ c. key_queried c.awaited) (connection_of number (work_of held).state)
-queried_nowhere held number none = sym (ap (option_and_then (λ (c : Connection). key_queried c.awaited)) none)
+  pub own_there : (number place : ℕ) (item : Connection) → Some number ≡ number_in event → StandsAt held.connections held.realm (has_number number) place → item_at held.connections place ≡ Some item → Some item ≡ own_of event (work_of held).state
+  own_there number place item is here at = sym (own_so (Some number) (sym is) ∙ standing_number held number place item here at)
 
-pub ruleset asking = (queried_there, queried_nowhere)
+pub ruleset owning = (own_none, own_nowhere, own_there)
 
-pub ruleset peering = (peer_there, peer_nowhere)
+-- it is the one of a seat of this start
+module _ (held : Held) (seat : Seat) where
+  pub seat_own : (own : Option Connection) → own ≡ connection_of seat.number (work_of held).state → seat.epoch ≡ (work_of held).state.head.epoch → own ≡ seated seat (work_of held).state
+  seat_own own same at = same ∙ sym (ap (λ b. cond b (connection_of seat.number (work_of held).state) None) (let is : (seat.epoch == (work_of held).state.head.epoch) ≡ true = grind (arith, nat_tests, at) in is))
+
+  pub seat_other : seat.epoch ≢ (work_of held).state.head.epoch → None ≡ seated seat (work_of held).state
+  seat_other differ = sym (ap (λ b. cond b (connection_of seat.number (work_of held).state) None) (let is : (seat.epoch == (work_of held).state.head.epoch) ≡ false = grind (arith, nat_tests, differ) in is))
+
+pub ruleset seating = (seat_own, seat_other)
+
+-- it is the one on which a transaction may begin
+begun_on : (event : Event) (number : ℕ) → begins_on event ≡ Some number → number_in event ≡ Some number
+begun_on (Open boxes) number is = absurd (none-some number is)
+begun_on (Dial address purpose boxes) number is = absurd (none-some number is)
+begun_on (Line seat heard) number is = step (begins heard) is where
+  step : (b : Bool) → cond b (Some seat.number) None ≡ Some number → Some seat.number ≡ Some number
+  step true at = at
+  step false at = absurd (none-some number at)
+begun_on (Voted party) number is = absurd (none-some number is)
+begun_on (Settled party) number is = absurd (none-some number is)
+begun_on (Lost seat) number is = absurd (none-some number is)
+begun_on (AskPush seat id) number is = absurd (none-some number is)
+begun_on (AskPull seat superior) number is = is
+begun_on (Resume id) number is = absurd (none-some number is)
+
+pub begun_own : (held : Held) (event : Event) (number : ℕ) → begins_on event ≡ Some number → (own : Option Connection) → own ≡ own_of event (work_of held).state → connection_of number (work_of held).state ≡ own
+begun_own held event number is own same = sym (own_so held event (Some number) (begun_on event number is)) ∙ sym same
 
 -- A transaction that may begin
 
@@ -136,6 +162,6 @@ module _ (held : Held) (event : Event) (number : ℕ) (begins : begins_on event 
 pub needed_none : (held : Held) (event : Event) → begins_on event ≡ None → None ≡ room_needed event (work_of held).state
 needed_none held event none = sym (ap (λ o. option_and_then (λ n. room_on n (work_of held).state) o) none)
 
-pub ruleset beginning = (numbered_there, made_there, needed_nowhere, needed_full, needed_there, needed_none)
+pub ruleset beginning = (begun_own, numbered_there, made_there, needed_nowhere, needed_full, needed_there, needed_none)
 
 pub ruleset counting = (lines_with_owner)

@@ -35,6 +35,7 @@ joined old connection connections added others room = record {
   transactions = refl;
   lines = refl;
   outcome = refl;
+  endings = refl;
 }
 
 seen-more : (items : List HeldTransaction) (item : HeldTransaction) → map seen (items ++ item ∷ []) ≡ map seen items ++ seen item ∷ []
@@ -53,6 +54,7 @@ begun_more old transaction transactions added others room = record {
   transactions = room;
   lines = refl;
   outcome = refl;
+  endings = refl;
 }
 
 opens_so : (boxes : List Badge) (w : Work) (room : Bool) → has_place (length boxes) w.state ≡ room → opened boxes w ≡ cond room (added (accepted boxes) w) (hand_back boxes (refuse Full w))

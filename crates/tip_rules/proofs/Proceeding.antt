@@ -12,12 +12,13 @@ use Rattle.tip_machine.specs.Connections.{is_on}
 use Rattle.tip_machine.specs.Proceeding.{abort, dispatch, dispatched, enter, errand_in, give_out, let_go, release}
 use Rattle.tip_machine.specs.Reactions.{aborts, react}
 use Rattle.tip_machine.specs.States.{Work, transaction_of}
-use Rattle.tip_machine.specs.Transactions.{has_ready, is_spent}
+use Rattle.tip_machine.specs.Transactions.{entering, has_key, has_ready, is_spent}
 use Rattle.tip_machine.specs.Types.{PartyPlace, Transaction, seen}
 use Rattle.tip_machine.specs.declared.transaction.PartyPlace.TheVariants.{Here, Out, Spent}
 use Rattle.tip_outlook.specs.Searches.{HeldTransaction}
 use Rattle.tip_rules.specs.Works.{Does, Held, work_of}
-use Rattle.tip_rules.proofs.Works.{may_entered, may_reacted, nothing, then}
+use Rattle.tip_table.proofs.Standing.{change_none}
+use Rattle.tip_rules.proofs.Works.{may_entered, may_idle, may_reacted, nothing, then}
 
 pub on_none : (key : Key) (rule : Transaction → Work → Work) (w : Work) → transaction_of key w.state ≡ None → on_key key rule w ≡ w
 on_none key rule w none = ap (λ found. on found rule w) none
@@ -51,10 +52,6 @@ quiet_dispatch key w = step (transaction_of key w.state) refl where
   step None is = (ap (λ v. v.state.connections) (dispatch_none key w is), ap (λ v. v.answer.sent) (dispatch_none key w is))
   step (Some t) is = (ap (λ v. v.state.connections) (dispatch_some key w t is) ∙ (at t.phase t.place).0, ap (λ v. v.answer.sent) (dispatch_some key w t is) ∙ (at t.phase t.place).1)
 
-pub dispatched_none : (s : Held) (key : Key) → transaction_of key (work_of s).state ≡ None → Does s s (dispatch key (work_of s))
-unfolding dispatch
-dispatched_none s key none = subst (Does s s) (sym (on_none key _ (work_of s) none)) (nothing s)
-
 module _ (s s' : Held) (key : Key) (t : HeldTransaction) (found : transaction_of key (work_of s).state ≡ Some (seen t)) where
   dispatch_is : (place : PartyPlace) → t.place ≡ place → dispatch key (work_of s) ≡ dispatched place t.txn.phase key (work_of s)
   unfolding dispatch
@@ -87,10 +84,6 @@ module _ (s s' : Held) (key : Key) (t : HeldTransaction) (found : transaction_of
   pub kept_unspent : is_spent t.place ≡ false → Does s s (release key (work_of s))
   kept_unspent unspent = subst (Does s s) (sym (release_is false (list_any (is_on key) (work_of s).state.connections) unspent refl)) (nothing s)
 
-pub released_none : (s : Held) (key : Key) → transaction_of key (work_of s).state ≡ None → Does s s (release key (work_of s))
-unfolding release
-released_none s key none = subst (Does s s) (sym (on_none key _ (work_of s) none)) (nothing s)
-
 -- Abort
 
 pub aborted : (a b c d e : Held) (key : Key) → Does a b (enter Aborted key (work_of a)) → Does b c (react aborts key (work_of b)) → Does c d (dispatch key (work_of c)) → Does d e (release key (work_of d)) → Does a e (abort key (work_of a))
@@ -98,8 +91,21 @@ unfolding abort
 aborted a b c d e key first second third fourth =
     then a d e (release key) _ (then a c d (dispatch key) _ (then a b c (react aborts key) _ first second) third) fourth
 
-pub ruleset dispatching = (dispatched_none, dispatched_out, dispatched_spent, dispatched_ready, dispatched_done)
+pub ruleset dispatching = (dispatched_out, dispatched_spent, dispatched_ready, dispatched_done)
 
-pub ruleset releasing = (released_none, released, kept_reached, kept_unspent)
+pub ruleset releasing = (released, kept_reached, kept_unspent)
 
 pub ruleset aborting = (may_entered, may_reacted, aborted)
+
+-- where it is not open, who is on it hears so
+abort_none : (key : Key) (w : Work) → transaction_of key w.state ≡ None → react aborts key w ≡ abort key w
+unfolding abort react dispatch release
+abort_none key w none =
+    sym (on_none key _ (react aborts key w) none)
+    ∙ ap (λ v. release key v) (sym (dispatch_none key (react aborts key w) none))
+    ∙ ap (λ ts. release key (dispatch key (react aborts key (record w { state = record w.state { transactions = ts } })))) (sym (change_none (has_key key) (entering Aborted) w.state.transactions none))
+
+pub aborted_nobody : (a b : Held) (key : Key) → transaction_of key (work_of a).state ≡ None → Does a b (react aborts key (work_of a)) → Does a b (abort key (work_of a))
+aborted_nobody a b key none does = subst (Does a b) (abort_none key (work_of a) none) does
+
+pub ruleset aborting_open = (aborted_nobody, may_idle)

@@ -10,7 +10,6 @@ use Rattle.tip_conn.specs.declared.state.Turn.{Turn}
 use Rattle.tip_line.specs.declared.command.CommandName.TheVariants as command
 use Rattle.tip_line.specs.declared.response.ResponseName.TheVariants as names
 use Rattle.tip_rows.specs.Keys.{Key}
-use Rattle.tip_table.specs.Kept.{StandsAt, item_at}
 use Rattle.tip_table.specs.Lists.{changed}
 use Rattle.tip_machine.proofs.RuleWalks.{advanced-number}
 use Rattle.tip_machine.proofs.Walks.{found-number}
@@ -29,7 +28,6 @@ use Rattle.tip_machine.specs.declared.connection.Role.{Role}
 use Rattle.tip_machine.specs.declared.transaction.Origin.{Origin}
 use Rattle.tip_machine.specs.declared.transaction.Origin.TheVariants as origin
 use Rattle.tip_rules.proofs.Asking.{closed_alike}
-use Rattle.tip_rules.proofs.Beginnings.{standing_number}
 use Rattle.tip_rules.proofs.Dials.{took_words}
 use Rattle.tip_rules.proofs.Foreseeing.{by_id}
 use Rattle.tip_rules.proofs.Outcomes.{key_is}
@@ -41,14 +39,6 @@ use Rattle.tip_rules.specs.Works.{Does, Held, work_of}
 use Rattle.tip_outlook.specs.declared.noting.Note.TheVariants as note
 
 -- What it says
-
-pub word_there : (held : Held) (number place : ℕ) (item : Connection) → StandsAt held.connections held.realm (has_number number) place → item_at held.connections place ≡ Some item → (word : Option (List ℕ)) → word ≡ word_for item.awaited (work_of held).state → word ≡ word_at number (work_of held).state
-word_there held number place item here is word same = same ∙ sym (ap (option_and_then (λ (c : Connection). word_for c.awaited (work_of held).state)) (standing_number held number place item here is))
-
-pub word_nowhere : (held : Held) (number : ℕ) → connection_of number (work_of held).state ≡ None → None ≡ word_at number (work_of held).state
-word_nowhere held number none = sym (ap (option_and_then (λ (c : Connection). word_for c.awaited (work_of held).state)) none)
-
-pub ruleset wording = (word_there, word_nowhere)
 
 pub no_superior : (held : Held) (id : List ℕ) → identified_by id (work_of held).state ≡ None → None ≡ superior_of (identified_by id (work_of held).state)
 no_superior held id none = sym (ap superior_of none)

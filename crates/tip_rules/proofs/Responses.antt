@@ -24,10 +24,10 @@ use Rattle.tip_machine.specs.Changes.{alter, change}
 use Rattle.tip_machine.specs.Connections.{advanced, advanced_to, has_number, is_on, key_queried, role_in}
 use Rattle.tip_machine.specs.Connections.{names as is_named_in}
 use Rattle.tip_machine.specs.Failing.{wrong}
-use Rattle.tip_machine.specs.Proceeding.{proceed}
+use Rattle.tip_machine.specs.Proceeding.{owed_to_superior, proceed}
 use Rattle.tip_machine.specs.Requests.{hear}
 use Rattle.tip_machine.specs.Responses.{abort_as, answered_by, go_on, greeted, responded}
-use Rattle.tip_machine.specs.States.{Attempt, Work, connection_of}
+use Rattle.tip_machine.specs.States.{Attempt, Work, connection_of, transaction_of}
 use Rattle.tip_machine.specs.Steps.{chosen}
 use Rattle.tip_machine.specs.Transactions.{has_key, noting}
 use Rattle.tip_machine.specs.Types.{Connection, Transaction}
@@ -39,13 +39,17 @@ use Rattle.tip_machine.specs.declared.connection.Role.{Role}
 use Rattle.tip_machine.specs.declared.connection.Role.TheVariants.{Subordinate, Superior}
 use Rattle.tip_machine.specs.declared.event.Heard.TheVariants.{Response}
 use Rattle.tip_machine.specs.declared.event.Outcome.{Outcome}
+use Rattle.tip_outlook.specs.Endings.{EndsBy, EndsSo, ended, ending_on}
+use Rattle.tip_outlook.specs.Wanting.{Course, answer_wanted, outlook, said_wanted, wanted_noting, wanted_of_part}
 use Rattle.tip_rules.proofs.Losing.{same_room, still_idle}
+use Rattle.tip_rules.proofs.Outcomes.{altered_next, proceeds_none}
+use Rattle.tip_rules.proofs.Owing.{owed_after}
 use Rattle.tip_rules.proofs.Works.{may_idle, nothing, then, unaltered}
 use Rattle.tip_outlook.specs.Noting.{awaits_of, exists_of, identifying, note_of, noted, noting_as, part_of, pulled_of, pulling, querying, responding, version_of}
 use Rattle.tip_outlook.specs.declared.noting.Awaits.{Awaits}
 use Rattle.tip_outlook.specs.declared.noting.Awaits.TheVariants as awaits
 use Rattle.tip_rules.specs.Pursuing.{aimed_at, asked_for}
-use Rattle.tip_rules.specs.Works.{Does, Held, IsIdle, lines_as, lines_at, lines_for, lines_queried, work_of}
+use Rattle.tip_rules.specs.Works.{ContinuesAs, Does, Held, IsIdle, lines_as, lines_at, lines_for, lines_queried, work_of}
 use Rattle.tip_outlook.specs.declared.noting.Note.{Note}
 use Rattle.tip_outlook.specs.declared.noting.Note.TheVariants as note
 
@@ -266,6 +270,15 @@ module _ (a b : Held) (said : AResponse) (c : Connection) (outcome : Outcome) wh
 pub answered_nothing : (a : Held) (said : AResponse) (c : Connection) → awaits_of c.awaited ≡ awaits.Nothing → Does a a (chosen (hear Primary (Response said) c (work_of a)) a.outcome)
 answered_nothing a said c is = subst (λ t. Does a a (chosen t a.outcome)) (sym (hears_nothing said c (work_of a) (nothing_awaited said c (work_of a) c.awaited is))) (nothing a)
 
+-- what was decided of a response to what a part was asked
+pub part_next : (held : Held) (number : ℕ) (said : AResponse) (here c : Connection) (name : CommandName) → connection_of number (work_of held).state ≡ Some here → awaits_of here.awaited ≡ awaits.OfPart name → connection_of number (work_of held).state ≡ Some c →
+    EndsBy (said_wanted (awaits_of c.awaited) said c (work_of held).state) held.endings → EndsBy (answer_wanted (note_of c.awaited said) c (work_of held).state) held.endings
+part_next held number said here c name there is found ends = subst (λ a. EndsBy (said_wanted a said c (work_of held).state) held.endings) (ap (λ (d : Connection). awaits_of d.awaited) (same_Some c here (sym found ∙ there)) ∙ is) ends
+
+pub note_next : (held : Held) (number : ℕ) (said : AResponse) (n : Note) (here c : Connection) → connection_of number (work_of held).state ≡ Some here → note_of here.awaited said ≡ Some n → connection_of number (work_of held).state ≡ Some c →
+    EndsBy (answer_wanted (note_of c.awaited said) c (work_of held).state) held.endings → EndsBy (wanted_of_part n (part_of c.role) (work_of held).state) held.endings
+note_next held number said n here c there is found ends = subst (λ a. EndsBy (answer_wanted a c (work_of held).state) held.endings) (ap (λ (d : Connection). note_of d.awaited said) (same_Some c here (sym found ∙ there)) ∙ is) ends
+
 -- the lines of the transaction that is asked for
 pub queried_lines : (held : Held) (number : ℕ) (c : Connection) (key : Key) → connection_of number (work_of held).state ≡ Some c → awaits_of c.awaited ≡ awaits.Queried key → lines_queried number (work_of held).state ≤ held.making.free → lines_for key (work_of held).state ≤ held.making.free
 queried_lines held number c key found is enough = subst (λ n. n ≤ held.making.free) (ap (λ o. option_map_or (λ k. lines_for k (work_of held).state) (option_and_then (λ (d : Connection). key_queried d.awaited) o) 0) found ∙ ap (λ o. option_map_or (λ k. lines_for k (work_of held).state) o 0) (step c.awaited is)) enough where
@@ -366,7 +379,7 @@ still_altered key part w = ap (λ ts. record w { state = record w.state { transa
 pub noted_nothing : (a : Held) (key : Key) (part : ℕ) → Does a a (alter key (noting part (noted note.Nothing)) (work_of a))
 noted_nothing a key part = subst (Does a a) (sym (still_altered key part (work_of a))) (nothing a)
 
-pub ruleset noting_part = (unaltered, noted_nothing)
+pub ruleset taking_note = (noted_nothing)
 
 -- All in a row
 
@@ -408,7 +421,29 @@ module _ (a b : Held) (number : ℕ) (command : CommandName) (name : ResponseNam
       (subst (λ o. Does a d (chosen (noting_as n (Some role) (go_on command name c (work_of a))) o)) first.outcome
       (then a b d (λ w. chosen (noting_as n (Some role) w) b.outcome) _ goes_on second))
 
-pub ruleset noting_one = (gone_idle, gone_lines, notes_nobody, notes_someone)
+-- what was decided of the part's transaction is decided of it still
+pub went_next : (a b : Held) (number : ℕ) (command : CommandName) (name : ResponseName) (n : Note) (c : Connection) → connection_of number (work_of a).state ≡ Some c → Does a b (change number (advanced command name) (work_of a)) → (role : Role) → c.role ≡ Some role →
+    EndsBy (wanted_of_part n (part_of c.role) (work_of a).state) a.endings → EndsBy (wanted_of_part n (part_of (Some role)) (work_of b).state) b.endings
+went_next a b number command name n c found first role is ends = at (part_of (Some role)) (ap part_of is) (subst (λ r. EndsBy (wanted_of_part n (part_of r) (work_of a).state) a.endings) is ends) where
+  there : connection_of c.number (work_of a).state ≡ Some c
+  there = subst (λ m. connection_of m (work_of a).state ≡ Some c) (sym (found-number number (work_of a).state.connections c found)) found
+
+  own : work_of b ≡ go_on command name c (work_of a)
+  own = (goes_on a b number command name n c found first).own
+
+  by : (place : Key × ℕ) → part_of c.role ≡ Some place → (o : Option Transaction) → EndsBy (option_map_or (wanted_noting n place.1 (work_of a).state) o Course.Stays) a.endings → EndsBy (option_map_or (wanted_noting n place.1 (work_of b).state) o Course.Stays) b.endings
+  by place so None ends = ends
+  by place so (Some t) ends =
+      subst (λ e. EndsSo (outlook (noting place.1 (noted n) t)) (owed_to_superior t.key (work_of b).state) e) (sym first.endings)
+      (subst (λ owed. EndsSo (outlook (noting place.1 (noted n) t)) owed a.endings) (sym (ap (λ w. owed_to_superior t.key w.state) own ∙ owed_after (work_of a) c there command name t.key place so)) ends)
+
+  at : (place : Option (Key × ℕ)) → part_of c.role ≡ place → EndsBy (wanted_of_part n place (work_of a).state) a.endings → EndsBy (wanted_of_part n place (work_of b).state) b.endings
+  at None so ends = ends
+  at (Some place) so ends =
+      subst (λ o. EndsBy (option_map_or (wanted_noting n place.1 (work_of b).state) o Course.Stays) b.endings) (sym (ap (λ w. transaction_of place.0 w.state) first.own))
+      (by place so (transaction_of place.0 (work_of a).state) ends)
+
+pub ruleset noting_one = (gone_idle, gone_lines, notes_nobody, notes_someone, went_next)
 
 -- The transaction goes on
 
@@ -418,16 +453,29 @@ noted_lines a b key part f does enough =
     let same : lines_for key (work_of b).state ≡ lines_for key (work_of a).state = ap (λ w. lines_for key w.state) does.own in
     omega (arith, free, same, enough)
 
-pub noted_on : (a b c : Held) (n : Note) (key : Key) (part : ℕ) → Does a b (alter key (noting part (noted n)) (work_of a)) → Does b c (chosen (proceed key (work_of b)) b.outcome) → Does a c (chosen (noting_as n (Some (Subordinate key part)) (work_of a)) a.outcome)
-noted_on a b c n key part first second =
-    subst (λ t. Does a c (chosen t a.outcome)) (sym (noting_someone n key part (work_of a)))
-    (subst (λ o. Does a c (chosen (proceed key (alter key (noting part (noted n)) (work_of a))) o)) first.outcome
-    (then a b c (λ w. chosen (proceed key w) b.outcome) _ first second))
+pub noted_none : (a : Held) (n : Note) (key : Key) (part : ℕ) → transaction_of key (work_of a).state ≡ None → Does a a (chosen (proceed key (alter key (noting part (noted n)) (work_of a))) a.outcome)
+noted_none a n key part none = subst (λ w. Does a a (chosen (proceed key w) a.outcome)) (unaltered a key (noting part (noted n)) none).own (proceeds_none a key a.outcome none)
+
+pub noted_some : (a b c : Held) (n : Note) (key : Key) (part : ℕ) → Does a b (alter key (noting part (noted n)) (work_of a)) → Does b c (chosen (proceed key (work_of b)) b.outcome) → Does a c (chosen (proceed key (alter key (noting part (noted n)) (work_of a))) a.outcome)
+noted_some a b c n key part first second =
+    subst (λ o. Does a c (chosen (proceed key (alter key (noting part (noted n)) (work_of a))) o)) first.outcome
+    (then a b c (λ w. chosen (proceed key w) b.outcome) _ first second)
+
+pub noted_next : (a b : Held) (n : Note) (key : Key) (part : ℕ) (t : Transaction) → transaction_of key (work_of a).state ≡ Some t → EndsBy (wanted_of_part n (Some (key, part)) (work_of a).state) a.endings → Does a b (alter key (noting part (noted n)) (work_of a)) →
+    chosen (proceed key (work_of b)) b.outcome ≡ ended key (ending_on b.outcome b.endings) (work_of b)
+noted_next a b n key part t found ends does =
+    altered_next a b key (noting part (noted n)) (λ u. refl)
+    (subst (λ o. ContinuesAs o (noting part (noted n)) a) (sym found) (subst (λ o. EndsBy (option_map_or (wanted_noting n part (work_of a).state) o Course.Stays) a.endings) found ends)) does
+
+pub ruleset noting_part = (noted_lines, noted_none, noted_some, noted_next, still_idle, may_idle)
+
+pub noted_on : (a b : Held) (n : Note) (key : Key) (part : ℕ) → Does a b (chosen (proceed key (alter key (noting part (noted n)) (work_of a))) a.outcome) → Does a b (chosen (noting_as n (Some (Subordinate key part)) (work_of a)) a.outcome)
+noted_on a b n key part does = subst (λ t. Does a b (chosen t a.outcome)) (sym (noting_someone n key part (work_of a))) does
 
 pub noted_off : (a : Held) (n : Note) (key : Key) → Does a a (chosen (noting_as n (Some (Superior key)) (work_of a)) a.outcome)
 noted_off a n key = subst (λ t. Does a a (chosen t a.outcome)) (sym (noting_nobody n (Some (Superior key)) (work_of a) refl)) (nothing a)
 
-pub ruleset noting_role = (noted_lines, noted_on, noted_off, still_idle, may_idle)
+pub ruleset noting_role = (noted_on, noted_off)
 
 -- PULL
 

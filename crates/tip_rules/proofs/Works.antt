@@ -10,7 +10,7 @@ use Rattle.tip_line.specs.declared.command.CommandName.{CommandName}
 use Rattle.tip_rows.specs.Keys.{Key, is_same}
 use Rattle.tip_table.specs.Kept.{Kept, StandsAt, capacity, item_at, of, places, taken_out, with_item_at}
 use Rattle.tip_table.specs.Lists.{changed, without}
-use Rattle.tip_table.proofs.Standing.{capacity-written, change_none, take_out, write, write_others}
+use Rattle.tip_table.proofs.Standing.{capacity-written, change_none, stands_written, take_out, write, write_others}
 use Rattle.tip_table.proofs.Standing.{found as found_first}
 use Rattle.tip_table.specs.Visits.{MayVisit, notes_of}
 use Rattle.tip_machine.specs.Changes.{alter, change, end, reply, tell}
@@ -45,10 +45,11 @@ then a b c rule work first second = record {
   transactions = second.transactions ∙ first.transactions;
   lines = second.lines ∙ first.lines;
   outcome = second.outcome ∙ first.outcome;
+  endings = second.endings ∙ first.endings;
 }
 
 pub nothing : (held : Held) → Does held held (work_of held)
-nothing held = record { own = refl; others = λ other differ. refl; realm = refl; count = refl; connections = refl; transactions = refl; lines = refl; outcome = refl }
+nothing held = record { own = refl; others = λ other differ. refl; realm = refl; count = refl; connections = refl; transactions = refl; lines = refl; outcome = refl; endings = refl }
 
 -- Lists that are seen through a view
 
@@ -93,7 +94,15 @@ altered old key f place item value here is same =
       transactions = capacity-written old.transactions place value;
       lines = refl;
       outcome = refl;
+      endings = refl;
     }
+
+-- and stands there still
+pub stays_at : (old : Held) (key : Key) (place : ℕ) (item value : HeldTransaction) → StandsAt old.transactions old.realm (is_keyed key) place → item_at old.transactions place ≡ Some item → value.key ≡ item.key → StandsAt (with_item_at old.transactions place value) old.realm (is_keyed key) place
+stays_at old key place item value here is same = stands_written old.transactions old.realm (is_keyed key) place value here
+    (ap (is_same key) same ∙ found_passes (is_keyed key) (of old.transactions old.realm) item (found_first old.transactions old.realm (is_keyed key) place here ∙ is))
+
+pub ruleset writing = (altered, stays_at)
 
 -- where it is not open, nothing is written
 pub unaltered : (old : Held) (key : Key) (f : Transaction → Transaction) → transaction_of key (work_of old).state ≡ None → Does old old (alter key f (work_of old))
@@ -106,6 +115,7 @@ unaltered old key f none = record {
   transactions = refl;
   lines = refl;
   outcome = refl;
+  endings = refl;
 }
 
 -- what stands where the transaction of a key stands
@@ -130,6 +140,7 @@ ended old key place transactions here left room = record {
   transactions = room;
   lines = refl;
   outcome = refl;
+  endings = refl;
 }
 
 -- Connections
@@ -146,6 +157,7 @@ changed_at old number f place item value here is same = record {
   transactions = refl;
   lines = refl;
   outcome = refl;
+  endings = refl;
 }
 
 -- a connection is taken out where it stands, and its boxes are handed back
@@ -166,6 +178,7 @@ removed old number place connections made connection there here found is left ro
       transactions = refl;
       lines = ap (λ m. length m.answer.sent + m.free) back;
       outcome = refl;
+      endings = refl;
     }
 
 -- Whether a party may go out
@@ -270,6 +283,7 @@ module _ (reaction : Reaction) (key : Key) where
     transactions = refl;
     lines = ap (λ m. length m.answer.sent + m.free) notes ∙ noted_room old.making (of old.connections old.realm) enough;
     outcome = refl;
+    endings = refl;
   }
 
 pub gone_part : {A : Type 0} (found : Option (Bor A)) (there : Option A) → option_copied found ≡ there → is_some found ≡ false → there ≡ None

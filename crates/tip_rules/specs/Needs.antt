@@ -8,7 +8,7 @@ use Rattle.tip_machine.specs.Requests.{owner}
 use Rattle.tip_machine.specs.States.{State, Work, connection_of, has_room}
 use Rattle.tip_machine.specs.Steps.{attempt, chosen, entered, frozen, is_open, wants}
 use Rattle.tip_machine.specs.Transactions.{next_key}
-use Rattle.tip_machine.specs.Types.{Event}
+use Rattle.tip_machine.specs.Types.{Connection, Event}
 use Rattle.tip_machine.specs.declared.event.Change.{Change}
 use Rattle.tip_machine.specs.declared.event.Event.TheVariants.{AskPull, AskPush, Dial, Line, Lost, Open, Settled, Voted}
 use Rattle.tip_machine.specs.declared.event.Heard.{Heard}
@@ -17,7 +17,10 @@ use Rattle.tip_machine.specs.declared.event.Outcome.{Outcome}
 use Rattle.tip_rules.specs.Growing.{CanGrow}
 use Rattle.tip_rules.specs.Pursuing.{word_at}
 use Rattle.tip_rules.specs.Rooms.{TransactionRoom, room_for}
+use Rattle.tip_outlook.specs.Endings.{EndsBy}
 use Rattle.tip_outlook.specs.Searches.{HeldTransaction}
+use Rattle.tip_outlook.specs.Wanting.{foreseen}
+use Rattle.tip_outlook.specs.declared.next.Endings.{Endings}
 use Rattle.tip_rules.specs.Works.{Held, IsIdle, MayMake, lines_at, lines_of, lines_queried, peer_of, work_of}
 
 -- how many lines and closings an answer may have: one for each connection on the transaction, and two on the event's own; the
@@ -31,6 +34,17 @@ lines_needed (Dial address purpose boxes) state = 1
 lines_needed (AskPush seat id) state = 1
 lines_needed (AskPull seat superior) state = 1
 lines_needed other state = 0
+
+-- the connection that an event comes on
+abbrev pub number_in : Event → Option ℕ
+number_in (Line seat heard) = Some seat.number
+number_in (Lost seat) = Some seat.number
+number_in (AskPush seat id) = Some seat.number
+number_in (AskPull seat superior) = Some seat.number
+number_in other = None
+
+abbrev pub own_of : Event → State → Option Connection
+own_of event state = option_and_then (λ number. connection_of number state) (number_in event)
 
 -- how many connections an event may add
 abbrev pub connections_for : Event → ℕ
@@ -104,6 +118,8 @@ pub record Granted : Type 0 where
   pub word : Option (List ℕ)
   -- the change of its row that the event wants
   pub change : Option Change
+  -- how its transaction goes on by what becomes of that, if it does
+  pub endings : Endings
 
 -- This is room for the event in this state, with so many places free in the tables. The realm's transactions are held so: each
 -- has room for some parts more.
@@ -117,6 +133,7 @@ pub record Suits (state : State) (free_connections free_transactions : ℕ) (hel
   pub ours : room.ours ≡ ours_needed event state
   pub word : room.word ≡ word_needed event state
   pub change : room.change ≡ wants state event
+  pub endings : is_open state ≡ true → EndsBy (foreseen event state) room.endings
 
 -- the work of an event has what it needs
 pub record HasNeeds (event : Event) (held : Held) : Type 0 where
@@ -128,6 +145,7 @@ pub record HasNeeds (event : Event) (held : Held) : Type 0 where
   pub peer : held.making.peer ≡ peer_needed event (work_of held).state
   pub ours : held.making.ours ≡ ours_needed event (work_of held).state
   pub word : held.making.word ≡ word_needed event (work_of held).state
+  pub endings : is_open (work_of held).state ≡ true → EndsBy (foreseen event (work_of held).state) held.endings
 
 -- the same once the event has its entry
 pub record IsReady (event : Event) (held : Held) : Type 0 where
@@ -141,6 +159,7 @@ pub record IsReady (event : Event) (held : Held) : Type 0 where
   pub peer : held.making.peer ≡ peer_needed event (work_of held).state
   pub ours : held.making.ours ≡ ours_needed event (work_of held).state
   pub word : held.making.word ≡ word_needed event (work_of held).state
+  pub endings : EndsBy (foreseen event (work_of held).state) held.endings
   pub idle : IsIdle held.making.answer
 
 -- what an event comes to, before its lines are put in order

@@ -8,6 +8,7 @@ use Rattle.tip_table.specs.Kept.{Kept, capacity, item_at, of}
 use Rattle.tip_machine.specs.Commands.{make}
 use Rattle.tip_machine.specs.Connections.{is_on, key_queried}
 use Rattle.tip_machine.specs.Counts.{HasCounts}
+use Rattle.tip_machine.specs.Proceeding.{owed_to_superior}
 use Rattle.tip_machine.specs.States.{State, Work, connection_of, has_room, transaction_of}
 use Rattle.tip_machine.specs.Transactions.{next_key}
 use Rattle.tip_machine.specs.Types.{Answer, Connection, PartyPlace, Transaction, seen}
@@ -15,11 +16,13 @@ use Rattle.tip_machine.specs.declared.head.Head.{Head}
 use Rattle.tip_machine.specs.declared.connection.Role.{Role}
 use Rattle.tip_machine.specs.declared.connection.Role.TheVariants.{Superior, Subordinate}
 use Rattle.tip_machine.specs.declared.transaction.Origin.{Origin}
-use Rattle.tip_machine.specs.declared.transaction.Origin.TheVariants as origin
 use Rattle.tip_machine.specs.declared.transaction.PartyPlace.TheVariants.{Here, Out, Spent}
 use Rattle.tip_machine.specs.declared.event.Outcome.{Outcome}
 use Rattle.tip_machine.specs.declared.event.Seat.{Seat}
+use Rattle.tip_outlook.specs.Endings.{EndsBy, EndsSo}
 use Rattle.tip_outlook.specs.Searches.{HeldTransaction}
+use Rattle.tip_outlook.specs.Wanting.{Course, outlook}
+use Rattle.tip_outlook.specs.declared.next.Endings.{Endings}
 use Rattle.tip_rules.specs.Makings.{Made}
 use Rattle.tip_rules.specs.Rooms.{room_for}
 use Rattle.tip_rules.specs.declared.realms.Realms as realms
@@ -73,8 +76,8 @@ abbrev pub state_in : ℕ → Realms → State
 state_in realm realms = state_of realm (slice_index_or realms.heads.items realm no_head) (tables_in realm realms)
 
 -- its tables are lent to the work of an event
-abbrev pub working : ℕ → Outcome → Made → Realms → Held
-working realm outcome making realms = record { heads = realms.heads; connections = (tables_in realm realms).connections; transactions = (tables_in realm realms).transactions; realm = realm; outcome = outcome; making = making }
+abbrev pub working : ℕ → Outcome → Endings → Made → Realms → Held
+working realm outcome endings making realms = record { heads = realms.heads; connections = (tables_in realm realms).connections; transactions = (tables_in realm realms).transactions; realm = realm; outcome = outcome; endings = endings; making = making }
 
 -- each realm's counts are as they can be
 abbrev pub HaveCounts : Realms → Type 0
@@ -98,6 +101,7 @@ pub record Does (old new : Held) (work : Work) : Type 0 where
   pub transactions : capacity new.transactions ≡ capacity old.transactions
   pub lines : lines_in new ≡ lines_in old
   pub outcome : new.outcome ≡ old.outcome
+  pub endings : new.endings ≡ old.endings
 
 -- how many lines the connections on a transaction may need, where each reacts once
 abbrev pub lines_for : Key → State → ℕ
@@ -109,13 +113,19 @@ lines_as None state = 0
 lines_as (Some (Superior key)) state = lines_for key state
 lines_as (Some (Subordinate key part)) state = lines_for key state
 
--- the same, of the transaction that the connection of a number is on
-abbrev pub lines_at : ℕ → State → ℕ
-lines_at number state = option_map_or (λ connection. lines_as connection.role state) (connection_of number state) 0
+-- the same, of the transaction that a connection is on, if there is one, or that of a number
+abbrev pub lines_on : Option Connection → State → ℕ
+lines_on own state = option_map_or (λ connection. lines_as connection.role state) own 0
 
--- the same, of the transaction that the connection of a number asks for
+abbrev pub lines_at : ℕ → State → ℕ
+lines_at number state = lines_on (connection_of number state) state
+
+-- the same, of the transaction that it asks for
+abbrev pub lines_asked : Option Connection → State → ℕ
+lines_asked own state = option_map_or (λ key. lines_for key state) (option_and_then (λ connection. key_queried connection.awaited) own) 0
+
 abbrev pub lines_queried : ℕ → State → ℕ
-lines_queried number state = option_map_or (λ key. lines_for key state) (option_and_then (λ connection. key_queried connection.awaited) (connection_of number state)) 0
+lines_queried number state = lines_asked (connection_of number state) state
 
 -- the same, of a transaction, if there is one
 abbrev pub lines_of : Option Transaction → State → ℕ
@@ -164,11 +174,14 @@ pub record IsIdle (answer : Answer) : Type 0 where
 abbrev pub MayDispatch : Key → Work → Type 0
 MayDispatch key work = (transaction : Transaction) (party : PartyNotes) → transaction_of key work.state ≡ Some transaction → transaction.place ≡ Here party → IsIdle work.answer
 
--- is its superior at an address, where it can be reached again?
-abbrev pub has_superior : Origin → Bool
-has_superior origin.Root = false
-has_superior (origin.Subordinate None superior) = false
-has_superior (origin.Subordinate (Some address) superior) = true
+-- The transaction is there, and goes on by what was decided for this event once it is altered so.
+abbrev pub ContinuesAs : Option Transaction → (Transaction → Transaction) → Held → Type 0
+ContinuesAs None altering held = ⊥
+ContinuesAs (Some transaction) altering held = EndsSo (outlook (altering transaction)) (owed_to_superior transaction.key (work_of held).state) held.endings
+
+-- What was decided of the connection of a number is such a course.
+abbrev pub GoesBy : ℕ → (Connection → State → Course) → Held → Type 0
+GoesBy number course held = (connection : Connection) → connection_of number (work_of held).state ≡ Some connection → EndsBy (course connection (work_of held).state) held.endings
 
 -- Steps that make something new
 

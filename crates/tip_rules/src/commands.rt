@@ -13,9 +13,11 @@ ghost use Rattle.tip_machine.specs.Steps.{chosen};
 ghost use Rattle.tip_machine.specs.Types.{Connection as AConnection};
 ghost use Rattle.tip_machine.specs.declared.event.Change.{Change};
 ghost use Rattle.tip_machine.specs.declared.event.Heard.TheVariants.{Command as ACommand};
+ghost use Rattle.tip_outlook.specs.Searches.{is_keyed};
+ghost use Rattle.tip_outlook.specs.Wanting.{admitted_wanted, command_wanted};
 ghost use Rattle.tip_rules.specs.Growing.{CanGrow};
 ghost use Rattle.tip_rules.specs.Needs.{begins, joined};
-ghost use Rattle.tip_rules.specs.Works.{Does, IsIdle, lines_at, lines_for, MayMake, peer_of, work_of};
+ghost use Rattle.tip_rules.specs.Works.{Does, GoesBy, IsIdle, lines_at, lines_for, MayMake, peer_of, work_of};
 
 use crate::making::Making;
 use crate::work::Work;
@@ -39,6 +41,7 @@ impl Work<Connection, Transaction, Making> {
         requires numbered { are_numbered (work_of self.old).state ≡ true }
         requires lines { lines_at number (work_of self.old).state + 2 ≤ self.old.making.free }
         requires none { IsIdle self.old.making.answer }
+        requires next { GoesBy number (admitted_wanted command) self.old }
         ensures { (connection : AConnection) →
             connection_of number (work_of self.old).state ≡ Some connection →
             Does self.old self.new
@@ -64,6 +67,7 @@ impl Work<Connection, Transaction, Making> {
         requires numbered { are_numbered (work_of self.old).state ≡ true }
         requires lines { lines_at number (work_of self.old).state + 2 ≤ self.old.making.free }
         requires none { IsIdle self.old.making.answer }
+        requires next { GoesBy number (command_wanted command) self.old }
         ensures { (connection : AConnection) →
             connection_of number (work_of self.old).state ≡ Some connection →
             Does self.old self.new
@@ -144,6 +148,7 @@ impl Work<Connection, Transaction, Making> {
         requires stands { StandsAt self.old.connections self.old.realm (has_number number) place }
         requires lines { lines_at number (work_of self.old).state + 2 ≤ self.old.making.free }
         requires none { IsIdle self.old.making.answer }
+        requires next { GoesBy number (command_wanted asked.Prepare) self.old }
         ensures { (connection : AConnection) →
             connection_of number (work_of self.old).state ≡ Some connection →
             Does self.old self.new
@@ -160,9 +165,9 @@ impl Work<Connection, Transaction, Making> {
             return;
         };
         match self.at(key, at).txn.phase() {
-            Phase::Active if is_reachable => self.ask(key),
-            Phase::Active => self.abort(key),
-            Phase::Aborted => self.abort(key),
+            Phase::Active if is_reachable => self.ask(key, at),
+            Phase::Active => self.abort(key, at),
+            Phase::Aborted => self.abort(key, at),
             Phase::Asking | Phase::Prepared | Phase::Committed => {}
         }
     }
@@ -173,6 +178,7 @@ impl Work<Connection, Transaction, Making> {
         requires stands { StandsAt self.old.connections self.old.realm (has_number number) place }
         requires lines { lines_at number (work_of self.old).state + 2 ≤ self.old.making.free }
         requires none { IsIdle self.old.making.answer }
+        requires next { GoesBy number (command_wanted asked.Commit) self.old }
         ensures { (connection : AConnection) →
             connection_of number (work_of self.old).state ≡ Some connection →
             Does self.old self.new
@@ -187,9 +193,9 @@ impl Work<Connection, Transaction, Making> {
             return;
         };
         match self.at(key, at).txn.phase() {
-            Phase::Active => self.ask(key),
-            Phase::Prepared => self.end_doubt_by_commit(key, number, place),
-            Phase::Aborted => self.abort(key),
+            Phase::Active => self.ask(key, at),
+            Phase::Prepared => self.end_doubt_by_commit(key, at, number, place),
+            Phase::Aborted => self.abort(key, at),
             Phase::Asking | Phase::Committed => {}
         }
     }
@@ -214,14 +220,15 @@ impl Work<Connection, Transaction, Making> {
             return;
         };
         match self.at(key, at).txn.phase() {
-            Phase::Active | Phase::Aborted => self.abort(key),
-            Phase::Prepared => self.end_doubt_by_abort(key, number, place),
+            Phase::Active | Phase::Aborted => self.abort(key, at),
+            Phase::Prepared => self.end_doubt_by_abort(key, at, number, place),
             Phase::Asking | Phase::Committed => {}
         }
     }
 
     /// In doubt, and told to commit: once the committed row is stored.
-    fn end_doubt_by_commit(&mut self, key: Key, number: u32, place: usize)
+    fn end_doubt_by_commit(&mut self, key: Key, at: usize, number: u32, place: usize)
+        requires open { StandsAt self.old.transactions self.old.realm (is_keyed key) at }
         requires stands { StandsAt self.old.connections self.old.realm (has_number number) place }
         requires key { lines_for key (work_of self.old).state ≤ self.old.making.free }
         requires lines { lines_at number (work_of self.old).state + 1 ≤ self.old.making.free }
@@ -232,13 +239,14 @@ impl Work<Connection, Transaction, Making> {
             (closed connection (work_of self.old))) self.old.outcome) }
     {
         match self.outcome {
-            Outcome::Stored => self.commit(key),
+            Outcome::Stored => self.commit(key, at),
             Outcome::Refused | Outcome::NoChange => self.close(number, place),
         }
     }
 
     /// In doubt, and told to abort: once the row is gone.
-    fn end_doubt_by_abort(&mut self, key: Key, number: u32, place: usize)
+    fn end_doubt_by_abort(&mut self, key: Key, at: usize, number: u32, place: usize)
+        requires open { StandsAt self.old.transactions self.old.realm (is_keyed key) at }
         requires stands { StandsAt self.old.connections self.old.realm (has_number number) place }
         requires key { lines_for key (work_of self.old).state ≤ self.old.making.free }
         requires lines { lines_at number (work_of self.old).state + 1 ≤ self.old.making.free }
@@ -249,7 +257,7 @@ impl Work<Connection, Transaction, Making> {
             (closed connection (work_of self.old))) self.old.outcome) }
     {
         match self.outcome {
-            Outcome::Stored => self.abort(key),
+            Outcome::Stored => self.abort(key, at),
             Outcome::Refused | Outcome::NoChange => self.close(number, place),
         }
     }

@@ -28,7 +28,7 @@ impl Work<Connection, Transaction, Making> {
             return;
         };
         match self.at(key, place).txn.phase() {
-            Phase::Active | Phase::Asking | Phase::Aborted => self.abort(key),
+            Phase::Active | Phase::Asking | Phase::Aborted => self.abort(key, place),
             Phase::Prepared | Phase::Committed => {}
         }
     }
@@ -46,7 +46,7 @@ impl Work<Connection, Transaction, Making> {
         };
         match self.at(key, place).txn.phase() {
             Phase::Active | Phase::Asking => self.lose_unanswered(key, place, part),
-            Phase::Aborted => self.abort(key),
+            Phase::Aborted => self.abort(key, place),
             Phase::Prepared | Phase::Committed => {}
         }
     }
@@ -65,7 +65,7 @@ impl Work<Connection, Transaction, Making> {
             return;
         }
         self.note(key, place, part, Ballot::Lost);
-        self.abort(key);
+        self.abort(key, place);
     }
 
     /// What the failure of a connection means for the transaction that it was on.

@@ -1,17 +1,19 @@
-//! What an event needs, made before it happens: lines, places in the tables, a transaction that begins, and the change of its row.
+//! What an event needs, made before it happens: lines, places in the tables, a transaction that begins, and what follows.
 ghost use Rattle.std.specs.Prelude.{if◌then◌else◌, ◌≡◌, ◌+◌, ◌<◌, ◌≤◌, ℕ, length, map, true, IfOk, OnOk};
-ghost use Rattle.std.specs.Option.{option_and_then, option_copied};
+ghost use Rattle.std.specs.Option.{option_and_then, option_copied, option_map_or};
 ghost use Rattle.tip_table.specs.Kept.{of};
 ghost use Rattle.tip_machine.specs.Connections.{key_queried};
 ghost use Rattle.tip_machine.specs.Counts.{HasCounts};
 ghost use Rattle.tip_machine.specs.Given.{are_numbered};
 ghost use Rattle.tip_machine.specs.Steps.{is_open, wants};
 ghost use Rattle.tip_machine.specs.Requests.{owner};
-ghost use Rattle.tip_machine.specs.States.{connection_of, identified_by};
+ghost use Rattle.tip_machine.specs.States.{identified_by};
 ghost use Rattle.tip_machine.specs.Types.{seen};
-ghost use Rattle.tip_rules.specs.Needs.{MayJoin, Suits, begins_on, connections_for, joined_by, lines_needed, ours_needed, peer_needed, room_needed, transactions_for, word_needed};
-ghost use Rattle.tip_rules.specs.Pursuing.{named_in, named_of, superior_in, superior_of, word_at, word_for};
-ghost use Rattle.tip_rules.specs.Works.{lines_as, lines_at, lines_for, lines_of, lines_queried, peer_of, work_of};
+ghost use Rattle.tip_outlook.specs.Endings.{EndsBy};
+ghost use Rattle.tip_outlook.specs.Wanting.{foreseen};
+ghost use Rattle.tip_rules.specs.Needs.{MayJoin, Suits, begins_on, connections_for, joined_by, lines_needed, number_in, ours_needed, own_of, peer_needed, room_needed, transactions_for, word_needed};
+ghost use Rattle.tip_rules.specs.Pursuing.{named_in, named_of, superior_in, superior_of, word_for};
+ghost use Rattle.tip_rules.specs.Works.{lines_as, lines_asked, lines_for, lines_of, lines_on, work_of};
 
 use crate::making::{Making, Words};
 use crate::reaching::subordinate_of;
@@ -21,8 +23,8 @@ use crate::work::Work;
 use std::alloc::{AllocError, Global};
 use tip_branch::HeldParty;
 use tip_line::{Address, Command, Id};
-use tip_machine::{Awaited, Change, Connection, Event, Heard, Origin, Purpose, Role, Transaction};
-use tip_outlook::OnKey;
+use tip_machine::{Awaited, Connection, Event, Heard, Origin, Purpose, Role, Transaction};
+use tip_outlook::{Next, OnKey};
 use tip_rows::Key;
 
 impl Work<Connection, Transaction, Making> {
@@ -41,11 +43,50 @@ impl Work<Connection, Transaction, Making> {
     {
         self.reserve(event)?;
         self.reserve_part(event)?;
-        let lines = self.lines_needed(event)?;
-        let transaction = self.room_to_begin(alloc, event)?;
-        let words = self.words_needed(event)?;
-        let change = self.wants(alloc, event)?;
-        Room::new(alloc, lines, transaction, words, change)
+        self.grant(alloc, event, self.own(event))
+    }
+
+    /// The connection that an event comes on, if it is there.
+    #[tactic(auto, using(crate::proofs::Needing::owning))]
+    fn own(&self, event: &Event) -> Option<&Connection>
+        requires { are_numbered (work_of self.now).state ≡ true }
+        ensures { option_copied result ≡ own_of event.now (work_of self.now).state }
+    {
+        let number = number_in(event)?;
+        let place = self.connection_at(number)?;
+        Some(self.connections.item(place))
+    }
+
+    /// What an event needs beside places, which comes on this connection.
+    fn grant(
+        &self,
+        alloc: Global,
+        event: &Event,
+        own: Option<&Connection>,
+    ) -> Result<Room, AllocError>
+        requires here { self.now.realm < length self.now.heads.items }
+        requires counts { HasCounts (work_of self.now).state }
+        requires own { option_copied own ≡ own_of event.now (work_of self.now).state }
+        ensures lines { IfOk result
+            (λ room. lines_needed event.now (work_of self.now).state ≤ room.lines) }
+        ensures transaction { IfOk result (λ room. is_open (work_of self.now).state ≡ true →
+            room.transaction ≡ room_needed event.now (work_of self.now).state) }
+        ensures peer { IfOk result
+            (λ room. room.peer ≡ peer_needed event.now (work_of self.now).state) }
+        ensures ours { IfOk result
+            (λ room. room.ours ≡ ours_needed event.now (work_of self.now).state) }
+        ensures word { IfOk result
+            (λ room. room.word ≡ word_needed event.now (work_of self.now).state) }
+        ensures change { IfOk result
+            (λ room. room.change ≡ wants (work_of self.now).state event.now) }
+        ensures endings { IfOk result (λ room. is_open (work_of self.now).state ≡ true →
+            EndsBy (foreseen event.now (work_of self.now).state) room.endings) }
+    {
+        let lines = self.lines_needed(event, own)?;
+        let transaction = self.room_to_begin(alloc, event, own)?;
+        let words = self.words_needed(event, own)?;
+        let next = self.follows(alloc, event, own)?;
+        Room::new(alloc, lines, transaction, words, next)
     }
 
     /// Makes a place for a connection or a transaction, where the event may add one.
@@ -89,17 +130,25 @@ impl Work<Connection, Transaction, Making> {
         transaction.txn.reserve()
     }
 
-    /// The change of its row that the event wants: none in a realm that takes no entry.
+    /// What follows of the event: nothing in a realm that takes no entry.
     #[tactic(auto, using(crate::proofs::Foreseeing::wanting))]
-    fn wants(&self, alloc: Global, event: &Event) -> Result<Option<Change>, AllocError>
+    fn follows(
+        &self,
+        alloc: Global,
+        event: &Event,
+        own: Option<&Connection>,
+    ) -> Result<Next, AllocError>
         requires here { self.now.realm < length self.now.heads.items }
-        requires numbered { are_numbered (work_of self.now).state ≡ true }
-        ensures { IfOk result (λ change. change ≡ wants (work_of self.now).state event.now) }
+        requires own { option_copied own ≡ own_of event.now (work_of self.now).state }
+        ensures change { IfOk result
+            (λ next. next.change ≡ wants (work_of self.now).state event.now) }
+        ensures endings { IfOk result (λ next. is_open (work_of self.now).state ≡ true →
+            EndsBy (foreseen event.now (work_of self.now).state) next.endings) }
     {
         if self.is_open() {
-            self.foresee(alloc, event)
+            self.foresee(alloc, event, own)
         } else {
-            Ok(None)
+            Ok(Next::nothing())
         }
     }
 
@@ -109,9 +158,11 @@ impl Work<Connection, Transaction, Making> {
         &self,
         alloc: Global,
         event: &Event,
+        own: Option<&Connection>,
     ) -> Result<Option<TransactionRoom>, AllocError>
         requires here { self.now.realm < length self.now.heads.items }
         requires counts { HasCounts (work_of self.now).state }
+        requires own { option_copied own ≡ own_of event.now (work_of self.now).state }
         ensures { is_open (work_of self.now).state ≡ true →
             IfOk result (λ room. room ≡ room_needed event.now (work_of self.now).state) }
     {
@@ -121,10 +172,9 @@ impl Work<Connection, Transaction, Making> {
         let Some(number) = begins_on(event) else {
             return Ok(None);
         };
-        let Some(place) = self.connection_at(number) else {
+        let Some(connection) = own else {
             return Ok(None);
         };
-        let connection = self.connection(number, place);
         if !self.has_room(connection.boxes.len()) {
             return Ok(None);
         }
@@ -133,9 +183,9 @@ impl Work<Connection, Transaction, Making> {
     }
 
     /// Copies of words, for what may be made of them.
-    fn words_needed(&self, event: &Event) -> Result<Words, AllocError>
+    fn words_needed(&self, event: &Event, own: Option<&Connection>) -> Result<Words, AllocError>
         requires here { self.now.realm < length self.now.heads.items }
-        requires numbered { are_numbered (work_of self.now).state ≡ true }
+        requires own { option_copied own ≡ own_of event.now (work_of self.now).state }
         ensures peer { IfOk result
             (λ words. words.peer ≡ peer_needed event.now (work_of self.now).state) }
         ensures ours { IfOk result
@@ -144,20 +194,20 @@ impl Work<Connection, Transaction, Making> {
             (λ words. words.word ≡ word_needed event.now (work_of self.now).state) }
     {
         Ok(Words {
-            peer: self.peer_needed(event)?,
+            peer: self.peer_needed(event, own)?,
             ours: self.ours_needed(event)?,
-            word: self.word_needed(event)?,
+            word: self.word_needed(event, own)?,
         })
     }
 
     /// The identifier that goes into a question.
-    fn word_needed(&self, event: &Event) -> Result<Option<Id>, AllocError>
+    fn word_needed(&self, event: &Event, own: Option<&Connection>) -> Result<Option<Id>, AllocError>
         requires here { self.now.realm < length self.now.heads.items }
-        requires numbered { are_numbered (work_of self.now).state ≡ true }
+        requires own { option_copied own ≡ own_of event.now (work_of self.now).state }
         ensures { IfOk result (λ word. word ≡ word_needed event.now (work_of self.now).state) }
     {
         match event {
-            Event::Line { seat, heard: _ } => self.word_at(seat.number),
+            Event::Line { .. } => self.word_on(own),
             Event::AskPull { seat: _, superior } => Ok(Some(superior.copy()?)),
             Event::Open { .. }
             | Event::Dial { .. }
@@ -169,15 +219,15 @@ impl Work<Connection, Transaction, Making> {
         }
     }
 
-    /// The identifier that is said once the connection of a number is identified, if it was opened to say one.
-    #[tactic(auto, using(crate::proofs::Purposes::wording))]
-    fn word_at(&self, number: u32) -> Result<Option<Id>, AllocError>
+    /// The identifier that is said once a connection is identified, if it was opened to say one.
+    fn word_on(&self, own: Option<&Connection>) -> Result<Option<Id>, AllocError>
         requires here { self.now.realm < length self.now.heads.items }
-        requires numbered { are_numbered (work_of self.now).state ≡ true }
-        ensures { IfOk result (λ word. word ≡ word_at number (work_of self.now).state) }
+        ensures { IfOk result (λ word. word ≡ option_and_then
+            (λ connection. word_for connection.awaited (work_of self.now).state)
+            (option_copied own.entry)) }
     {
-        match self.connection_at(number) {
-            Some(place) => self.word_awaited(&self.connections.item(place).awaited),
+        match own {
+            Some(connection) => self.word_awaited(&connection.awaited),
             None => Ok(None),
         }
     }
@@ -241,19 +291,21 @@ impl Work<Connection, Transaction, Making> {
     }
 
     /// Where the other side of the event's connection is, for what may be made of it.
-    fn peer_needed(&self, event: &Event) -> Result<Option<Address>, AllocError>
-        requires numbered { are_numbered (work_of self.now).state ≡ true }
+    fn peer_needed(
+        &self,
+        event: &Event,
+        own: Option<&Connection>,
+    ) -> Result<Option<Address>, AllocError>
+        requires own { option_copied own ≡ own_of event.now (work_of self.now).state }
         ensures { IfOk result (λ peer. peer ≡ peer_needed event.now (work_of self.now).state) }
     {
         match event {
-            Event::Line { seat, heard: _ } => self.peer_of(seat.number),
+            Event::Line { .. } | Event::AskPush { .. } | Event::AskPull { .. } => peer_on(own),
             Event::Dial {
                 address,
                 purpose: _,
                 boxes: _,
             } => Ok(Some(address.copy()?)),
-            Event::AskPush { seat, id: _ } => self.peer_of(seat.number),
-            Event::AskPull { seat, superior: _ } => self.peer_of(seat.number),
             Event::Open { .. }
             | Event::Voted(_)
             | Event::Settled(_)
@@ -262,66 +314,52 @@ impl Work<Connection, Transaction, Making> {
         }
     }
 
-    /// Where the other side of the connection of a number is.
-    #[tactic(auto, using(crate::proofs::Needing::peering))]
-    fn peer_of(&self, number: u32) -> Result<Option<Address>, AllocError>
-        requires numbered { are_numbered (work_of self.now).state ≡ true }
-        ensures { IfOk result (λ peer. peer ≡ peer_of number (work_of self.now).state) }
-    {
-        match self.connection_at(number) {
-            Some(place) => copy_of(&self.connections.item(place).peer),
-            None => Ok(None),
-        }
-    }
-
     /// How many lines and closings the answer may need: one for each connection on the transaction, and two on the event's own.
     /// An error is that no memory has room for so many.
-    fn lines_needed(&self, event: &Event) -> Result<usize, AllocError>
+    fn lines_needed(&self, event: &Event, own: Option<&Connection>) -> Result<usize, AllocError>
         requires here { self.now.realm < length self.now.heads.items }
-        requires numbered { are_numbered (work_of self.now).state ≡ true }
+        requires own { option_copied own ≡ own_of event.now (work_of self.now).state }
         ensures { IfOk result (λ lines. lines ≡ lines_needed event.now (work_of self.now).state) }
     {
         match event {
-            Event::Line { seat, heard: _ } => self.lines_of_line(seat.number),
+            Event::Line { .. } => self.lines_of_line(own),
             Event::Voted(party) => Ok(self.lines_of(party)),
             Event::Settled(party) => Ok(self.lines_of(party)),
-            Event::Lost { seat } => Ok(self.lines_at(seat.number)),
+            Event::Lost { .. } => Ok(self.lines_on(own)),
             Event::Dial { .. } | Event::AskPush { .. } | Event::AskPull { .. } => Ok(1),
             Event::Open { .. } | Event::Resume { .. } => Ok(0),
         }
     }
 
-    /// How many lines and closings the answer to a line on the connection of a number may need: the transaction that it asks for
-    /// may be another than its own.
-    fn lines_of_line(&self, number: u32) -> Result<usize, AllocError>
-        requires numbered { are_numbered (work_of self.now).state ≡ true }
-        ensures { IfOk result (λ lines. lines ≡ lines_at number (work_of self.now).state
-            + (lines_queried number (work_of self.now).state + 2)) }
+    /// How many lines and closings the answer to a line on a connection may need: the transaction that it asks for may be another
+    /// than its own.
+    fn lines_of_line(&self, own: Option<&Connection>) -> Result<usize, AllocError>
+        ensures { IfOk result (λ lines. lines ≡ lines_on (option_copied own.entry) (work_of self.now).state
+            + (lines_asked (option_copied own.entry) (work_of self.now).state + 2)) }
     {
-        let queried = self.lines_queried(number).checked_add(2).ok_or(AllocError)?;
-        self.lines_at(number).checked_add(queried).ok_or(AllocError)
+        let asked = self.lines_asked(own).checked_add(2).ok_or(AllocError)?;
+        self.lines_on(own).checked_add(asked).ok_or(AllocError)
     }
 
-    /// How many connections are on the transaction that the connection of a number asks for.
-    fn lines_queried(&self, number: u32) -> usize
-        requires numbered { are_numbered (work_of self.now).state ≡ true }
-        ensures { result ≡ lines_queried number (work_of self.now).state }
+    /// How many connections are on the transaction that a connection asks for.
+    fn lines_asked(&self, own: Option<&Connection>) -> usize
+        ensures { result ≡ lines_asked (option_copied own.entry) (work_of self.now).state }
     {
-        match self.queried(number) {
-            Some(key) => self.lines_for(key),
+        match own {
+            Some(connection) => self.lines_awaited(&connection.awaited),
             None => 0,
         }
     }
 
-    /// The transaction that the connection of a number asks for.
-    #[tactic(auto, using(crate::proofs::Needing::asking))]
-    fn queried(&self, number: u32) -> Option<Key>
-        requires numbered { are_numbered (work_of self.now).state ≡ true }
-        ensures { result ≡ option_and_then (λ connection. key_queried connection.awaited)
-            (connection_of number (work_of self.now).state) }
+    /// How many connections are on the transaction that one asks for which awaits this.
+    fn lines_awaited(&self, awaited: &Option<Awaited>) -> usize
+        ensures { result ≡ option_map_or (λ key. lines_for key (work_of self.now).state)
+            (key_queried awaited.now) 0 }
     {
-        let place = self.connection_at(number)?;
-        key_queried(&self.connections.item(place).awaited)
+        match key_queried(awaited) {
+            Some(key) => self.lines_for(key),
+            None => 0,
+        }
     }
 
     /// How many connections are on the transaction that gave a party out.
@@ -337,13 +375,12 @@ impl Work<Connection, Transaction, Making> {
         }
     }
 
-    /// How many connections are on the transaction that the connection of a number is on.
-    fn lines_at(&self, number: u32) -> usize
-        requires numbered { are_numbered (work_of self.now).state ≡ true }
-        ensures { result ≡ lines_at number (work_of self.now).state }
+    /// How many connections are on the transaction that a connection is on.
+    fn lines_on(&self, own: Option<&Connection>) -> usize
+        ensures { result ≡ lines_on (option_copied own.entry) (work_of self.now).state }
     {
-        match self.connection_at(number) {
-            Some(place) => self.lines_as(self.connections.item(place).role),
+        match own {
+            Some(connection) => self.lines_as(connection.role),
             None => 0,
         }
     }
@@ -383,6 +420,34 @@ pub(crate) fn key_queried(awaited: &Option<Awaited>) -> Option<Key>
     match awaited {
         Some(Awaited::Query(key)) => Some(*key),
         _ => None,
+    }
+}
+
+/// Where the other side of a connection is.
+fn peer_on(own: Option<&Connection>) -> Result<Option<Address>, AllocError>
+    ensures { IfOk result
+        (λ peer. peer ≡ option_and_then (λ connection. connection.peer) (option_copied own.entry)) }
+{
+    match own {
+        Some(connection) => copy_of(&connection.peer),
+        None => Ok(None),
+    }
+}
+
+/// The number of the connection that an event comes on.
+fn number_in(event: &Event) -> Option<u32>
+    ensures { result ≡ number_in event.now }
+{
+    match event {
+        Event::Line { seat, .. }
+        | Event::Lost { seat }
+        | Event::AskPush { seat, .. }
+        | Event::AskPull { seat, .. } => Some(seat.number),
+        Event::Open { .. }
+        | Event::Dial { .. }
+        | Event::Voted(_)
+        | Event::Settled(_)
+        | Event::Resume { .. } => None,
     }
 }
 

@@ -119,7 +119,7 @@ impl Work<Connection, Transaction, Making> {
             self.old.outcome) }
     {
         match self.outcome {
-            Outcome::Stored => self.abort(key),
+            Outcome::Stored => self.abort_open(key),
             Outcome::Refused | Outcome::NoChange => self.close_as(number, place, role),
         }
     }

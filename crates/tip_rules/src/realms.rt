@@ -24,6 +24,7 @@ use std::mem;
 use tip_branch::HeldParty;
 use tip_line::{Command, Id, Response};
 use tip_machine::{Concerned, Connection, Event, Head, Heard, Outcome, Role, Seat, Transaction};
+use tip_outlook::Endings;
 use tip_rows::Key;
 use tip_table::{Linked, Table};
 
@@ -70,27 +71,36 @@ impl Realms<Connection, Transaction> {
         ensures realms { (place : ℕ) → state_in place self.new ≡ state_in place self.old }
         ensures count { length self.new.tables.items ≡ length self.old.tables.items }
     {
-        let mut work = self.lend(realm, Outcome::NoChange, Making::idle(self.alloc));
+        let idle = Making::idle(self.alloc);
+        let mut work = self.lend(realm, Outcome::NoChange, Endings::none(), idle);
         let room = work.prepare(alloc, event);
         let _idle = self.take_back(work);
         room
     }
 
-    /// One event of a realm, which has what it needs, with what became of the change that it wanted.
-    pub fn step(&mut self, realm: usize, event: Event, outcome: Outcome, making: Making) -> Making
+    /// One event of a realm, which has what it needs, with what became of the change that it wanted, and how its transaction goes
+    /// on by that.
+    pub fn step(
+        &mut self,
+        realm: usize,
+        event: Event,
+        outcome: Outcome,
+        endings: Endings,
+        making: Making,
+    ) -> Making
         requires here { realm < length self.old.heads.items }
         requires tables { realm < length self.old.tables.items }
         requires counts { HasCounts (state_in realm self.old) }
         requires silent { making.answer ≡ silence }
-        requires needs { HasNeeds event (working realm outcome making self.old) }
-        ensures does { Does (working realm outcome making self.old)
-            (working realm outcome result self.new)
+        requires needs { HasNeeds event (working realm outcome endings making self.old) }
+        ensures does { Does (working realm outcome endings making self.old)
+            (working realm outcome endings result self.new)
             (happened (state_in realm self.old) event outcome) }
         ensures others { (other : ℕ) → other ≢ realm →
             tables_in other self.new ≡ tables_in other self.old }
         ensures count { length self.new.tables.items ≡ length self.old.tables.items }
     {
-        let mut work = self.lend(realm, outcome, making);
+        let mut work = self.lend(realm, outcome, endings, making);
         work.step(event);
         self.take_back(work)
     }
@@ -259,10 +269,11 @@ impl Realms<Connection, Transaction> {
         &mut self,
         realm: usize,
         outcome: Outcome,
+        endings: Endings,
         making: Making,
     ) -> Work<Connection, Transaction, Making>
         requires { realm < length self.old.tables.items }
-        ensures lent { result ≡ working realm outcome making self.old }
+        ensures lent { result ≡ working realm outcome endings making self.old }
         ensures others { (other : ℕ) → other ≢ realm →
             tables_in other self.new ≡ tables_in other self.old }
         ensures count { length self.new.tables.items ≡ length self.old.tables.items }
@@ -277,6 +288,7 @@ impl Realms<Connection, Transaction> {
             transactions,
             realm,
             outcome,
+            endings,
             making,
         }
     }
@@ -284,7 +296,7 @@ impl Realms<Connection, Transaction> {
     /// Takes the tables back from the work of an event, and hands its answer on.
     fn take_back(&mut self, work: Work<Connection, Transaction, Making>) -> Making
         requires { work.realm < length self.old.tables.items }
-        ensures taken { working work.realm work.outcome result self.new ≡ work }
+        ensures taken { working work.realm work.outcome work.endings result self.new ≡ work }
         ensures others { (other : ℕ) → other ≢ work.realm →
             tables_in other self.new ≡ tables_in other self.old }
         ensures count { length self.new.tables.items ≡ length self.old.tables.items }

@@ -4,6 +4,8 @@ ghost use Rattle.tip_conn.specs.declared.state.Side.TheVariants.{Primary};
 ghost use Rattle.tip_table.specs.Kept.{StandsAt};
 ghost use Rattle.tip_machine.specs.Changes.{alter};
 ghost use Rattle.tip_machine.specs.Connections.{has_number};
+ghost use Rattle.tip_machine.specs.Proceeding.{proceed};
+ghost use Rattle.tip_machine.specs.Proceeding.{abort as aborted};
 ghost use Rattle.tip_machine.specs.Requests.{hear};
 ghost use Rattle.tip_line.specs.declared.response.Response.{Response as ASaid};
 ghost use Rattle.tip_machine.specs.Failing.{closed, wrong};
@@ -14,11 +16,15 @@ ghost use Rattle.tip_machine.specs.Steps.{chosen};
 ghost use Rattle.tip_machine.specs.Transactions.{noting};
 ghost use Rattle.tip_machine.specs.Types.{Connection as AConnection};
 ghost use Rattle.tip_machine.specs.declared.event.Heard.TheVariants.{Response as AResponse};
-ghost use Rattle.tip_outlook.specs.Noting.{identifying, note_of, noted, noting_as, pulled_of, pulling, responding, version_of};
+ghost use Rattle.tip_outlook.specs.Noting.{awaits_of, identifying, note_of, noted, noting_as, part_of, pulled_of, pulling, responding, version_of};
+ghost use Rattle.tip_outlook.specs.Endings.{EndsBy};
+ghost use Rattle.tip_outlook.specs.Searches.{is_keyed};
+ghost use Rattle.tip_outlook.specs.Wanting.{answer_wanted, said_wanted, wanted_of_part};
 ghost use Rattle.tip_rules.specs.Pursuing.{word_at};
-ghost use Rattle.tip_rules.specs.Works.{Does, IsIdle, lines_as, lines_at, lines_queried, work_of};
+ghost use Rattle.tip_rules.specs.Works.{Does, GoesBy, IsIdle, lines_as, lines_at, lines_for, lines_queried, work_of};
 
 use crate::making::Making;
+use crate::reaction::Reaction;
 use crate::work::Work;
 use tip_line::{CommandName, Response, ResponseName};
 use tip_machine::{Connection, Role, Transaction};
@@ -36,6 +42,9 @@ impl Work<Connection, Transaction, Making> {
         requires queried { lines_queried number (work_of self.old).state ≤ self.old.making.free }
         requires word { self.old.making.word ≡ word_at number (work_of self.old).state }
         requires none { IsIdle self.old.making.answer }
+        requires next { GoesBy number
+            (λ connection. said_wanted (awaits_of connection.awaited) response connection)
+            self.old }
         ensures { (connection : AConnection) →
             connection_of number (work_of self.old).state ≡ Some connection →
             Does self.old self.new (chosen
@@ -64,6 +73,9 @@ impl Work<Connection, Transaction, Making> {
         requires stands { StandsAt self.old.connections self.old.realm (has_number number) place }
         requires lines { lines_at number (work_of self.old).state + 2 ≤ self.old.making.free }
         requires none { IsIdle self.old.making.answer }
+        requires next { GoesBy number
+            (λ connection. answer_wanted (note_of connection.awaited response) connection)
+            self.old }
         ensures { (connection : AConnection) →
             connection_of number (work_of self.old).state ≡ Some connection →
             Does self.old self.new (chosen (responding (note_of connection.awaited response) command
@@ -163,8 +175,21 @@ impl Work<Connection, Transaction, Making> {
         ensures { Does self.old self.new (abort_as (Some role) (work_of self.old)) }
     {
         match role {
-            Role::Superior(key) => self.abort(key),
-            Role::Subordinate { key, part: _ } => self.abort(key),
+            Role::Superior(key) => self.abort_open(key),
+            Role::Subordinate { key, part: _ } => self.abort_open(key),
+        }
+    }
+
+    /// The transaction of a key is aborted, if it is open; who is on it hears so all the same.
+    #[tactic(auto, using(crate::proofs::Proceeding::aborting_open))]
+    pub(crate) fn abort_open(&mut self, key: Key)
+        requires lines { lines_for key (work_of self.old).state ≤ self.old.making.free }
+        requires none { IsIdle self.old.making.answer }
+        ensures { Does self.old self.new (aborted key (work_of self.old)) }
+    {
+        match self.transaction(key) {
+            Some(place) => self.abort(key, place),
+            None => self.react(Reaction::Aborts, key),
         }
     }
 
@@ -198,6 +223,9 @@ impl Work<Connection, Transaction, Making> {
         requires stands { StandsAt self.old.connections self.old.realm (has_number number) place }
         requires lines { lines_at number (work_of self.old).state + 2 ≤ self.old.making.free }
         requires none { IsIdle self.old.making.answer }
+        requires next { GoesBy number
+            (λ connection. wanted_of_part note (part_of connection.role))
+            self.old }
         ensures { (connection : AConnection) →
             connection_of number (work_of self.old).state ≡ Some connection →
             Does self.old self.new (chosen (noting_as note connection.role
@@ -215,26 +243,44 @@ impl Work<Connection, Transaction, Making> {
     fn note_on(&mut self, role: Role, note: Note)
         requires lines { lines_as (Some role) (work_of self.old).state ≤ self.old.making.free }
         requires none { IsIdle self.old.making.answer }
+        requires next { EndsBy
+            (wanted_of_part note (part_of (Some role)) (work_of self.old).state)
+            self.old.endings }
         ensures { Does self.old self.new
             (chosen (noting_as note (Some role) (work_of self.old)) self.old.outcome) }
     {
         match role {
-            Role::Subordinate { key, part } => {
-                self.note_part(key, part, note);
-                self.proceed(key);
-            }
+            Role::Subordinate { key, part } => self.note_part(key, part, note),
             Role::Superior(_) => {}
         }
     }
 
-    /// This is noted of a part, where there is such a part.
+    /// This is noted of a part, where there is such a part, and its transaction goes on.
     #[tactic(auto, using(crate::proofs::Responses::noting_part))]
     fn note_part(&mut self, key: Key, part: Part, note: Note)
-        ensures { Does self.old self.new (alter key (noting part (noted note)) (work_of self.old)) }
+        requires lines { lines_for key (work_of self.old).state ≤ self.old.making.free }
+        requires none { IsIdle self.old.making.answer }
+        requires next { EndsBy (wanted_of_part note (Some (key, part)) (work_of self.old).state)
+            self.old.endings }
+        ensures { Does self.old self.new
+            (chosen (proceed key (alter key (noting part (noted note)) (work_of self.old)))
+            self.old.outcome) }
     {
         let Some(place) = self.transaction(key) else {
             return;
         };
+        self.take_note(key, place, part, note);
+        self.proceed(key, place);
+    }
+
+    /// This is noted of a part, if there is such a part.
+    #[tactic(auto, using(crate::proofs::Responses::taking_note))]
+    fn take_note(&mut self, key: Key, place: usize, part: Part, note: Note)
+        requires { StandsAt self.old.transactions self.old.realm (is_keyed key) place }
+        ensures does { Does self.old self.new
+            (alter key (noting part (noted note)) (work_of self.old)) }
+        ensures stands { StandsAt self.new.transactions self.new.realm (is_keyed key) place }
+    {
         match note {
             Note::Nothing => {}
             Note::Answered(answer) => self.note(key, place, part, answer),

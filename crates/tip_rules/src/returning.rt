@@ -12,8 +12,11 @@ ghost use Rattle.tip_machine.specs.Types.{Transaction as ATransaction};
 ghost use Rattle.tip_machine.specs.Steps.{chosen};
 ghost use Rattle.tip_machine.specs.Transactions.{has_ready, is_committed, noting, party_answer, refuses, standing_at};
 ghost use Rattle.tip_machine.specs.declared.transaction.PartyPlace.TheVariants.{Here, Spent};
+ghost use Rattle.tip_machine.specs.declared.event.Event.TheVariants.{Settled as ASettled, Voted as AVote};
+ghost use Rattle.tip_outlook.specs.Endings.{EndsBy};
 ghost use Rattle.tip_outlook.specs.Searches.{is_keyed};
-ghost use Rattle.tip_rules.specs.Works.{Does, is_aborting, is_committing, is_voting, IsIdle, lines_for, lines_of, party_here, work_of};
+ghost use Rattle.tip_outlook.specs.Wanting.{back_at, foreseen};
+ghost use Rattle.tip_rules.specs.Works.{ContinuesAs, Does, is_aborting, is_committing, is_voting, IsIdle, lines_for, lines_of, party_here, work_of};
 
 use crate::making::Making;
 use crate::outcome::is_done;
@@ -34,6 +37,8 @@ impl Work<Connection, Transaction, Making> {
         requires lines { lines_of (owner party (work_of self.old).state) (work_of self.old).state
             ≤ self.old.making.free }
         requires none { IsIdle self.old.making.answer }
+        requires next { EndsBy (foreseen (AVote party) (work_of self.old).state)
+            self.old.endings }
         ensures { Does self.old self.new (chosen
             (voted (owner party (work_of self.old).state) party (work_of self.old))
             self.old.outcome) }
@@ -55,6 +60,9 @@ impl Work<Connection, Transaction, Making> {
         requires out { party_here place self.old ≡ None }
         requires lines { lines_for key (work_of self.old).state ≤ self.old.making.free }
         requires none { IsIdle self.old.making.answer }
+        requires next { ContinuesAs (transaction_of key (work_of self.old).state)
+            (λ transaction. noting 0 (answered (party_answer party))
+            (standing_at (Here party) transaction)) self.old }
         ensures { Does self.old self.new (chosen (proceed key (alter key
             (noting 0 (answered (party_answer party)))
             (alter key (standing_at (Here party)) (work_of self.old)))) self.old.outcome) }
@@ -62,7 +70,7 @@ impl Work<Connection, Transaction, Making> {
         let answer = answer_of(&party);
         self.take_back(key, place, party);
         self.note(key, place, Part::local(), answer);
-        self.proceed(key);
+        self.proceed(key, place);
     }
 
     /// A party comes back that was told the outcome.
@@ -72,6 +80,8 @@ impl Work<Connection, Transaction, Making> {
         requires lines { lines_of (owner party (work_of self.old).state) (work_of self.old).state
             ≤ self.old.making.free }
         requires none { IsIdle self.old.making.answer }
+        requires next { EndsBy (foreseen (ASettled party) (work_of self.old).state)
+            self.old.endings }
         ensures { Does self.old self.new (chosen
             (settled (owner party (work_of self.old).state) party (work_of self.old))
             self.old.outcome) }
@@ -95,6 +105,8 @@ impl Work<Connection, Transaction, Making> {
         requires out { party_here place self.old ≡ None }
         requires lines { lines_for key (work_of self.old).state ≤ self.old.making.free }
         requires none { IsIdle self.old.making.answer }
+        requires next { ContinuesAs (transaction_of key (work_of self.old).state)
+            (standing_at (back_at party)) self.old }
         ensures { Does self.old self.new (chosen (proceed key (if has_ready party
             then alter key (standing_at (Here party)) (work_of self.old)
             else dispatch key
@@ -103,10 +115,10 @@ impl Work<Connection, Transaction, Making> {
         let waits = has_ready(&party);
         self.take_back(key, place, party);
         if waits {
-            self.proceed(key);
+            self.proceed(key, place);
         } else {
-            self.dispatch(key);
-            self.proceed(key);
+            self.dispatch(key, place);
+            self.proceed(key, place);
         }
     }
 
@@ -117,12 +129,14 @@ impl Work<Connection, Transaction, Making> {
         requires out { party_here place self.old ≡ None }
         requires lines { lines_for key (work_of self.old).state ≤ self.old.making.free }
         requires none { IsIdle self.old.making.answer }
+        requires next { ContinuesAs (transaction_of key (work_of self.old).state)
+            (standing_at (Here party)) self.old }
         ensures { Does self.old self.new (chosen
             (proceed key (alter key (standing_at (Here party)) (work_of self.old)))
             self.old.outcome) }
     {
         self.take_back(key, place, party);
-        self.proceed(key);
+        self.proceed(key, place);
     }
 
     /// The party is with its transaction again.
@@ -171,7 +185,7 @@ impl Work<Connection, Transaction, Making> {
             (resume_in transaction.place transaction (work_of self.old)) self.old.outcome) }
     {
         match &self.at(key, place).place {
-            PartyPlace::Here(_) => self.dispatch(key),
+            PartyPlace::Here(_) => self.dispatch(key, place),
             PartyPlace::Out(_) => self.refuse(Refusal::Busy),
             PartyPlace::Spent => self.finish_if_done(key, place),
         }

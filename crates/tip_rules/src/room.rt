@@ -7,14 +7,15 @@ use crate::making::{Making, Words};
 use crate::transaction_room::TransactionRoom;
 use std::alloc::{AllocError, Global};
 use std::marker::Model;
-use tip_machine::{Change, Outcome};
+use tip_machine::Change;
+use tip_outlook::{Ending, Next};
 
-/// All the memory that one event needs, and the change of its row that it wants. It belongs to the state and the event that it
-/// was made for.
+/// All the memory that one event needs, the change of its row that it wants, and how its transaction goes on by what becomes of
+/// that. It belongs to the state and the event that it was made for.
 #[derive(Drop)]
 pub struct Room {
     making: Making,
-    change: Option<Change>,
+    next: Next,
 }
 
 impl Model for Room {
@@ -30,7 +31,8 @@ impl Model for Room {
       peer = r.making.peer;
       ours = r.making.ours;
       word = r.making.word;
-      change = r.change;
+      change = r.next.change;
+      endings = r.next.endings;
     } };
 
     ghost invariant = { λ r. r.making.answer ≡ silence };
@@ -39,25 +41,26 @@ impl Model for Room {
 impl Room {
     ghost use Rattle.tip_machine.specs.Answers.{silence};
 
-    /// Room for so many lines and closings, for a transaction if it is given, for an event that wants this change, with these
+    /// Room for so many lines and closings, for a transaction if it is given, for an event of which this follows, with these
     /// copies of words.
     pub fn new(
         alloc: Global,
         lines: usize,
         transaction: Option<TransactionRoom>,
         words: Words,
-        change: Option<Change>,
+        next: Next,
     ) -> Result<Room, AllocError>
         ensures lines { IfOk result (λ room. lines ≤ room.lines) }
         ensures transaction { IfOk result (λ room. room.transaction ≡ transaction) }
         ensures peer { IfOk result (λ room. room.peer ≡ words.peer) }
         ensures ours { IfOk result (λ room. room.ours ≡ words.ours) }
         ensures word { IfOk result (λ room. room.word ≡ words.word) }
-        ensures change { IfOk result (λ room. room.change ≡ change) }
+        ensures change { IfOk result (λ room. room.change ≡ next.change) }
+        ensures endings { IfOk result (λ room. room.endings ≡ next.endings) }
     {
         Ok(Room {
             making: Making::new(alloc, lines, transaction, words)?,
-            change,
+            next,
         })
     }
 
@@ -71,18 +74,18 @@ impl Room {
             ours: None,
             word: None,
         };
-        Room::new(alloc, 0, None, words, None)
+        Room::new(alloc, 0, None, words, Next::done(Ending::Nothing))
     }
 
     /// The change of its row that the event wants. Its outcome is handed to `Core::apply`.
     pub fn wants(&self) -> Option<&Change>
         ensures { option_copied result ≡ self.now.change }
     {
-        self.change.as_ref()
+        self.next.change.as_ref()
     }
 
-    /// The answer to be made, with its room, and the change.
-    pub fn into_parts(self) -> (Making, Option<Change>)
+    /// The answer to be made, with its room, and what follows.
+    pub fn into_parts(self) -> (Making, Next)
         requires { Always }
         ensures answer { result.0.answer ≡ silence }
         ensures lines { result.0.free ≡ self.lines }
@@ -90,9 +93,10 @@ impl Room {
         ensures peer { result.0.peer ≡ self.peer }
         ensures ours { result.0.ours ≡ self.ours }
         ensures word { result.0.word ≡ self.word }
-        ensures change { result.1 ≡ self.change }
+        ensures change { result.1.change ≡ self.change }
+        ensures endings { result.1.endings ≡ self.endings }
     {
-        let Room { making, change } = self;
-        (making, change)
+        let Room { making, next } = self;
+        (making, next)
     }
 }

@@ -13,10 +13,13 @@ ghost use Rattle.tip_machine.specs.States.{connection_of, seated};
 ghost use Rattle.tip_machine.specs.Steps.{attempt, chosen, frozen};
 ghost use Rattle.tip_machine.specs.Types.{Connection as AConnection};
 ghost use Rattle.tip_machine.specs.declared.event.Heard.TheVariants.{Command as ACommand};
+ghost use Rattle.tip_machine.specs.declared.event.Event.TheVariants.{Line as ALine};
+ghost use Rattle.tip_outlook.specs.Endings.{EndsBy};
+ghost use Rattle.tip_outlook.specs.Wanting.{foreseen, taken_wanted};
 ghost use Rattle.tip_rules.specs.Growing.{CanGrow};
 ghost use Rattle.tip_rules.specs.Needs.{HasNeeds, IsReady, begins, happened, joined};
 ghost use Rattle.tip_rules.specs.Pursuing.{word_at};
-ghost use Rattle.tip_rules.specs.Works.{Does, IsIdle, lines_at, lines_queried, MayMake, peer_of, work_of};
+ghost use Rattle.tip_rules.specs.Works.{Does, GoesBy, IsIdle, lines_at, lines_queried, MayMake, peer_of, work_of};
 
 use crate::making::Making;
 use crate::work::Work;
@@ -89,6 +92,8 @@ impl Work<Connection, Transaction, Making> {
             ≤ self.old.making.free }
         requires word { self.old.making.word ≡ word_at seat.number (work_of self.old).state }
         requires none { IsIdle self.old.making.answer }
+        requires next { EndsBy (foreseen (ALine seat heard) (work_of self.old).state)
+            self.old.endings }
         ensures { Does self.old self.new (chosen
             (line (seated seat (work_of self.old).state) heard (work_of self.old))
             self.old.outcome) }
@@ -119,6 +124,7 @@ impl Work<Connection, Transaction, Making> {
         requires numbered { are_numbered (work_of self.old).state ≡ true }
         requires lines { lines_at number (work_of self.old).state + 2 ≤ self.old.making.free }
         requires none { IsIdle self.old.making.answer }
+        requires next { GoesBy number (taken_wanted Secondary heard) self.old }
         ensures { (connection : AConnection) →
             connection_of number (work_of self.old).state ≡ Some connection →
             Does self.old self.new
@@ -138,6 +144,7 @@ impl Work<Connection, Transaction, Making> {
         requires queried { lines_queried number (work_of self.old).state ≤ self.old.making.free }
         requires word { self.old.making.word ≡ word_at number (work_of self.old).state }
         requires none { IsIdle self.old.making.answer }
+        requires next { GoesBy number (taken_wanted Primary heard) self.old }
         ensures { (connection : AConnection) →
             connection_of number (work_of self.old).state ≡ Some connection →
             Does self.old self.new

@@ -1,7 +1,8 @@
-//! The change of its row that an event wants, by reading alone, so that its outcome can be had before the event happens.
+//! What an event comes to for its transaction, by reading alone: the change of its row that it wants, so that its outcome can be
+//! had before the event happens, and what follows for either outcome.
 ghost use Rattle.std.specs.Prelude.{◌≡◌, ◌<◌, ◌&&◌, true, false, not, Some, length, IfOk};
 ghost use Rattle.std.specs.List.{list_any};
-ghost use Rattle.std.specs.Option.{option_and_then, option_map_or};
+ghost use Rattle.std.specs.Option.{option_copied, option_map_or};
 ghost use Rattle.tip_branch.specs.Notes.{PartyNotes};
 ghost use Rattle.tip_conn.specs.Table.{admit_of};
 ghost use Rattle.tip_line.specs.Command.{name_of};
@@ -18,9 +19,11 @@ ghost use Rattle.tip_machine.specs.Transactions.{noting, standing_at};
 ghost use Rattle.tip_machine.specs.Types.{seen, Transaction as ATransaction};
 ghost use Rattle.tip_machine.specs.declared.transaction.PartyPlace.TheVariants.{Here, Spent};
 ghost use Rattle.tip_machine.specs.declared.event.Event.TheVariants.{Line, Resume, Settled, Voted};
-ghost use Rattle.tip_outlook.specs.Noting.{exists_of, note_of, part_of};
-ghost use Rattle.tip_outlook.specs.Wanting.{abort_for, answer_wanted, asked, command_wanted, foreseen, forgotten, hears_responses, is_admitted, line_wanted, of_superior, outlook, owed_then, query_wanted, response_wanted, resume_wanted, wanted_noting, wanted_of_part, wished};
+ghost use Rattle.tip_outlook.specs.Noting.{awaits_of, exists_of, note_of, part_of};
+ghost use Rattle.tip_outlook.specs.Wanting.{Course, abort_for, admitted_wanted, answer_wanted, asked, asking_for, command_wanted, foreseen, forgotten, is_admitted, of_superior, outlook, owed_then, query_wanted, resume_wanted, said_wanted, wanted_noting, wanted_of_part};
+ghost use Rattle.tip_outlook.specs.Endings.{Follows, Meets};
 ghost use Rattle.tip_outlook.specs.Searches.{is_keyed};
+ghost use Rattle.tip_rules.specs.Needs.{own_of};
 ghost use Rattle.tip_rules.specs.Works.{work_of};
 
 use crate::commands::superior_role;
@@ -33,69 +36,94 @@ use tip_branch::{HeldParty, Member};
 use tip_conn::{Admit, Side, State, Turn, admit, after_named};
 use tip_line::{Command, CommandName, Id, Response, ResponseName};
 use tip_machine::{Change, Connection, Event, Heard, PartyPlace, Role, Seat, Transaction};
-use tip_outlook::{Awaits, Note, Outlook, SuperiorOf, asks_for, exists_of};
+use tip_outlook::{Awaits, Next, Note, Outlook, SuperiorOf, asks_for, exists_of};
 use tip_rows::Key;
 use tip_txn::{Ballot, Part, Phase};
 
 impl Work<Connection, Transaction, Making> {
     /// What the event wants, once it has its entry.
-    pub(crate) fn foresee(&self, alloc: Global, event: &Event) -> Result<Option<Change>, AllocError>
+    pub(crate) fn foresee(
+        &self,
+        alloc: Global,
+        event: &Event,
+        own: Option<&Connection>,
+    ) -> Result<Next, AllocError>
         requires here { self.now.realm < length self.now.heads.items }
-        requires numbered { are_numbered (work_of self.now).state ≡ true }
-        ensures { IfOk result (λ change. change ≡ foreseen event.now (work_of self.now).state) }
+        requires own { option_copied own ≡ own_of event.now (work_of self.now).state }
+        ensures { IfOk result (Meets (foreseen event.now (work_of self.now).state)) }
     {
         match event {
-            Event::Line { seat, heard } => self.wanted_by_line(alloc, *seat, heard),
+            Event::Line { seat, heard } => {
+                self.wanted_by_line(alloc, self.if_seated(*seat, own), *seat, heard)
+            }
             Event::Voted(party) => self.wanted_by_vote(alloc, party),
             Event::Settled(party) => self.wanted_by_settled(alloc, party),
-            Event::Resume { id } => Ok(self.wanted_by_resume(id)),
+            Event::Resume { id } => Ok(Next::asking(self.wanted_by_resume(id))),
             Event::Open { .. }
             | Event::Dial { .. }
             | Event::Lost { .. }
             | Event::AskPush { .. }
-            | Event::AskPull { .. } => Ok(None),
+            | Event::AskPull { .. } => Ok(Next::nothing()),
         }
     }
 
-    /// What a line wants: a command, or a response, where it may be taken and is valid.
+    /// The connection of a seat's number, if the seat is of this start.
+    #[tactic(auto, using(crate::proofs::Needing::seating))]
+    fn if_seated<'a>(&self, seat: Seat, own: Option<&'a Connection>) -> Option<&'a Connection>
+        requires here { self.now.realm < length self.now.heads.items }
+        requires own { option_copied own ≡ connection_of seat.number (work_of self.now).state }
+        ensures { option_copied result ≡ seated seat (work_of self.now).state }
+    {
+        if seat.epoch == self.heads[self.realm].epoch {
+            own
+        } else {
+            None
+        }
+    }
+
+    /// What a line wants that may be taken: we hear commands as the secondary, and responses as the primary.
+    #[tactic(auto, using(crate::proofs::Asking::itself))]
     fn wanted_by_line(
         &self,
         alloc: Global,
+        own: Option<&Connection>,
         seat: Seat,
         heard: &Heard,
-    ) -> Result<Option<Change>, AllocError>
-        requires here { self.now.realm < length self.now.heads.items }
-        requires numbered { are_numbered (work_of self.now).state ≡ true }
-        ensures { IfOk result
-            (λ change. change ≡ foreseen (Line seat heard.now) (work_of self.now).state) }
+    ) -> Result<Next, AllocError>
+        requires own { option_copied own ≡ seated seat (work_of self.now).state }
+        ensures { IfOk result (Meets (foreseen (Line seat heard.now) (work_of self.now).state)) }
     {
-        match heard {
-            Heard::Command(command) => self.wanted_on(alloc, seat, command),
-            Heard::Response(response) => self.wanted_by_response(alloc, seat, response),
-            Heard::Malformed => Ok(None),
+        let Some(connection) = own else {
+            return Ok(Next::nothing());
+        };
+        if !connection.may_take() {
+            return Ok(Next::nothing());
+        }
+        match (connection.side, heard) {
+            (Side::Secondary, Heard::Command(command)) => {
+                self.wanted_on(alloc, connection, command)
+            }
+            (Side::Primary, Heard::Response(response)) => {
+                self.wanted_by_response(alloc, connection, response)
+            }
+            _ => Ok(Next::nothing()),
         }
     }
 
-    /// What a command wants that comes for a connection.
+    /// What a command wants on a connection, where it is valid.
     fn wanted_on(
         &self,
         alloc: Global,
-        seat: Seat,
+        connection: &Connection,
         command: &Command,
-    ) -> Result<Option<Change>, AllocError>
-        requires here { self.now.realm < length self.now.heads.items }
-        requires numbered { are_numbered (work_of self.now).state ≡ true }
-        ensures { IfOk result (λ change. change ≡ line_wanted (seated seat (work_of self.now).state)
-            command.now (work_of self.now).state) }
+    ) -> Result<Next, AllocError>
+        ensures { IfOk result
+            (Meets (admitted_wanted command.now connection.now (work_of self.now).state)) }
     {
-        let Some(place) = self.seated(seat) else {
-            return Ok(None);
-        };
-        let connection = self.connection(seat.number, place);
-        if connection.may_take() && is_admitted(connection, command) {
+        if is_admitted(connection, command) {
             self.wanted_by_command(alloc, connection, command)
         } else {
-            Ok(None)
+            Ok(Next::nothing())
         }
     }
 
@@ -105,32 +133,27 @@ impl Work<Connection, Transaction, Making> {
         alloc: Global,
         connection: &Connection,
         command: &Command,
-    ) -> Result<Option<Change>, AllocError>
-        ensures { IfOk result (λ change. change
-            ≡ command_wanted command.now connection.now (work_of self.now).state) }
+    ) -> Result<Next, AllocError>
+        ensures { IfOk result
+            (Meets (command_wanted command.now connection.now (work_of self.now).state)) }
     {
         match command {
             Command::Prepare => self.wanted_by_prepare(alloc, connection),
             Command::Commit => self.wanted_by_commit(alloc, connection),
-            Command::Abort => Ok(self.wanted_by_abort(connection)),
-            _ => Ok(None),
+            Command::Abort => Ok(Next::asking(self.wanted_by_abort(connection))),
+            _ => Ok(Next::nothing()),
         }
     }
 
     /// What the superior's PREPARE wants: the row that all agree on, where the superior can be reached again.
-    fn wanted_by_prepare(
-        &self,
-        alloc: Global,
-        connection: &Connection,
-    ) -> Result<Option<Change>, AllocError>
-        ensures { IfOk result
-            (λ change. change ≡ command_wanted Prepare connection.now (work_of self.now).state) }
+    fn wanted_by_prepare(&self, alloc: Global, connection: &Connection) -> Result<Next, AllocError>
+        ensures { IfOk result (Meets (command_wanted Prepare connection.now (work_of self.now).state)) }
     {
         let Some(key) = superior_role(connection.role) else {
-            return Ok(None);
+            return Ok(Next::nothing());
         };
         let Some(place) = self.transaction(key) else {
-            return Ok(None);
+            return Ok(Next::nothing());
         };
         let transaction = self.at(key, place);
         match (transaction.txn.phase(), &connection.peer) {
@@ -138,7 +161,9 @@ impl Work<Connection, Transaction, Making> {
                 self.wanted_once_asked(alloc, CommandName::Prepare, connection.number, transaction)
             }
             (Phase::Active, None)
-            | (Phase::Asking | Phase::Prepared | Phase::Committed | Phase::Aborted, _) => Ok(None),
+            | (Phase::Asking | Phase::Prepared | Phase::Committed | Phase::Aborted, _) => Ok(
+                Next::nothing(),
+            ),
         }
     }
 
@@ -149,37 +174,31 @@ impl Work<Connection, Transaction, Making> {
         command: CommandName,
         number: u32,
         transaction: &Transaction,
-    ) -> Result<Option<Change>, AllocError>
-        ensures { IfOk result (λ change. change ≡ wished
-            (owed_then command number transaction.now.key (work_of self.now).state)
-            (outlook (asked (seen transaction.now)))) }
+    ) -> Result<Next, AllocError>
+        ensures { IfOk result (Follows (outlook (asked (seen transaction.now)))
+            (owed_then command number transaction.now.key (work_of self.now).state)) }
     {
         let owed = self.owed_then(command, number, transaction.key);
-        Outlook::asked(transaction).wished(alloc, owed)
+        Outlook::asked(transaction).next(alloc, owed)
     }
 
     /// What the superior's COMMIT wants: the row that all agree on, or the committed one of a transaction in doubt.
-    fn wanted_by_commit(
-        &self,
-        alloc: Global,
-        connection: &Connection,
-    ) -> Result<Option<Change>, AllocError>
-        ensures { IfOk result
-            (λ change. change ≡ command_wanted Commit connection.now (work_of self.now).state) }
+    fn wanted_by_commit(&self, alloc: Global, connection: &Connection) -> Result<Next, AllocError>
+        ensures { IfOk result (Meets (command_wanted Commit connection.now (work_of self.now).state)) }
     {
         let Some(key) = superior_role(connection.role) else {
-            return Ok(None);
+            return Ok(Next::nothing());
         };
         let Some(place) = self.transaction(key) else {
-            return Ok(None);
+            return Ok(Next::nothing());
         };
         let transaction = self.at(key, place);
         match transaction.txn.phase() {
             Phase::Active => {
                 self.wanted_once_asked(alloc, CommandName::Commit, connection.number, transaction)
             }
-            Phase::Prepared => Ok(Some(Outlook::of(transaction).committing(alloc)?)),
-            Phase::Asking | Phase::Committed | Phase::Aborted => Ok(None),
+            Phase::Prepared => Ok(Next::asking(Some(Outlook::of(transaction).committing(alloc)?))),
+            Phase::Asking | Phase::Committed | Phase::Aborted => Ok(Next::nothing()),
         }
     }
 
@@ -198,7 +217,8 @@ impl Work<Connection, Transaction, Making> {
 
     /// What the superior's ABORT wants: that the row of a transaction in doubt is removed.
     fn wanted_by_abort(&self, connection: &Connection) -> Option<Change>
-        ensures { result ≡ of_superior abort_for connection.now (work_of self.now).state }
+        ensures { asking_for result
+            ≡ of_superior abort_for connection.now (work_of self.now).state }
     {
         let key = superior_role(connection.role)?;
         let place = self.transaction(key)?;
@@ -211,35 +231,28 @@ impl Work<Connection, Transaction, Making> {
         }
     }
 
-    /// What a response wants that comes for a connection: the row that all agree on, or that it is removed once all have
-    /// acknowledged.
-    #[tactic(auto, using(crate::proofs::Asking::itself))]
+    /// What a response wants on a connection: the row that all agree on, or that it is removed once all have acknowledged.
     fn wanted_by_response(
         &self,
         alloc: Global,
-        seat: Seat,
+        connection: &Connection,
         response: &Response,
-    ) -> Result<Option<Change>, AllocError>
-        requires here { self.now.realm < length self.now.heads.items }
-        requires numbered { are_numbered (work_of self.now).state ≡ true }
-        ensures { IfOk result (λ change. change ≡ response_wanted
-            (seated seat (work_of self.now).state) response.now (work_of self.now).state) }
+    ) -> Result<Next, AllocError>
+        requires { connection_of connection.now.number (work_of self.now).state
+            ≡ Some connection.now }
+        ensures { IfOk result (Meets (said_wanted (awaits_of connection.now.awaited) response.now
+            connection.now (work_of self.now).state)) }
     {
-        let Some(place) = self.seated(seat) else {
-            return Ok(None);
-        };
-        let connection = self.connection(seat.number, place);
-        if !hears_responses(connection) {
-            return Ok(None);
-        }
         match Awaits::of(&connection.awaited) {
             Awaits::OfPart(_) => self.wanted_by_part(alloc, connection, response),
-            Awaits::Queried(key) => Ok(self.wanted_by_query(connection, key, response)),
+            Awaits::Queried(key) => {
+                Ok(Next::asking(self.wanted_by_query(connection, key, response)))
+            }
             Awaits::Nothing
             | Awaits::Identified
             | Awaits::ToAsk
             | Awaits::ToReach
-            | Awaits::Pulled => Ok(None),
+            | Awaits::Pulled => Ok(Next::nothing()),
         }
     }
 
@@ -250,14 +263,12 @@ impl Work<Connection, Transaction, Making> {
         alloc: Global,
         connection: &Connection,
         response: &Response,
-    ) -> Result<Option<Change>, AllocError>
-        ensures { IfOk result (λ change. change ≡ answer_wanted
-            (note_of connection.now.awaited response.now) connection.now
-            (work_of self.now).state) }
+    ) -> Result<Next, AllocError>
+        ensures { IfOk result (Meets (answer_wanted (note_of connection.now.awaited response.now) connection.now (work_of self.now).state)) }
     {
         match Note::copied(&connection.awaited, response)? {
             Some(note) => self.wanted_once_noted(alloc, connection.role, &note),
-            None => Ok(None),
+            None => Ok(Next::nothing()),
         }
     }
 
@@ -270,7 +281,7 @@ impl Work<Connection, Transaction, Making> {
     ) -> Option<Change>
         requires { connection_of connection.now.number (work_of self.now).state
             ≡ Some connection.now }
-        ensures { result
+        ensures { asking_for result
             ≡ query_wanted (exists_of response.now) key connection.now (work_of self.now).state }
     {
         if exists_of(response)? {
@@ -313,29 +324,23 @@ impl Work<Connection, Transaction, Making> {
         alloc: Global,
         role: Option<Role>,
         note: &Note,
-    ) -> Result<Option<Change>, AllocError>
-        ensures { IfOk result
-            (λ change. change ≡ wanted_of_part note.now (part_of role) (work_of self.now).state) }
+    ) -> Result<Next, AllocError>
+        ensures { IfOk result (Meets (wanted_of_part note.now (part_of role) (work_of self.now).state)) }
     {
         match role {
             Some(role) => self.wanted_on_role(alloc, role, note),
-            None => Ok(None),
+            None => Ok(Next::nothing()),
         }
     }
 
     /// What the transaction wants whose part's connection this role is, once this is noted of the part.
-    fn wanted_on_role(
-        &self,
-        alloc: Global,
-        role: Role,
-        note: &Note,
-    ) -> Result<Option<Change>, AllocError>
-        ensures { IfOk result (λ change. change
-            ≡ wanted_of_part note.now (part_of (Some role)) (work_of self.now).state) }
+    fn wanted_on_role(&self, alloc: Global, role: Role, note: &Note) -> Result<Next, AllocError>
+        ensures { IfOk result
+            (Meets (wanted_of_part note.now (part_of (Some role)) (work_of self.now).state)) }
     {
         match role {
             Role::Subordinate { key, part } => self.wanted_noting(alloc, key, part, note),
-            Role::Superior(_) => Ok(None),
+            Role::Superior(_) => Ok(Next::nothing()),
         }
     }
 
@@ -346,33 +351,32 @@ impl Work<Connection, Transaction, Making> {
         key: Key,
         part: Part,
         note: &Note,
-    ) -> Result<Option<Change>, AllocError>
-        ensures { IfOk result (λ change. change ≡ option_and_then
+    ) -> Result<Next, AllocError>
+        ensures { IfOk result (Meets (option_map_or
             (wanted_noting note.now part (work_of self.now).state)
-            (transaction_of key (work_of self.now).state)) }
+            (transaction_of key (work_of self.now).state) Course.Stays)) }
     {
         let Some(place) = self.transaction(key) else {
-            return Ok(None);
+            return Ok(Next::nothing());
         };
         let transaction = self.at(key, place);
         let owed = self.owed_to_superior(transaction.key);
-        Outlook::noted(transaction, part, note).wished(alloc, owed)
+        Outlook::noted(transaction, part, note).next(alloc, owed)
     }
 
     /// What a vote wants: the row that all agree on.
     #[tactic(auto, using(crate::proofs::Ahead::voting_ahead))]
-    fn wanted_by_vote(&self, alloc: Global, party: &HeldParty) -> Result<Option<Change>, AllocError>
+    fn wanted_by_vote(&self, alloc: Global, party: &HeldParty) -> Result<Next, AllocError>
         requires { self.now.realm < length self.now.heads.items }
-        ensures { IfOk result
-            (λ change. change ≡ foreseen (Voted party.now) (work_of self.now).state) }
+        ensures { IfOk result (Meets (foreseen (Voted party.now) (work_of self.now).state)) }
     {
         let Some((key, place)) = self.owner(party) else {
-            return Ok(None);
+            return Ok(Next::nothing());
         };
         if is_voting(&self.at(key, place).place) {
             self.wanted_once_voted(alloc, key, place, answer_of(party), party.party().members())
         } else {
-            Ok(None)
+            Ok(Next::nothing())
         }
     }
 
@@ -384,37 +388,33 @@ impl Work<Connection, Transaction, Making> {
         place: usize,
         answer: Ballot,
         members: &[Member],
-    ) -> Result<Option<Change>, AllocError>
+    ) -> Result<Next, AllocError>
         requires { StandsAt self.now.transactions self.now.realm (is_keyed key) place }
         ensures { (t : ATransaction) (party : PartyNotes) →
             transaction_of key (work_of self.now).state ≡ Some t → members.now ≡ party.members →
-            IfOk result (λ change. change ≡ wished (owed_to_superior key (work_of self.now).state)
-            (outlook (noting 0 (answered answer) (standing_at (Here party) t)))) }
+            IfOk result (Follows
+            (outlook (noting 0 (answered answer) (standing_at (Here party) t)))
+            (owed_to_superior key (work_of self.now).state)) }
     {
         let transaction = self.at(key, place);
-        Outlook::voted(transaction, answer, members).wished(alloc, self.owed_to_superior(key))
+        Outlook::voted(transaction, answer, members).next(alloc, self.owed_to_superior(key))
     }
 
     /// What a party wants that was told the outcome: that the row is removed, where all have acknowledged.
     #[tactic(auto, using(crate::proofs::Ahead::settling_ahead))]
-    fn wanted_by_settled(
-        &self,
-        alloc: Global,
-        party: &HeldParty,
-    ) -> Result<Option<Change>, AllocError>
+    fn wanted_by_settled(&self, alloc: Global, party: &HeldParty) -> Result<Next, AllocError>
         requires { self.now.realm < length self.now.heads.items }
-        ensures { IfOk result
-            (λ change. change ≡ foreseen (Settled party.now) (work_of self.now).state) }
+        ensures { IfOk result (Meets (foreseen (Settled party.now) (work_of self.now).state)) }
     {
         let Some((key, place)) = self.owner(party) else {
-            return Ok(None);
+            return Ok(Next::nothing());
         };
         let at = &self.at(key, place).place;
         if is_aborting(at) {
             return self.wanted_once_back(alloc, key, place, party.party().members());
         }
         if !is_committing(at) {
-            return Ok(None);
+            return Ok(Next::nothing());
         }
         if has_ready(party) {
             self.wanted_once_back(alloc, key, place, party.party().members())
@@ -431,37 +431,32 @@ impl Work<Connection, Transaction, Making> {
         key: Key,
         place: usize,
         members: &[Member],
-    ) -> Result<Option<Change>, AllocError>
+    ) -> Result<Next, AllocError>
         requires { StandsAt self.now.transactions self.now.realm (is_keyed key) place }
         ensures { (t : ATransaction) (party : PartyNotes) →
             transaction_of key (work_of self.now).state ≡ Some t → members.now ≡ party.members →
-            IfOk result (λ change. change ≡ wished (owed_to_superior key (work_of self.now).state)
-            (outlook (standing_at (Here party) t))) }
+            IfOk result (Follows (outlook (standing_at (Here party) t))
+            (owed_to_superior key (work_of self.now).state)) }
     {
         let transaction = self.at(key, place);
-        Outlook::back(transaction, members).wished(alloc, self.owed_to_superior(key))
+        Outlook::back(transaction, members).next(alloc, self.owed_to_superior(key))
     }
 
     /// What a party that was told the outcome wants, where it is let go then: that the row is removed, where all have acknowledged.
-    fn wanted_once_spent(
-        &self,
-        alloc: Global,
-        key: Key,
-        place: usize,
-    ) -> Result<Option<Change>, AllocError>
+    fn wanted_once_spent(&self, alloc: Global, key: Key, place: usize) -> Result<Next, AllocError>
         requires { StandsAt self.now.transactions self.now.realm (is_keyed key) place }
         ensures { (t : ATransaction) → transaction_of key (work_of self.now).state ≡ Some t →
-            IfOk result (λ change. change ≡ wished (owed_to_superior key (work_of self.now).state)
-            (outlook (standing_at Spent t))) }
+            IfOk result (Follows (outlook (standing_at Spent t))
+            (owed_to_superior key (work_of self.now).state)) }
     {
         let transaction = self.at(key, place);
-        Outlook::spent(transaction).wished(alloc, self.owed_to_superior(key))
+        Outlook::spent(transaction).next(alloc, self.owed_to_superior(key))
     }
 
     /// What it wants that a transaction is tried again: that its row is removed, where only this is left.
     fn wanted_by_resume(&self, id: &Id) -> Option<Change>
         requires { self.now.realm < length self.now.heads.items }
-        ensures { result ≡ foreseen (Resume id.now) (work_of self.now).state }
+        ensures { asking_for result ≡ foreseen (Resume id.now) (work_of self.now).state }
     {
         let (key, place) = self.identified(id)?;
         wanted_again(self.at(key, place))
@@ -470,7 +465,7 @@ impl Work<Connection, Transaction, Making> {
 
 /// What a transaction wants that is tried again: that its row is removed, where only this is left.
 fn wanted_again(transaction: &Transaction) -> Option<Change>
-    ensures { result ≡ resume_wanted (seen transaction.now) }
+    ensures { asking_for result ≡ resume_wanted (seen transaction.now) }
 {
     if !is_committed(transaction.txn.phase()) {
         return None;
@@ -479,13 +474,6 @@ fn wanted_again(transaction: &Transaction) -> Option<Change>
         PartyPlace::Spent => Outlook::of(transaction).finished(),
         PartyPlace::Here(_) | PartyPlace::Out(_) => None,
     }
-}
-
-/// Whether a response is taken on a connection: where we are its primary, and await one.
-fn hears_responses(connection: &Connection) -> bool
-    ensures { result ≡ hears_responses connection.now }
-{
-    connection.may_take() && connection.side == Side::Primary
 }
 
 /// Whether a connection is the one of a transaction's superior, and no more once it has gone on after QUERIEDNOTFOUND.

@@ -21,7 +21,7 @@ use std::mem;
 use tip_branch::{Errand, HeldParty, Member};
 use tip_line::Id;
 use tip_machine::{Connection, Head, Item, Outcome, PartyPlace, Transaction};
-use tip_outlook::{Keyed, OnKey, is_spent};
+use tip_outlook::{Endings, Keyed, OnKey, is_spent};
 use tip_rows::Key;
 use tip_table::{Linked, Table};
 use tip_txn::{Ballot, Part, Phase, Txn};
@@ -36,6 +36,8 @@ pub struct Work<C: Linked = Connection, T: Linked = Transaction, M = Making> {
     pub realm: usize,
     /// What became of the change of the stored rows that the event wants.
     pub outcome: Outcome,
+    /// How the event's transaction goes on by that, if it does.
+    pub endings: Endings,
     pub making: M,
 }
 
@@ -68,39 +70,47 @@ impl Work<Connection, Transaction, Making> {
     }
 
     /// The transaction of a key enters a phase.
-    #[tactic(auto, using(crate::proofs::Works::unaltered))]
-    pub fn enter(&mut self, key: Key, phase: Phase)
-        ensures { Does self.old self.new (enter phase key (work_of self.old)) }
+    #[tactic(auto, using(crate::proofs::Works::writing))]
+    pub fn enter(&mut self, key: Key, place: usize, phase: Phase)
+        requires { StandsAt self.old.transactions self.old.realm (is_keyed key) place }
+        ensures does { Does self.old self.new (enter phase key (work_of self.old)) }
+        ensures stands { StandsAt self.new.transactions self.new.realm (is_keyed key) place }
     {
-        if let Some(place) = self.transaction(key) {
-            let transaction = self.transactions.item_mut(place);
-            transaction.txn.enter(phase);
-        }
+        let transaction = self.transactions.item_mut(place);
+        transaction.txn.enter(phase);
     }
 
     /// The answer of a part is noted, where there is such a part.
+    #[tactic(auto, using(crate::proofs::Works::writing))]
     pub(crate) fn note(&mut self, key: Key, place: usize, part: Part, answer: Ballot)
         requires { StandsAt self.old.transactions self.old.realm (is_keyed key) place }
-        ensures { Does self.old self.new
+        ensures does { Does self.old self.new
             (alter key (noting part (answered answer)) (work_of self.old)) }
+        ensures stands { StandsAt self.new.transactions self.new.realm (is_keyed key) place }
     {
         let transaction = self.transactions.item_mut(place);
         answer_part(&mut transaction.txn, part, answer);
     }
 
     /// A part has acknowledged the commit, where there is such a part.
+    #[tactic(auto, using(crate::proofs::Works::writing))]
     pub(crate) fn acknowledge(&mut self, key: Key, place: usize, part: Part)
         requires { StandsAt self.old.transactions self.old.realm (is_keyed key) place }
-        ensures { Does self.old self.new (alter key (noting part acknowledged) (work_of self.old)) }
+        ensures does { Does self.old self.new
+            (alter key (noting part acknowledged) (work_of self.old)) }
+        ensures stands { StandsAt self.new.transactions self.new.realm (is_keyed key) place }
     {
         let transaction = self.transactions.item_mut(place);
         acknowledge_part(&mut transaction.txn, part);
     }
 
     /// A part has the identifier that its subordinate gave, where there is such a part.
+    #[tactic(auto, using(crate::proofs::Works::writing))]
     pub(crate) fn name_part(&mut self, key: Key, place: usize, part: Part, id: Id)
         requires { StandsAt self.old.transactions self.old.realm (is_keyed key) place }
-        ensures { Does self.old self.new (alter key (noting part (named id)) (work_of self.old)) }
+        ensures does { Does self.old self.new
+            (alter key (noting part (named id)) (work_of self.old)) }
+        ensures stands { StandsAt self.new.transactions self.new.realm (is_keyed key) place }
     {
         let transaction = self.transactions.item_mut(place);
         give_name(&mut transaction.txn, part, id);
@@ -137,11 +147,13 @@ impl Work<Connection, Transaction, Making> {
     }
 
     /// Takes the party, which is with the transaction, and says where it is then.
+    #[tactic(auto, using(crate::proofs::Works::writing))]
     fn take_party(&mut self, key: Key, place: usize, left: PartyPlace) -> HeldParty
         requires stands { StandsAt self.old.transactions self.old.realm (is_keyed key) place }
         requires here { IsSome (party_here place self.old) }
         ensures party { party_here place self.old ≡ Some result }
         ensures left { Does self.old self.new (alter key (standing_at left) (work_of self.old)) }
+        ensures stands { StandsAt self.new.transactions self.new.realm (is_keyed key) place }
     {
         let transaction = self.transactions.item_mut(place);
         match mem::replace(&mut transaction.place, left) {
@@ -155,8 +167,9 @@ impl Work<Connection, Transaction, Making> {
         requires stands { StandsAt self.old.transactions self.old.realm (is_keyed key) place }
         requires here { IsSome (party_here place self.old) }
         requires none { self.old.making.answer.work ≡ None }
-        ensures { (party : PartyNotes) → party_here place self.old ≡ Some party →
+        ensures does { (party : PartyNotes) → party_here place self.old ≡ Some party →
             Does self.old self.new (give_out errand party key (work_of self.old)) }
+        ensures stands { StandsAt self.new.transactions self.new.realm (is_keyed key) place }
     {
         let mut party = self.take_party(key, place, PartyPlace::Out(errand));
         party.give(errand);
@@ -168,8 +181,9 @@ impl Work<Connection, Transaction, Making> {
         requires stands { StandsAt self.old.transactions self.old.realm (is_keyed key) place }
         requires here { IsSome (party_here place self.old) }
         requires none { self.old.making.answer.spent ≡ None }
-        ensures { (party : PartyNotes) → party_here place self.old ≡ Some party →
+        ensures does { (party : PartyNotes) → party_here place self.old ≡ Some party →
             Does self.old self.new (let_go party key (work_of self.old)) }
+        ensures stands { StandsAt self.new.transactions self.new.realm (is_keyed key) place }
     {
         let party = self.take_party(key, place, PartyPlace::Spent);
         self.making.let_go(party);
@@ -177,13 +191,12 @@ impl Work<Connection, Transaction, Making> {
 
     /// A party that is here goes out to be told the outcome, where a branch waits for it; else it is let go.
     #[tactic(auto, using(crate::proofs::Proceeding::dispatching))]
-    pub(crate) fn dispatch(&mut self, key: Key)
+    pub(crate) fn dispatch(&mut self, key: Key, place: usize)
+        requires stands { StandsAt self.old.transactions self.old.realm (is_keyed key) place }
         requires none { MayDispatch key (work_of self.old) }
-        ensures { Does self.old self.new (dispatch key (work_of self.old)) }
+        ensures does { Does self.old self.new (dispatch key (work_of self.old)) }
+        ensures stands { StandsAt self.new.transactions self.new.realm (is_keyed key) place }
     {
-        let Some(place) = self.transaction(key) else {
-            return;
-        };
         let transaction = self.at(key, place);
         let errand = errand_in(transaction.txn.phase());
         match &transaction.place {
@@ -195,12 +208,10 @@ impl Work<Connection, Transaction, Making> {
 
     /// A transaction that is aborted is open until its party is spent and no connection is on it.
     #[tactic(auto, using(crate::proofs::Proceeding::releasing))]
-    fn release(&mut self, key: Key)
+    fn release(&mut self, key: Key, place: usize)
+        requires { StandsAt self.old.transactions self.old.realm (is_keyed key) place }
         ensures { Does self.old self.new (release key (work_of self.old)) }
     {
-        let Some(place) = self.transaction(key) else {
-            return;
-        };
         if is_spent(&self.at(key, place).place) && !self.is_reached(key) {
             let _ended = self.end(key, place);
         }
@@ -208,15 +219,16 @@ impl Work<Connection, Transaction, Making> {
 
     /// Abort: the superior is answered where it asked, each subordinate is told as soon as it can be, and the party.
     #[tactic(auto, using(crate::proofs::Proceeding::aborting))]
-    pub fn abort(&mut self, key: Key)
+    pub fn abort(&mut self, key: Key, place: usize)
+        requires stands { StandsAt self.old.transactions self.old.realm (is_keyed key) place }
         requires lines { lines_for key (work_of self.old).state ≤ self.old.making.free }
         requires none { MayDispatch key (work_of self.old) }
         ensures { Does self.old self.new (abort key (work_of self.old)) }
     {
-        self.enter(key, Phase::Aborted);
+        self.enter(key, place, Phase::Aborted);
         self.react(Reaction::Aborts, key);
-        self.dispatch(key);
-        self.release(key);
+        self.dispatch(key, place);
+        self.release(key, place);
     }
 }
 

@@ -1,5 +1,5 @@
 -- Tables that have nothing, one after another.
-use Rattle.std.proofs.Common.{◌∙◌, ap, arith, length, subst, sym}
+use Rattle.std.proofs.Common.{ap, arith, length, subst, sym}
 use Rattle.std.proofs.lemmas.Grind.{common_steps}
 use Rattle.tip_core.specs.Starting.{AreEmpty}
 use Rattle.tip_core.proofs.Stepping.{empty_more, none_empty}

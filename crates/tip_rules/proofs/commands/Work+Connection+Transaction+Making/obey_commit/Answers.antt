@@ -6,7 +6,7 @@ use Rattle.tip_machine.specs.Connections.{owing}
 use Rattle.tip_machine.specs.Transactions.{row_committed}
 use Rattle.tip_machine.specs.Types.{Connection, Transaction, seen}
 use Rattle.tip_machine.specs.declared.event.Change.TheVariants.{Put}
-use Rattle.tip_rules.proofs.Commanding.{commits_aborted, commits_active, commits_never, commits_prepared, obeys_nobody, obeys_none, obeys_some, owed_at, owed_for, owing_there}
+use Rattle.tip_rules.proofs.Commanding.{commit_next, commits_aborted, commits_active, commits_never, commits_prepared, obeys_nobody, obeys_none, obeys_some, owed_at, owed_for, owing_there}
 use Rattle.tip_rules.proofs.commands.Work+Connection+Transaction+Making.obey_commit.Goals as goal
 
 pub returns-in_default : goal.returns-in_default
@@ -58,3 +58,6 @@ end_doubt_by_commit-requires-clause-key g c = owed_for c.args.self.now c.owe.new
 
 pub end_doubt_by_commit-requires-clause-lines : goal.end_doubt_by_commit-requires-clause-lines
 end_doubt_by_commit-requires-clause-lines g c = owed_at c.args.self.now c.owe.new.self c.args.number Commit c.connection.result.now c.connection.ensures c.owe.ensures.does c.in-Some.key (sym c.superior_role.ensures ∙ c.in-Some.is) c.requires.lines
+
+pub ask-requires-clause-next : goal.ask-requires-clause-next
+ask-requires-clause-next g c = commit_next c.args.self.now c.owe.new.self c.args.number c.connection.result.now c.connection.ensures c.owe.ensures.does (c.requires.next c.connection.result.now c.connection.ensures) c.in-Some.key (sym c.superior_role.ensures ∙ c.in-Some.is) (seen c.at.result.now) c.at.ensures.found (sym c.phase.ensures ∙ c.in-Active.is)

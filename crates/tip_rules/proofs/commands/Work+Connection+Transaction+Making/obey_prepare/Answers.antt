@@ -4,7 +4,7 @@ use Rattle.std.proofs.lemmas.Option.{same_Some}
 use Rattle.tip_line.specs.declared.command.CommandName.TheVariants.{Prepare}
 use Rattle.tip_machine.specs.Commands.{prepare, superior_role}
 use Rattle.tip_machine.specs.Types.{Connection, Transaction, seen}
-use Rattle.tip_rules.proofs.Commanding.{obeys_nobody, obeys_none, obeys_some, owed_for, prepares_aborted, prepares_never, prepares_nobody, prepares_reachable}
+use Rattle.tip_rules.proofs.Commanding.{obeys_nobody, obeys_none, obeys_some, owed_for, prepare_next, prepares_aborted, prepares_never, prepares_nobody, prepares_reachable}
 use Rattle.tip_rules.proofs.commands.Work+Connection+Transaction+Making.obey_prepare.Goals as goal
 
 pub returns-in_default : goal.returns-in_default
@@ -51,3 +51,6 @@ abort-requires-clause-lines g c = owed_for c.args.self.now c.owe.new.self c.args
 
 pub abort-requires-in-Aborted-clause-lines : goal.abort-requires-in-Aborted-clause-lines
 abort-requires-in-Aborted-clause-lines g c = owed_for c.args.self.now c.owe.new.self c.args.number Prepare c.connection-connection.result.now c.connection-connection.ensures c.owe.ensures.does c.in-Some.key (sym c.superior_role.ensures ∙ c.in-Some.is) c.requires.lines
+
+pub ask-requires-clause-next : goal.ask-requires-clause-next
+ask-requires-clause-next g c = prepare_next c.args.self.now c.owe.new.self c.args.number c.connection-connection.result.now c.connection-connection.ensures c.owe.ensures.does (c.requires.next c.connection-connection.result.now c.connection-connection.ensures) c.in-Some.key (sym c.superior_role.ensures ∙ c.in-Some.is) (seen c.at.result.now) c.at.ensures.found (sym c.phase.ensures ∙ c.in-Active.is) (sym c.is_some-is_reachable.ensures ∙ c.if-is_reachable.true)

@@ -1,7 +1,7 @@
 use Rattle.std.proofs.Common.{◌≡◌, ap, sym, ◌∙◌}
 use Rattle.std.proofs.lemmas.Option.{same_Some}
 use Rattle.tip_machine.specs.Types.{Connection}
-use Rattle.tip_rules.proofs.Responses.{answered_identified, answered_nothing, answered_part, answered_pull, answered_query, answered_to_ask, answered_to_reach}
+use Rattle.tip_rules.proofs.Responses.{answered_identified, answered_nothing, answered_part, answered_pull, answered_query, answered_to_ask, answered_to_reach, part_next}
 use Rattle.tip_outlook.specs.Noting.{awaits_of}
 use Rattle.tip_rules.proofs.responding.Work+Connection+Transaction+Making.respond.Goals as goal
 
@@ -39,3 +39,6 @@ pub returns-in-Nothing : goal.returns-in-Nothing
 returns-in-Nothing g c = λ connection found.
     let is : c.connection.result.now ≡ connection = same_Some c.connection.result.now connection (sym c.connection.ensures ∙ found) in
     answered_nothing c.args.self.now c.args.response connection (sym (c.of.ensures ∙ ap (λ (d : Connection). awaits_of d.awaited) is) ∙ c.in-Nothing.is)
+
+pub respond_as_part-requires-clause-next : goal.respond_as_part-requires-clause-next
+respond_as_part-requires-clause-next g c = λ connection found. part_next c.args.self.now c.args.number c.args.response c.connection.result.now connection c.in-OfPart.command c.connection.ensures (sym c.of.ensures ∙ c.in-OfPart.is) found (c.requires.next connection found)
