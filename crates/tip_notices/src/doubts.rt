@@ -1,8 +1,10 @@
 //! The transactions in doubt, as the store shows them.
 use crate::inbox::{Inbox, News};
+use crate::log::Log;
 use std::alloc::{AllocError, Global};
 use std::collections::BTreeMap;
 use std::sync::{Arc, Mutex, Wait};
+use tip_duties::Note;
 use tip_line::{Address, Id, Realm};
 use tip_rows::{Key, Row};
 use tip_settings::RealmConfig;
@@ -33,9 +35,9 @@ struct RealmDoubts {
 
 /// A transaction in doubt, of which the operator is to be told.
 #[derive(Drop)]
-pub struct Unsaid {
-    pub transaction: Id,
-    pub superior: Address,
+struct Unsaid {
+    transaction: Id,
+    superior: Address,
 }
 
 /// The transactions in doubt. The operator is told of those alone whose superior has gone.
@@ -127,8 +129,22 @@ impl Doubts {
         }
     }
 
+    /// Tells the operator of those that he was not told of: of a realm, or of one connection of it.
+    pub fn say<R: Wait + Eprint>(&self, rt: &R, log: &Log, realm: &Realm, maker: Option<Maker>) {
+        let Ok(unsaid) = self.take_unsaid(rt, realm, maker) else {
+            return;
+        };
+        for doubt in unsaid.iter() {
+            let note = Note::InDoubt {
+                transaction: &doubt.transaction,
+                superior: &doubt.superior,
+            };
+            log.note(rt, self.alloc, note);
+        }
+    }
+
     /// Those of a realm, or of one connection of it, of which the operator is to be told now.
-    pub fn take_unsaid<R: Wait>(
+    fn take_unsaid<R: Wait>(
         &self,
         rt: &R,
         realm: &Realm,

@@ -4,7 +4,7 @@ use std::alloc::{AllocError, Global};
 use std::collections::VecDeque;
 use std::net::TcpStream;
 use std::sync::{Condvar, Mutex, Wait};
-use tip_duties::Dial;
+use tip_duties::{Dial, Note};
 use tip_line::Id;
 
 /// How many sockets wait for the top body. Further ones wait in the listener's own queue.
@@ -31,6 +31,22 @@ pub enum News {
     Decided { transaction: Id, is_committed: bool },
     /// The store has refused the change of a transaction's row.
     StoreRefused { transaction: Id },
+}
+
+impl News {
+    /// The line that the operator is told.
+    pub fn note(&self) -> Note<'_> {
+        match self {
+            News::Decided {
+                transaction,
+                is_committed,
+            } => Note::Decided {
+                transaction,
+                outcome: if *is_committed { "commit" } else { "abort" },
+            },
+            News::StoreRefused { transaction } => Note::StoreRefused { transaction },
+        }
+    }
 }
 
 /// What the top body is told.

@@ -8,7 +8,7 @@ mod kept;
 mod log;
 mod slots;
 
-pub use doubts::{Doubts, Maker, Unsaid, Watcher};
+pub use doubts::{Doubts, Maker, Watcher};
 pub use inbox::{Arrival, Inbox, News, Notice};
 pub use kept::{Kept, LOOK_SECONDS, is_response};
 pub use log::Log;

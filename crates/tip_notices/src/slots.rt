@@ -3,7 +3,7 @@ use std::alloc::{AllocError, Global};
 use std::net::{Shutdown, TcpStream};
 use std::sync::{Arc, Condvar, Mutex, Wait};
 use tip_control::{Answer, Request};
-use tip_line::Refusal;
+use tip_line::{Address, Refusal};
 
 /// How many connections to one control port there may be.
 pub const MOST_CONTROLS: usize = 8;
@@ -149,6 +149,14 @@ impl Ask {
     pub fn turn_down<R: Wait>(self, rt: &R, why: Refusal) {
         let Ask { asker, .. } = self;
         asker.answer(rt, Answer::Refused(why));
+    }
+
+    /// Where the manager is that is asked, if one is.
+    pub fn address(&self) -> Option<&Address> {
+        match &self.request {
+            Request::Push { address, .. } | Request::Pull { address, .. } => Some(address),
+            _ => None,
+        }
     }
 
     /// The letters of the boxes that come with each transaction of a connection that is opened for it: only a transaction that is

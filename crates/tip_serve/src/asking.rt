@@ -1,11 +1,10 @@
 //! What the top body does at an operator's word.
 ghost use Rattle.tip_branch.specs.Always.{Always};
 
-use crate::runtime::Runtime;
 use crate::server::{Server, Task};
 use std::alloc::AllocError;
 use std::slice;
-use std::sync::{Arc, Wait};
+use std::sync::Wait;
 use tip_control::{Answer, Request};
 use tip_duties::{Dial, Duties};
 use tip_host::{HostEvent, Seat};
@@ -14,7 +13,8 @@ use tip_machine::Purpose;
 use tip_notices::{Ask, Asker};
 use tip_recovery::{Recovery, Unfinished};
 use tip_rows::{Row, RowLog};
-use tip_threads::{Call, Link};
+use tip_sockets::Runtime;
+use tip_threads::Link;
 
 /// How many threads may call managers for a realm before its operator may not have its rows called again.
 const MOST_CALLERS: usize = 8;
@@ -53,7 +53,7 @@ where
 
     /// Does again what a start does for the rows of a realm.
     fn retry<R: Runtime>(&mut self, rt: &R, realm: usize, asker: Asker) {
-        let tried = if self.count_callers(realm) < MOST_CALLERS {
+        let tried = if self.callers.count(realm) < MOST_CALLERS {
             match self.shared.doubts(rt, self.alloc, realm) {
                 Ok(stored) => self.try_again(rt, realm, &stored),
                 Err(fault) => Err(Refusal::from(fault)),
@@ -66,19 +66,6 @@ where
             Err(why) => Answer::Refused(why),
         };
         asker.answer(rt, answer);
-    }
-
-    /// How many threads call managers for a realm.
-    fn count_callers(&self, realm: usize) -> usize {
-        let mut count = 0usize;
-        for caller in self.callers.iter() {
-            if let Some(caller) = caller
-                && caller.realm == realm
-            {
-                count = count.saturating_add(1);
-            }
-        }
-        count
     }
 
     /// Tries again what is left of a realm's transactions, and calls the managers that its rows name; how many it calls.
@@ -139,7 +126,7 @@ where
         if !self.has_branches(&ask) {
             return ask.asker.answer(rt, Answer::Refused(Refusal::WrongCount));
         }
-        match self.idle_for(rt, &ask) {
+        match self.connections.idle_for(rt, &ask) {
             Some(link) => self.ask_on(rt, &link, ask),
             None => self.open_for(rt, ask),
         }
@@ -155,25 +142,6 @@ where
         }
     }
 
-    /// A connection of the realm that is idle, and fit for this: it is taken.
-    fn idle_for<R: Wait>(&self, rt: &R, ask: &Ask) -> Option<Arc<Link<S>>>
-        requires { Always }
-    {
-        let address = address_in(&ask.request)?;
-        for live in self.live.iter() {
-            if let Some(live) = live
-                && live.link.seat.realm == ask.realm
-                && let Some(kept) = &live.link.kept
-                && live.link.is_to(address)
-                && let Ok(link) = Arc::try_clone(&live.link)
-                && kept.take_for(rt, &ask.request)
-            {
-                return Some(link);
-            }
-        }
-        None
-    }
-
     /// Opens a connection for this.
     fn open_for<R: Runtime>(&mut self, rt: &R, ask: Ask) {
         let realm = ask.realm;
@@ -181,39 +149,18 @@ where
         let Ok(asker) = ask.asker.copy() else {
             return ask.turn_down(rt, Refusal::Memory);
         };
-        if self.start_calls_for(rt, realm, ask).is_err() {
+        let is_started = match self.realms.get(realm) {
+            Some(served) => self.callers.call_for(rt, &served.config.name, ask).is_ok(),
+            None => false,
+        };
+        if !is_started {
             asker.answer(rt, Answer::Refused(Refusal::Memory));
         }
     }
 
-    /// Starts the thread that calls a manager for this.
-    fn start_calls_for<R: Runtime>(
-        &mut self,
-        rt: &R,
-        realm: usize,
-        ask: Ask,
-    ) -> Result<(), AllocError> {
-        let Some(address) = address_in(&ask.request) else {
-            return Err(AllocError);
-        };
-        let dial = Dial {
-            address: address.copy()?,
-            purpose: Purpose::Plain,
-        };
-        let mut calls = Vec::new(self.alloc);
-        calls.push(Call {
-            dial,
-            ask: Some(ask),
-        })?;
-        self.start_calls(rt, realm, calls)
-    }
-
     /// Nothing is under way on a connection that is kept: what it was opened for is asked, if it was not yet.
     pub fn note_free<R: Wait + Eprint>(&mut self, rt: &R, place: usize) {
-        let Some(Some(live)) = self.live.get(place) else {
-            return;
-        };
-        let Ok(link) = Arc::try_clone(&live.link) else {
+        let Some(link) = self.connections.link_at(place) else {
             return;
         };
         let first = match &link.kept {
@@ -278,15 +225,7 @@ where
             Some(usage) if usage.connections >= most => {}
             _ => return,
         }
-        for live in self.live.iter() {
-            if let Some(live) = live
-                && live.link.seat.realm == realm
-                && let Some(kept) = &live.link.kept
-                && kept.take(rt)
-            {
-                live.link.shut();
-            }
-        }
+        self.connections.shut_idle(rt, realm);
     }
 }
 
@@ -298,13 +237,5 @@ fn subordinate_at(row: &Row, number: u32) -> Option<&(Address, Id)> {
             subordinates.as_slice().get(place as usize)
         }
         Row::Prepared { .. } => None,
-    }
-}
-
-/// Where the manager is that is to be asked.
-fn address_in(request: &Request) -> Option<&Address> {
-    match request {
-        Request::Push { address, .. } | Request::Pull { address, .. } => Some(address),
-        _ => None,
     }
 }

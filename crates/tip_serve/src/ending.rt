@@ -1,25 +1,19 @@
 //! The end of the server.
 ghost use Rattle.tip_branch.specs.Always.{Always};
 
-use crate::server::{Served, Server};
-use crate::starting::{Door, say};
-use std::alloc::Global;
+use crate::served::Served;
+use crate::server::Server;
+use crate::starting::say;
+use std::alloc::{AllocError, Global};
 use std::io::Write;
-use std::net::{Net, TcpListener, TcpStream};
 use std::sync::{Arc, Wait};
-use std::thread;
 use std::thread::Threads;
-use std::time::{Clock, Duration};
 use tip_duties::{Heading, ServeFault, entries_of};
 use tip_honest::Entry;
 use tip_journal::{Pass, Reported, Retired};
 use tip_rows::RowLog;
+use tip_settings::RealmConfig;
 use tip_shared::{CloseFault, Closed, Shared};
-
-/// How often it is tried to wake a thread that accepts, and how long is waited between.
-const WAKE_TRIES: u32 = 100;
-
-const WAKE_MILLIS: u64 = 50;
 
 impl<'a, S: RowLog + Drop + Send + 'static> Server<'a, S>
 where
@@ -34,52 +28,33 @@ where
         for served in self.realms.iter() {
             served.slots.close(rt);
         }
-        for live in self.live.iter() {
-            if let Some(live) = live {
-                live.link.shut();
-            }
-        }
-        for place in 0..self.live.len() {
+        self.connections.shut_all();
+        for place in 0..self.connections.len() {
             self.join(rt, place);
         }
-        for place in 0..self.callers.len() {
-            self.join_caller(rt, place);
-        }
+        self.callers.join_all(rt);
         for _ in rt.forever() {
             let Some(news) = self.inbox.take_news(rt) else {
                 return;
             };
-            self.note_news(rt, &news);
+            self.log.note(rt, self.alloc, news.note());
         }
     }
 
     /// Says how many entries each realm has, once the audit has found all right.
     pub fn report<W: Write>(self, out: &mut W) -> Result<(), ServeFault> {
-        let Server {
-            alloc,
+        let alloc = self.alloc;
+        let Last {
             realms,
             shared,
             is_short,
-            ..
-        } = self;
+        } = self.last();
         if is_short {
             return Err(ServeFault::Memory);
         }
-        let mut names = Vec::new(alloc);
-        let mut all = Vec::new(alloc);
-        for served in realms {
-            let Served {
-                config,
-                own,
-                mut passes,
-                ..
-            } = served;
-            all.append(&mut passes)?;
-            all.push(own)?;
-            names.push(config)?;
-        }
-        let counts = close(alloc, shared, all)?;
-        for (place, realm) in names.iter().enumerate() {
+        let Audit { configs, passes } = audit_of(alloc, realms)?;
+        let counts = close(alloc, shared, passes)?;
+        for (place, realm) in configs.iter().enumerate() {
             let heading = Heading::Entries {
                 name: &realm.name,
                 entries: counts.of(place),
@@ -88,6 +63,59 @@ where
         }
         Ok(())
     }
+
+    /// What is left to be audited. All else is let go.
+    fn last(self) -> Last<'a, S>
+        requires { Always }
+    {
+        let Server {
+            realms,
+            shared,
+            is_short,
+            ..
+        } = self;
+        Last {
+            realms,
+            shared,
+            is_short,
+        }
+    }
+}
+
+/// What is left of a server that has stopped.
+#[derive(Drop)]
+struct Last<'a, S> {
+    realms: Vec<Served<'a>>,
+    shared: Arc<Shared<S>>,
+    is_short: bool,
+}
+
+/// What is audited, and for whom.
+#[derive(Drop)]
+struct Audit<'a> {
+    configs: Vec<&'a RealmConfig>,
+    passes: Vec<Pass<Entry>>,
+}
+
+/// The passes of these realms.
+fn audit_of(alloc: Global, realms: Vec<Served<'_>>) -> Result<Audit<'_>, AllocError> {
+    let mut configs = Vec::new(alloc);
+    let mut all = Vec::new(alloc);
+    for served in realms {
+        let Served {
+            config,
+            own,
+            mut passes,
+            ..
+        } = served;
+        all.append(&mut passes)?;
+        all.push(own)?;
+        configs.push(config)?;
+    }
+    Ok(Audit {
+        configs,
+        passes: all,
+    })
 }
 
 /// How many entries the journals had: those that were kept to the end, and those of each realm that were let go before.
@@ -129,30 +157,4 @@ fn close<S: RowLog + Drop>(
         Err((CloseFault::Memory, _, _)) => Err(ServeFault::Memory),
         Err(_) => Err(ServeFault::Audit),
     }
-}
-
-/// Ends the threads that accept, each by a connection to its own door. One that is not woken ends with the process.
-pub fn end_accepting<R>(rt: &R, doors: Vec<Door<'_>>)
-where
-    R: Net<Listener = TcpListener, Stream = TcpStream> + Wait + Threads + Clock,
-{
-    for Door { place, thread } in doors {
-        if wake(rt, place) {
-            thread.join(rt);
-        }
-    }
-}
-
-/// Connects to a place, so that its thread wakes; whether that was so.
-fn wake<R>(rt: &R, place: &str) -> bool
-where
-    R: Net<Listener = TcpListener, Stream = TcpStream> + Clock,
-{
-    for _ in 0..WAKE_TRIES {
-        if TcpStream::connect(rt, place).is_ok() {
-            return true;
-        }
-        thread::sleep(rt, Duration::from_millis(WAKE_MILLIS));
-    }
-    false
 }

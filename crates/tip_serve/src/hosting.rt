@@ -1,16 +1,16 @@
 //! The top body: it alone makes boxes, opens connections and joins threads.
-use crate::ending::end_accepting;
 use crate::rows::count_branches;
-use crate::runtime::Runtime;
 use crate::starting::{Shelves, Started, check, load, start};
 use simulated_branch::Simulated;
 use std::alloc::Global;
 use std::io::Write;
+use std::net::{Net, TcpListener, TcpStream};
 use tip_branch::{Branch, Phase, Plan};
 use tip_core::Core;
 use tip_duties::ServeFault;
 use tip_rows::RowLog;
 use tip_settings::Config;
+use tip_sockets::{Runtime, end_accepting, listen_all};
 use tip_watched::Watched;
 
 /// Serves the realms of a configuration over a store, until so many connections that were accepted have ended; without a number,
@@ -26,7 +26,7 @@ pub fn host_realms<R, S, W>(
     out: &mut W,
 ) -> Result<(), ServeFault>
 where
-    R: Runtime,
+    R: Runtime + Net<Listener = TcpListener, Stream = TcpStream>,
     S: RowLog + Drop + Send + 'static,
     S::Medium: Send + 'static,
     W: Write,
@@ -48,7 +48,7 @@ fn host_watched<R, S, W>(
     out: &mut W,
 ) -> Result<(), ServeFault>
 where
-    R: Runtime,
+    R: Runtime + Net<Listener = TcpListener, Stream = TcpStream>,
     S: RowLog + Drop + Send + 'static,
     S::Medium: Send + 'static,
     W: Write,
@@ -59,7 +59,8 @@ where
         pool.push(Box::new(alloc, Simulated::new(Plan::Yes, Phase::Ready))?)?;
     }
     let Started { mut server, duties } = start(alloc, recovering, config, sessions, pool, shelves)?;
-    let doors = server.begin(rt, config, duties, out)?;
+    let entrances = listen_all(rt, alloc, config)?;
+    let doors = server.begin(rt, config, entrances, duties, out)?;
     for _ in rt.forever() {
         let Some(task) = server.next(rt) else {
             break;

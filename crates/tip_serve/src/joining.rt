@@ -1,5 +1,6 @@
 //! Threads that have ended.
-use crate::server::{Caller, Live, Server};
+use crate::connections::Live;
+use crate::server::Server;
 use std::sync::Wait;
 use std::thread::Threads;
 use tip_host::Seat;
@@ -15,10 +16,7 @@ where
     /// A session has ended: its thread is joined, and its pass kept, for which there is room. The operator is told of what it left
     /// in doubt.
     pub fn join<R: Threads + Wait + Eprint>(&mut self, rt: &R, place: usize) {
-        let Some(there) = self.live.get_mut(place) else {
-            return;
-        };
-        let Some(Live { link, thread }) = there.take() else {
+        let Some(Live { link, thread }) = self.connections.take(place) else {
             return;
         };
         let Session {
@@ -29,9 +27,8 @@ where
         } = thread.join(rt);
         if let Some(served) = self.realms.get_mut(link.seat.realm) {
             let _kept = served.passes.push(pass);
+            served.unkeep(link.kept.is_some());
         }
-        self.unkeep(link.seat.realm, link.kept.is_some());
-        let _freed = self.free.push(place);
         if link.dial.is_none() {
             self.ended = self.ended.saturating_add(1);
         }
@@ -48,15 +45,6 @@ where
             connection: number,
         };
         self.say_doubts(rt, realm, Some(maker));
-        self.uncount(rt, link.seat);
-    }
-
-    /// The calls at a place are made: their thread is joined.
-    pub fn join_caller<R: Threads + Wait>(&mut self, rt: &R, place: usize) {
-        if let Some(there) = self.callers.get_mut(place)
-            && let Some(Caller { thread, .. }) = there.take()
-        {
-            thread.join(rt);
-        }
+        self.end_session(rt, link.seat);
     }
 }

@@ -3,6 +3,7 @@
 #![tactic(auto)]
 
 mod asking;
+mod connections;
 mod ending;
 mod hosting;
 mod joining;
@@ -10,9 +11,8 @@ mod opening;
 mod renewing;
 mod retiring;
 mod rows;
-mod runtime;
+mod served;
 mod server;
 mod starting;
 
 pub use hosting::host_realms;
-pub use runtime::Runtime;

@@ -1,9 +1,10 @@
 //! Connections that are opened, either way.
 ghost use Rattle.tip_branch.specs.Always.{Always};
 
+use crate::connections::Live;
 use crate::rows::fresh;
-use crate::runtime::Runtime;
-use crate::server::{Live, Served, Server};
+use crate::served::Served;
+use crate::server::Server;
 use std::alloc::{AllocError, Global};
 use std::sync::{Arc, Wait};
 use tip_branch::{Branch, HeldFresh};
@@ -17,6 +18,7 @@ use tip_notices::{Arrival, Ask, Asker, Inbox, Kept, Log};
 use tip_rows::RowLog;
 use tip_session::DeskFault;
 use tip_shared::{Shared, run_errand};
+use tip_sockets::Runtime;
 use tip_threads::{Link, peer_of, start_session};
 
 /// Why a socket is no connection.
@@ -138,14 +140,8 @@ where
 
     /// Makes room for one session more of a realm: its place, its end, and its pass.
     fn reserve<R: Wait>(&mut self, rt: &R, realm: usize) -> Result<(), AllocError> {
-        if self.free.is_empty() {
-            let place = self.live.len();
-            self.free.reserve(place.saturating_add(1))?;
-            self.live.push(None)?;
-            self.free.push(place)?;
-        }
-        let sessions = self.live.len();
-        self.inbox.reserve(rt, sessions)?;
+        self.connections.reserve()?;
+        self.inbox.reserve(rt, self.connections.len())?;
         match self.realms.get_mut(realm) {
             Some(served) => served.reserve(),
             None => Ok(()),
@@ -155,17 +151,19 @@ where
     /// Starts the threads of a connection that was opened at the host; where there is none for it, it is lost.
     fn run<R: Runtime>(&mut self, rt: &R, arrival: Arrival, seat: Seat, asker: Option<Asker>) {
         let is_accepted = arrival.dial.is_none();
-        let Some(place) = self.free.pop() else {
+        let Some(place) = self.connections.take_place() else {
             return;
         };
-        self.count(seat);
+        if let Some(served) = self.realms.get_mut(seat.realm) {
+            served.begin_session(seat.epoch);
+        }
         if let Err(why) = self.start(rt, arrival, seat, place) {
             self.lose(rt, seat, why);
             if let Some(asker) = asker {
                 asker.answer(rt, Answer::Refused(Refusal::Memory));
             }
-            self.uncount(rt, seat);
-            let _freed = self.free.push(place);
+            self.end_session(rt, seat);
+            self.connections.give_back(place);
             if is_accepted {
                 self.ended = self.ended.saturating_add(1);
             }
@@ -187,10 +185,10 @@ where
         link.note_opened(rt, self.alloc);
         let pass = self.shared.pass(self.alloc);
         let thread = start_session(rt, self.alloc, theirs, pass).map_err(|_| "no-thread")?;
-        self.keep(seat.realm, link.kept.is_some());
-        if let Some(there) = self.live.get_mut(place) {
-            *there = Some(Live { link, thread });
+        if let Some(served) = self.realms.get_mut(seat.realm) {
+            served.keep(link.kept.is_some());
         }
+        self.connections.put(place, Live { link, thread });
         Ok(())
     }
 

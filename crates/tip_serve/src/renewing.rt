@@ -2,10 +2,8 @@
 ghost use Rattle.tip_branch.specs.Always.{Always};
 
 use crate::rows::dealt_to_rows;
-use crate::runtime::Runtime;
-use crate::server::{Caller, Server};
-use std::alloc::{AllocError, Global};
-use std::sync::{Arc, Wait};
+use crate::server::Server;
+use std::sync::Wait;
 use tip_branch::Branch;
 use tip_control::Answer;
 use tip_duties::{Dial, Duties, Note};
@@ -14,8 +12,8 @@ use tip_line::Id;
 use tip_notices::Asker;
 use tip_recovery::Recovery;
 use tip_rows::RowLog;
+use tip_sockets::Runtime;
 use tip_stored::RenewFault;
-use tip_threads::{Call, Calls, start_calling};
 
 impl<'a, S: RowLog + Drop + Send + 'static> Server<'a, S>
 where
@@ -89,73 +87,9 @@ where
 
     /// These managers are called, by a thread of their own; false where there is none.
     pub fn call<R: Runtime>(&mut self, rt: &R, realm: usize, dials: Vec<Dial>) -> bool {
-        if dials.is_empty() {
-            return true;
-        }
-        let is_started = match calls_of(self.alloc, dials) {
-            Ok(calls) => self.start_calls(rt, realm, calls).is_ok(),
-            Err(AllocError) => false,
-        };
-        if !is_started {
-            self.note_uncalled(rt, realm);
-        }
-        is_started
-    }
-
-    /// Starts the thread that makes these calls.
-    pub fn start_calls<R: Runtime>(
-        &mut self,
-        rt: &R,
-        realm: usize,
-        calls: Vec<Call>,
-    ) -> Result<(), AllocError> {
-        let place = self.caller_place(rt)?;
-        let Some(served) = self.realms.get(realm) else {
-            return Err(AllocError);
-        };
-        let calls = Calls {
-            place,
-            realm,
-            name: served.config.name.copy()?,
-            calls,
-        };
-        let inbox = Arc::try_clone(&self.inbox)?;
-        let log = Arc::try_clone(&self.log)?;
-        let thread = start_calling(rt, self.alloc, inbox, log, calls)?;
-        if let Some(there) = self.callers.get_mut(place) {
-            *there = Some(Caller { realm, thread });
-        }
-        Ok(())
-    }
-
-    /// A place for a thread that calls, and room for its end.
-    fn caller_place<R: Wait>(&mut self, rt: &R) -> Result<usize, AllocError> {
-        let place = match self.callers.iter().position(|caller| caller.is_none()) {
-            Some(place) => place,
-            None => {
-                let place = self.callers.len();
-                self.callers.push(None)?;
-                place
-            }
-        };
-        self.inbox.reserve_calls(rt, self.callers.len())?;
-        Ok(place)
-    }
-
-    fn note_uncalled<R: Wait + Eprint>(&self, rt: &R, realm: usize) {
-        if let Some(served) = self.realms.get(realm) {
-            let name = &served.config.name;
-            self.log
-                .note(rt, self.alloc, Note::Uncalled { realm: name });
+        match self.realms.get(realm) {
+            Some(served) => self.callers.call(rt, realm, &served.config.name, dials),
+            None => false,
         }
     }
-}
-
-/// The calls of these managers, for rows.
-fn calls_of(alloc: Global, dials: Vec<Dial>) -> Result<Vec<Call>, AllocError> {
-    let mut calls = Vec::with_capacity(alloc, dials.len())?;
-    for dial in dials {
-        calls.push(Call { dial, ask: None })?;
-    }
-    Ok(calls)
 }

@@ -1,88 +1,20 @@
 //! Starts that are over: the journal of each is let go once its sessions have ended, so that a server without end does not grow.
-use crate::server::{Served, Server, Start};
-use std::alloc::AllocError;
+use crate::server::Server;
 use std::mem;
 use std::sync::Wait;
 use tip_host::Seat;
 use tip_rows::RowLog;
 
-impl Served<'_> {
-    /// Makes room for one start more, and for the passes of all sessions that have not ended, of one more, and of the top body.
-    pub fn reserve(&mut self) -> Result<(), AllocError> {
-        let mut sessions = 0usize;
-        for start in self.starts.iter() {
-            sessions = sessions.saturating_add(start.sessions);
-        }
-        self.starts.reserve(1)?;
-        self.passes.reserve(sessions.saturating_add(2))
-    }
-
-    /// The start of an epoch, if its journal is kept.
-    fn start_of(&mut self, epoch: u32) -> Option<&mut Start> {
-        let place = self.starts.iter().position(|start| start.epoch == epoch)?;
-        self.starts.get_mut(place)
-    }
-
-    /// The epoch of the oldest start, if it is over and none of its sessions goes on.
-    fn over(&self) -> Option<u32> {
-        if self.starts.len() < 2 {
-            return None;
-        }
-        let oldest = self.starts.first()?;
-        if oldest.sessions > 0 {
-            return None;
-        }
-        Some(oldest.epoch)
-    }
-
-    /// The oldest start is forgotten, and the passes that have no entry any more.
-    fn forget_oldest(&mut self) {
-        if !self.starts.is_empty() {
-            self.starts.remove(0);
-        }
-        self.passes.retain(|pass| !pass.noted().is_empty());
-    }
-}
-
 impl<'a, S: RowLog + Drop + Send + 'static> Server<'a, S>
 where
     S::Medium: Send,
 {
-    /// A session begins.
-    pub fn count(&mut self, seat: Seat) {
-        if let Some(served) = self.realms.get_mut(seat.realm)
-            && let Some(start) = served.start_of(seat.epoch)
-        {
-            start.sessions = start.sessions.saturating_add(1);
-        }
-    }
-
-    /// A session that was counted has ended.
-    pub fn uncount<R: Wait>(&mut self, rt: &R, seat: Seat) {
-        if let Some(served) = self.realms.get_mut(seat.realm)
-            && let Some(start) = served.start_of(seat.epoch)
-        {
-            start.sessions = start.sessions.saturating_sub(1);
+    /// A session that has begun has ended.
+    pub fn end_session<R: Wait>(&mut self, rt: &R, seat: Seat) {
+        if let Some(served) = self.realms.get_mut(seat.realm) {
+            served.end_session(seat.epoch);
         }
         self.retire(rt, seat.realm);
-    }
-
-    /// A connection begins that is kept for its realm's operator, if it is one.
-    pub fn keep(&mut self, realm: usize, is_kept: bool) {
-        if let Some(served) = self.realms.get_mut(realm)
-            && is_kept
-        {
-            served.kept = served.kept.saturating_add(1);
-        }
-    }
-
-    /// A connection has ended that was kept for its realm's operator, if it was one.
-    pub fn unkeep(&mut self, realm: usize, is_kept: bool) {
-        if let Some(served) = self.realms.get_mut(realm)
-            && is_kept
-        {
-            served.kept = served.kept.saturating_sub(1);
-        }
     }
 
     /// A realm has started again in this epoch, for which there is room. The top body goes on with another pass.
@@ -90,7 +22,7 @@ where
         if let Some(served) = self.realms.get_mut(realm) {
             let own = mem::replace(&mut served.own, self.shared.pass(self.alloc));
             let _kept = served.passes.push(own);
-            let _begun = served.starts.push(Start { epoch, sessions: 0 });
+            served.begin_start(epoch);
         }
         self.retire(rt, realm);
     }

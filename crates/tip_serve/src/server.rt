@@ -1,68 +1,23 @@
 //! What the top body keeps, and what it is to do next.
 ghost use Rattle.tip_branch.specs.Always.{Always};
 
+use crate::connections::Connections;
 use crate::opening::NotOpened;
 use crate::rows::count_in;
-use crate::runtime::Runtime;
+use crate::served::Served;
 use std::alloc::Global;
 use std::sync::{Arc, Wait};
-use std::thread::JoinHandle;
 use tip_branch::{Branch, Phase, Plan};
 use tip_control::Answer;
 use tip_duties::Note;
-use tip_honest::Entry;
-use tip_journal::Pass;
 use tip_line::Refusal;
-use tip_notices::{Arrival, Ask, Asker, Doubts, Inbox, Log, Maker, News, Notice, Slots};
+use tip_notices::{Arrival, Asker, Doubts, Inbox, Log, Maker, Notice};
 use tip_recovery::Recovery;
 use tip_rows::RowLog;
 use tip_script::plan_of;
-use tip_settings::RealmConfig;
-use tip_shared::{Session, Shared};
+use tip_shared::Shared;
+use tip_sockets::{Callers, Runtime};
 use tip_stored::RenewFault;
-use tip_threads::Link;
-
-/// A realm that is served.
-#[derive(Drop)]
-pub struct Served<'a> {
-    pub config: &'a RealmConfig,
-    /// What the boxes of each connection promise.
-    pub plans: Vec<Plan>,
-    /// The top body's own pass in this start: of the connections that were opened, and of what was resumed.
-    pub own: Pass<Entry>,
-    /// The passes of the sessions that have ended, and the top body's of earlier starts, until their journals are let go.
-    pub passes: Vec<Pass<Entry>>,
-    /// The starts whose journals are kept, the oldest first; the last one is the present one.
-    pub starts: Vec<Start>,
-    /// The epoch in which its journal was full and it was not renewed, though a session had asked.
-    pub stuck: Option<u32>,
-    /// Who is connected to its control port.
-    pub slots: Arc<Slots>,
-    /// How many connections are kept for its operator.
-    pub kept: usize,
-}
-
-/// A start of a realm.
-#[derive(Drop)]
-pub struct Start {
-    pub epoch: u32,
-    /// How many sessions of it have not ended.
-    pub sessions: usize,
-}
-
-/// A connection whose threads run.
-#[derive(Drop)]
-pub struct Live<S> {
-    pub link: Arc<Link<S>>,
-    pub thread: JoinHandle<Session>,
-}
-
-/// A thread that calls managers for a realm.
-#[derive(Drop)]
-pub struct Caller {
-    pub realm: usize,
-    pub thread: JoinHandle<()>,
-}
 
 /// What the top body keeps.
 #[derive(Drop)]
@@ -73,11 +28,8 @@ pub struct Server<'a, S> {
     pub inbox: Arc<Inbox>,
     pub log: Arc<Log>,
     pub doubts: Arc<Doubts>,
-    pub live: Vec<Option<Live<S>>>,
-    /// The places of `live` at which nobody is.
-    pub free: Vec<usize>,
-    /// The threads that call other managers.
-    pub callers: Vec<Option<Caller>>,
+    pub connections: Connections<S>,
+    pub callers: Callers,
     /// How many accepted connections are to end.
     pub sessions: Option<u32>,
     pub ended: u32,
@@ -102,17 +54,6 @@ pub enum Task {
         recovery: Recovery,
         asker: Option<Asker>,
     },
-}
-
-impl Served<'_> {
-    /// For how many transactions a connection has boxes that is opened for this.
-    pub fn pulls_with(&self, ask: &Ask) -> usize {
-        let boxes = ask.boxes().len();
-        if boxes == 0 {
-            return 0;
-        }
-        self.config.limits.boxes as usize / boxes
-    }
 }
 
 impl<'a, S: RowLog + Drop + Send + 'static> Server<'a, S>
@@ -148,10 +89,10 @@ where
             }
             Notice::Asked(ask) => return self.hear(rt, ask),
             Notice::Ended(place) => self.join(rt, place),
-            Notice::Called(place) => self.join_caller(rt, place),
+            Notice::Called(place) => self.callers.join(rt, place),
             Notice::Free(place) => self.note_free(rt, place),
             Notice::Frozen { realm, epoch } => self.note_full(rt, realm, epoch),
-            Notice::News(news) => self.note_news(rt, &news),
+            Notice::News(news) => self.log.note(rt, self.alloc, news.note()),
         }
         None
     }
@@ -245,36 +186,10 @@ where
         })
     }
 
-    /// Tells the operator what has become of a row.
-    pub fn note_news<R: Wait + Eprint>(&self, rt: &R, news: &News) {
-        let note = match news {
-            News::Decided {
-                transaction,
-                is_committed,
-            } => Note::Decided {
-                transaction,
-                outcome: if *is_committed { "commit" } else { "abort" },
-            },
-            News::StoreRefused { transaction } => Note::StoreRefused { transaction },
-        };
-        self.log.note(rt, self.alloc, note);
-    }
-
     /// Tells the operator of transactions in doubt that he was not told of: those of a realm, or of one connection of it.
     pub fn say_doubts<R: Wait + Eprint>(&self, rt: &R, realm: usize, maker: Option<Maker>) {
-        let Some(served) = self.realms.get(realm) else {
-            return;
-        };
-        let name = &served.config.name;
-        let Ok(unsaid) = self.doubts.take_unsaid(rt, name, maker) else {
-            return;
-        };
-        for doubt in unsaid.iter() {
-            let note = Note::InDoubt {
-                transaction: &doubt.transaction,
-                superior: &doubt.superior,
-            };
-            self.log.note(rt, self.alloc, note);
+        if let Some(served) = self.realms.get(realm) {
+            self.doubts.say(rt, &self.log, &served.config.name, maker);
         }
     }
 
@@ -329,13 +244,7 @@ where
                 },
             );
         }
-        for live in self.live.iter() {
-            if let Some(live) = live
-                && live.link.seat.realm == realm
-            {
-                live.link.shut();
-            }
-        }
+        self.connections.shut_of(realm);
     }
 }
 

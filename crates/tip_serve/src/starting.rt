@@ -1,26 +1,26 @@
 //! The start of the server.
 ghost use Rattle.tip_branch.specs.Always.{Always};
 
+use crate::connections::Connections;
 use crate::rows::dealt_to_all;
-use crate::runtime::Runtime;
-use crate::server::{Served, Server, Start};
+use crate::served::Served;
+use crate::server::Server;
 use std::alloc::{AllocError, Global};
 use std::io::Write;
-use std::net::{Net, TcpListener, TcpStream};
 use std::sync::Arc;
 use std::thread::JoinHandle;
 use tip_branch::Branch;
 use tip_core::Core;
-use tip_duties::{Duties, Heading, ServeFault, declarations, has_row_ahead, plans_for};
+use tip_duties::{Duties, Heading, ServeFault, declarations, has_row_ahead};
 use tip_host::Host;
-use tip_journal::Pass;
-use tip_notices::{Doubts, Inbox, Log, Slots, Watcher};
+use tip_notices::{Doubts, Inbox, Log, Watcher};
 use tip_recovery::Recovery;
 use tip_rows::RowLog;
 use tip_settings::{Config, RealmConfig};
 use tip_shared::Shared;
+use tip_sockets::{Callers, Door, Entrance, Runtime, start_accepting};
 use tip_stored::{LoadFault, Recovering, StoredCore};
-use tip_threads::{ControlPort, start_accepting, start_controls};
+use tip_threads::{ControlPort, start_controls};
 
 /// What the threads hand to the top body, and what is in doubt.
 #[derive(Drop)]
@@ -101,6 +101,7 @@ pub fn start<'a, S: RowLog + Drop + Send + 'static>(
     let shared = open_shared(alloc, recovering, pool)?;
     let log = Arc::new(alloc, Log::new())?;
     let Shelves { inbox, doubts } = shelves;
+    let callers = Callers::new(alloc, Arc::try_clone(&inbox)?, Arc::try_clone(&log)?);
     let server = Server {
         alloc,
         realms,
@@ -108,9 +109,8 @@ pub fn start<'a, S: RowLog + Drop + Send + 'static>(
         inbox,
         log,
         doubts,
-        live: Vec::new(alloc),
-        free: Vec::new(alloc),
-        callers: Vec::new(alloc),
+        connections: Connections::new(alloc),
+        callers,
         sessions,
         ended: 0,
         is_short: false,
@@ -175,37 +175,22 @@ fn served_all<'a>(
 ) -> Result<Vec<Served<'a>>, ServeFault> {
     let mut all = Vec::with_capacity(alloc, realms.len())?;
     for (config, recovery) in configs.iter().zip(realms) {
-        all.push(served(alloc, config, recovery.epoch())?)?;
+        all.push(Served::new(alloc, config, recovery.epoch())?)?;
     }
     Ok(all)
-}
-
-/// A realm that starts in this epoch.
-fn served(alloc: Global, config: &RealmConfig, epoch: u32) -> Result<Served<'_>, ServeFault> {
-    let mut starts = Vec::new(alloc);
-    starts.push(Start { epoch, sessions: 0 })?;
-    Ok(Served {
-        config,
-        plans: plans_for(alloc, &config.plans, config.limits.boxes)?,
-        own: Pass::new(alloc),
-        passes: Vec::new(alloc),
-        starts,
-        stuck: None,
-        slots: Arc::new(alloc, Slots::new(alloc)?)?,
-        kept: 0,
-    })
 }
 
 impl<'a, S: RowLog + Drop + Send + 'static> Server<'a, S>
 where
     S::Medium: Send,
 {
-    /// Listens, does what a start does for the rows of each realm, and says in between that it is ready. It gives the doors at which
-    /// connections are accepted; where there is no thread for one, the server is to end.
+    /// Says where connections come in, does what a start does for the rows of each realm, and says in between that it is ready. It
+    /// gives the doors at which connections are accepted; where there is no thread for one, the server is to end.
     pub fn begin<R, W>(
         &mut self,
         rt: &R,
         config: &'a Config,
+        entrances: Vec<Entrance<'a>>,
         duties: Vec<Duties>,
         out: &mut W,
     ) -> Result<Vec<Door<'a>>, ServeFault>
@@ -213,7 +198,6 @@ where
         R: Runtime,
         W: Write,
     {
-        let entrances = listen_all(rt, self.alloc, config)?;
         say_listening(self.alloc, config, out)?;
         let mut calls = Vec::new(self.alloc);
         for (realm, Duties { resumes, dials }) in duties.into_iter().enumerate() {
@@ -281,59 +265,6 @@ where
             served.config.limits,
         );
         Ok(Arc::new(self.alloc, port)?)
-    }
-}
-
-/// A place at which connections come in, and the thread that accepts them.
-#[derive(Drop)]
-pub struct Door<'a> {
-    pub place: &'a str,
-    pub thread: JoinHandle<()>,
-}
-
-/// A place at which connections to a realm come in: those of other managers, or of its operator.
-#[derive(Drop)]
-struct Entrance<'a> {
-    place: &'a str,
-    realm: usize,
-    listener: TcpListener,
-    is_control: bool,
-}
-
-/// Where connections come in.
-fn listen_all<'a, R: Net<Listener = TcpListener, Stream = TcpStream>>(
-    rt: &R,
-    alloc: Global,
-    config: &'a Config,
-) -> Result<Vec<Entrance<'a>>, ServeFault> {
-    let mut entrances = Vec::new(alloc);
-    for (number, realm) in config.realms.iter().enumerate() {
-        entrances.push(entrance_at(rt, number, realm, realm.listen.as_str(), false)?)?;
-        if let Some(control) = &realm.control {
-            entrances.push(entrance_at(rt, number, realm, control.as_str(), true)?)?;
-        }
-    }
-    Ok(entrances)
-}
-
-/// Listens at a place.
-fn entrance_at<'a, R: Net<Listener = TcpListener, Stream = TcpStream>>(
-    rt: &R,
-    number: usize,
-    realm: &RealmConfig,
-    place: &'a str,
-    is_control: bool,
-) -> Result<Entrance<'a>, ServeFault> {
-    match TcpListener::bind(rt, place) {
-        Ok(listener) => Ok(Entrance {
-            place,
-            realm: number,
-            listener,
-            is_control,
-        }),
-        Err(_) => Err(ServeFault::Listen {
-            name: realm.name.copy()?,
-        }),
     }
 }
 

@@ -1,6 +1,5 @@
 //! The threads of a realm's control port.
 use crate::answering::ControlPort;
-use crate::running::{EVENT_STACK, SMALL_STACK};
 use std::alloc::{AllocError, Global};
 use std::net::{TcpListener, TcpStream};
 use std::sync::{Arc, Wait};
@@ -9,6 +8,7 @@ use std::thread::{Builder, JoinHandle, Threads};
 use std::time::{Clock, Duration};
 use tip_notices::MOST_CONTROLS;
 use tip_rows::RowLog;
+use tip_sockets::{EVENT_STACK, SMALL_STACK};
 
 /// How long a control connection may say nothing, or take nothing.
 const PATIENCE_SECONDS: u64 = 300;

@@ -15,12 +15,7 @@ use tip_notices::{Inbox, Kept, LOOK_SECONDS, Log};
 use tip_rows::RowLog;
 use tip_session::SessionEnd;
 use tip_shared::{Session, Shared, serve_shared, write_shared};
-
-/// The stack of a thread that makes events: twice what a change of a row in a file was measured to need, and some room.
-pub const EVENT_STACK: usize = 512 * 1_024;
-
-/// The stack of a thread that makes none.
-pub const SMALL_STACK: usize = 128 * 1_024;
+use tip_sockets::{EVENT_STACK, SMALL_STACK};
 
 /// What the threads of a connection share.
 #[derive(Drop)]

@@ -1,16 +1,12 @@
 //! The thread that calls other managers for the rows of a realm.
-use crate::running::EVENT_STACK;
+use crate::runtime::{Reach, Runtime};
+use crate::stacks::EVENT_STACK;
 use std::alloc::{AllocError, Global};
-use std::net::{Net, TcpListener, TcpStream, ToSocketAddrs};
 use std::sync::{Arc, Wait};
-use std::thread::{Builder, JoinHandle, Threads};
-use std::time::Duration;
-use tip_duties::{Dial, Note, place_of};
-use tip_line::{Address, Realm, Refusal};
+use std::thread::{Builder, JoinHandle};
+use tip_duties::{Dial, Note};
+use tip_line::{Realm, Refusal};
 use tip_notices::{Arrival, Ask, Inbox, Log};
-
-/// How long a manager that is called may take to be reached, at each of the places that its name has.
-const REACH_SECONDS: u64 = 5;
 
 /// A call of another manager, for a row, or for an operator who asks this of it.
 #[derive(Drop)]
@@ -30,23 +26,13 @@ pub struct Calls {
 }
 
 /// Starts the thread that makes these calls.
-pub fn start_calling<R>(
+pub fn start_calling<R: Runtime>(
     rt: &R,
     alloc: Global,
     inbox: Arc<Inbox>,
     log: Arc<Log>,
     calls: Calls,
-) -> Result<JoinHandle<()>, AllocError>
-where
-    R: Net<Listener = TcpListener, Stream = TcpStream>
-        + Wait
-        + Threads
-        + Eprint
-        + Copy
-        + Send
-        + Drop
-        + 'static,
-{
+) -> Result<JoinHandle<()>, AllocError> {
     let own = *rt;
     Builder::new()
         .stack_size(EVENT_STACK)
@@ -58,7 +44,7 @@ where
 /// that all is done.
 fn call_all<R>(rt: &R, alloc: Global, inbox: &Inbox, log: &Log, calls: Calls)
 where
-    R: Net<Listener = TcpListener, Stream = TcpStream> + Wait + Eprint,
+    R: Reach + Wait + Eprint,
 {
     let place = calls.place;
     call_each(rt, alloc, inbox, log, calls);
@@ -67,7 +53,7 @@ where
 
 fn call_each<R>(rt: &R, alloc: Global, inbox: &Inbox, log: &Log, calls: Calls)
 where
-    R: Net<Listener = TcpListener, Stream = TcpStream> + Wait + Eprint,
+    R: Reach + Wait + Eprint,
 {
     let Calls {
         realm,
@@ -79,7 +65,7 @@ where
         if inbox.is_closed(rt) {
             return;
         }
-        match reach(rt, alloc, &dial.address) {
+        match rt.reach(alloc, &dial.address) {
             Some(socket) => {
                 let arrival = Arrival {
                     realm,
@@ -101,23 +87,4 @@ where
             }
         }
     }
-}
-
-/// A socket to the manager at an address, if it is reached in time.
-fn reach<R>(rt: &R, alloc: Global, address: &Address) -> Option<TcpStream>
-where
-    R: Net<Listener = TcpListener, Stream = TcpStream>,
-{
-    let place = place_of(alloc, address).ok()?;
-    for at in place.as_str().to_socket_addrs(rt).ok()? {
-        if let Ok(socket) = TcpStream::connect_timeout(
-            rt,
-            &at,
-            Duration::from_secs(REACH_SECONDS),
-        ) {
-            let _at_once = socket.set_nodelay(true);
-            return Some(socket);
-        }
-    }
-    None
 }

@@ -1,5 +1,5 @@
 //! The thread that accepts the connections of a realm.
-use crate::running::SMALL_STACK;
+use crate::stacks::SMALL_STACK;
 use std::alloc::AllocError;
 use std::net::TcpListener;
 use std::sync::{Arc, Wait};

@@ -1,0 +1,139 @@
+//! A realm that is served, and the starts of it whose journals are kept.
+use std::alloc::{AllocError, Global};
+use std::sync::Arc;
+use tip_branch::Plan;
+use tip_duties::{ServeFault, plans_for};
+use tip_honest::Entry;
+use tip_journal::Pass;
+use tip_notices::{Ask, Slots};
+use tip_settings::RealmConfig;
+
+/// A realm that is served.
+#[derive(Drop)]
+pub struct Served<'a> {
+    pub config: &'a RealmConfig,
+    /// What the boxes of each connection promise.
+    pub plans: Vec<Plan>,
+    /// The top body's own pass in this start: of the connections that were opened, and of what was resumed.
+    pub own: Pass<Entry>,
+    /// The passes of the sessions that have ended, and the top body's of earlier starts, until their journals are let go.
+    pub passes: Vec<Pass<Entry>>,
+    /// The starts whose journals are kept, the oldest first; the last one is the present one.
+    pub starts: Vec<Start>,
+    /// The epoch in which its journal was full and it was not renewed, though a session had asked.
+    pub stuck: Option<u32>,
+    /// Who is connected to its control port.
+    pub slots: Arc<Slots>,
+    /// How many connections are kept for its operator.
+    pub kept: usize,
+}
+
+/// A start of a realm.
+#[derive(Drop)]
+pub struct Start {
+    pub epoch: u32,
+    /// How many sessions of it have not ended.
+    pub sessions: usize,
+}
+
+impl<'a> Served<'a> {
+    /// A realm that starts in this epoch.
+    pub fn new(
+        alloc: Global,
+        config: &'a RealmConfig,
+        epoch: u32,
+    ) -> Result<Served<'a>, ServeFault> {
+        let mut starts = Vec::new(alloc);
+        starts.push(Start { epoch, sessions: 0 })?;
+        Ok(Served {
+            config,
+            plans: plans_for(alloc, &config.plans, config.limits.boxes)?,
+            own: Pass::new(alloc),
+            passes: Vec::new(alloc),
+            starts,
+            stuck: None,
+            slots: Arc::new(alloc, Slots::new(alloc)?)?,
+            kept: 0,
+        })
+    }
+}
+
+impl Served<'_> {
+    /// For how many transactions a connection has boxes that is opened for this.
+    pub fn pulls_with(&self, ask: &Ask) -> usize {
+        let boxes = ask.boxes().len();
+        if boxes == 0 {
+            return 0;
+        }
+        self.config.limits.boxes as usize / boxes
+    }
+
+    /// Makes room for one start more, and for the passes of all sessions that have not ended, of one more, and of the top body.
+    pub fn reserve(&mut self) -> Result<(), AllocError> {
+        let mut sessions = 0usize;
+        for start in self.starts.iter() {
+            sessions = sessions.saturating_add(start.sessions);
+        }
+        self.starts.reserve(1)?;
+        self.passes.reserve(sessions.saturating_add(2))
+    }
+
+    /// A session of the start of an epoch begins.
+    pub fn begin_session(&mut self, epoch: u32) {
+        if let Some(start) = self.start_of(epoch) {
+            start.sessions = start.sessions.saturating_add(1);
+        }
+    }
+
+    /// A session that has begun has ended.
+    pub fn end_session(&mut self, epoch: u32) {
+        if let Some(start) = self.start_of(epoch) {
+            start.sessions = start.sessions.saturating_sub(1);
+        }
+    }
+
+    /// A connection begins that is kept for the operator, if it is one.
+    pub fn keep(&mut self, is_kept: bool) {
+        if is_kept {
+            self.kept = self.kept.saturating_add(1);
+        }
+    }
+
+    /// A connection has ended that was kept for the operator, if it was one.
+    pub fn unkeep(&mut self, is_kept: bool) {
+        if is_kept {
+            self.kept = self.kept.saturating_sub(1);
+        }
+    }
+
+    /// The realm has started again in this epoch, for which there is room.
+    pub fn begin_start(&mut self, epoch: u32) {
+        let _begun = self.starts.push(Start { epoch, sessions: 0 });
+    }
+
+    /// The start of an epoch, if its journal is kept.
+    fn start_of(&mut self, epoch: u32) -> Option<&mut Start> {
+        let place = self.starts.iter().position(|start| start.epoch == epoch)?;
+        self.starts.get_mut(place)
+    }
+
+    /// The epoch of the oldest start, if it is over and none of its sessions goes on.
+    pub fn over(&self) -> Option<u32> {
+        if self.starts.len() < 2 {
+            return None;
+        }
+        let oldest = self.starts.first()?;
+        if oldest.sessions > 0 {
+            return None;
+        }
+        Some(oldest.epoch)
+    }
+
+    /// The oldest start is forgotten, and the passes that have no entry any more.
+    pub fn forget_oldest(&mut self) {
+        if !self.starts.is_empty() {
+            self.starts.remove(0);
+        }
+        self.passes.retain(|pass| !pass.noted().is_empty());
+    }
+}
