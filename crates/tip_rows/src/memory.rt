@@ -27,13 +27,18 @@ struct Known {
     is_refusing: bool,
 }
 
-/// A row where it stands.
+/// A row, and the place that it has among the others.
 #[derive(Drop)]
-struct Stored<A: Allocator> {
+struct Placed<A: Allocator> {
     realm: Realm,
     key: Key,
-    /// Apart, so that little is moved where another row is put before it.
-    row: Box<HeapRow<A>, A>,
+    row: HeapRow<A>,
+}
+
+/// A row where it stands: apart, so that little is moved where another row is put before it.
+#[derive(Drop)]
+struct Stored<A: Allocator> {
+    placed: Box<Placed<A>, A>,
 }
 
 impl<A: Allocator> Model for Stored<A> {
@@ -41,7 +46,49 @@ impl<A: Allocator> Model for Stored<A> {
 
     ghost Value = { Stored };
 
-    ghost view = { λ s. record { realm = s.realm; key = s.key; row = s.row.value } };
+    ghost view = { λ s. record {
+      realm = s.placed.value.realm;
+      key = s.placed.value.key;
+      row = s.placed.value.row;
+    } };
+}
+
+impl<A: Allocator> Stored<A> {
+    /// A row that is to stand there.
+    fn of(heap: A, realm: Realm, key: Key, row: HeapRow<A>) -> Result<Stored<A>, AllocError>
+        ensures { IfOk result
+            (λ stored. stored ≡ record { realm = realm; key = key; row = row }) }
+    {
+        let placed = Placed { realm, key, row };
+        Ok(Stored {
+            placed: Box::new(heap, placed)?,
+        })
+    }
+
+    fn realm(&self) -> &Realm
+        ensures { result.now ≡ self.now.realm }
+    {
+        &self.placed.realm
+    }
+
+    fn key(&self) -> Key
+        ensures { result ≡ self.now.key }
+    {
+        self.placed.key
+    }
+
+    fn row(&self) -> &HeapRow<A>
+        ensures { result.now ≡ self.now.row }
+    {
+        &self.placed.row
+    }
+
+    /// Another row stands there now.
+    fn replace(&mut self, row: HeapRow<A>)
+        ensures { self.new ≡ record self.old { row = row } }
+    {
+        self.placed.row = row;
+    }
 }
 
 /// Rows in memory, on a heap of the caller's. They refuse a change for want of memory, or where `refuse_next` asked for it.
@@ -436,15 +483,10 @@ fn put_copy<A: Allocator + Copy>(
     let row = HeapRow::of(heap, row)?;
     let index = place_of(rows, realm, key);
     if stands_at(rows, index, realm, key) {
-        *rows[index].row = row;
+        rows[index].replace(row);
         return Ok(());
     }
-    let stored = Stored {
-        realm: realm.copy()?,
-        key,
-        row: Box::new(heap, row)?,
-    };
-    rows.insert(index, stored)?;
+    rows.insert(index, Stored::of(heap, realm.copy()?, key, row)?)?;
     Ok(())
 }
 
@@ -481,9 +523,9 @@ fn place_of<A: Allocator>(rows: &[Stored<A>], realm: &Realm, key: Key) -> usize
 fn is_before<A: Allocator>(stored: &Stored<A>, realm: &Realm, key: Key) -> bool
     ensures { result ≡ is_before realm.now key stored.now }
 {
-    match stored.realm.as_str().cmp(realm.as_str()) {
+    match stored.realm().as_str().cmp(realm.as_str()) {
         Ordering::Less => true,
-        Ordering::Equal => stored.key.comes_before(key),
+        Ordering::Equal => stored.key().comes_before(key),
         Ordering::Greater => false,
     }
 }
@@ -493,7 +535,7 @@ fn stands_at<A: Allocator>(rows: &[Stored<A>], index: usize, realm: &Realm, key:
     ensures { result ≡ stands_at realm.now key rows.now index }
 {
     match rows.get(index) {
-        Some(row) => row.realm == *realm && row.key == key,
+        Some(row) => *row.realm() == *realm && row.key() == key,
         None => false,
     }
 }
@@ -513,14 +555,14 @@ fn run_of<'a, A: Allocator>(rows: &'a [Stored<A>], realm: &Realm) -> &'a [Stored
 fn is_of<A: Allocator>(stored: &Stored<A>, realm: &Realm) -> bool
     ensures { result ≡ is_of realm.now stored.now }
 {
-    stored.realm == *realm
+    *stored.realm() == *realm
 }
 
 /// Whether a row is of a realm whose name comes before this one.
 fn is_of_earlier<A: Allocator>(stored: &Stored<A>, realm: &Realm) -> bool
     ensures { result ≡ is_of_earlier realm.now stored.now }
 {
-    stored.realm.as_str().cmp(realm.as_str()).is_lt()
+    stored.realm().as_str().cmp(realm.as_str()).is_lt()
 }
 
 /// The rows of a realm, in order.
@@ -545,7 +587,7 @@ fn part_of<A: Allocator, B: Allocator>(
 fn entry_of<A: Allocator>(alloc: Global, stored: &Stored<A>) -> Result<(Key, Row), AllocError>
     ensures { IfOk result (λ entry. entry ≡ (stored.now.key, stored.now.row)) }
 {
-    Ok((stored.key, stored.row.copy(alloc)?.into_row()))
+    Ok((stored.key(), stored.row().copy(alloc)?.into_row()))
 }
 
 /// The names of realms, in order.
