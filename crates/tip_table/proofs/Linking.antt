@@ -1,8 +1,11 @@
 -- Keys that stand by realm, by link, and as made.
-use Rattle.std.proofs.Common.{◌≡◌, ◌⊎◌, ◌<◌, ◌≤◌, ◌-◌, ℕ, suc, List, [], ◌∷◌, length, get_or, take, drop, Option, Some, None, Bool, true, false, refl, arith, ◌∙◌, sym, subst, inl, inr}
+use Rattle.std.proofs.Common.{◌≡◌, ◌⊎◌, ◌<◌, ◌≤◌, ◌-◌, ℕ, suc, List, [], ◌∷◌, length, get_or, take, drop, Option, Some, None, Bool, true, false, refl, arith, ◌∙◌, ap, sym, subst, inl, inr}
+use Rattle.std.specs.List.{prefix_len}
 use Rattle.std.specs.Prelude.{◌+◌, ◌==◌, ◌&&◌, ◌||◌, IsSome, filter, nat_le, nat_lt, unwrap_or}
 use Rattle.std.proofs.lemmas.Bool.{and_parts, cases_Bool}
 use Rattle.std.proofs.lemmas.Bool.Decides.{nat_tests}
+use Rattle.std.proofs.lemmas.List.{get_or-drop, length-drop, take_rest}
+use Rattle.std.proofs.lemmas.List.Sums.{prefix_len-le-length, prefix_len_passes, prefix_len_stops}
 use Rattle.slab.specs.Slab.{Slab, get}
 use Rattle.tip_table.specs.declared.table.Entry.{Entry}
 use Rattle.tip_table.specs.Entries.{Pairwise, is_among, realm_in}
@@ -143,6 +146,56 @@ module _ {T : Type 0} (slots : Slab (Entry T)) where
       let b = get_or links j d in
       up_to-is (realm_of a) (link_of a) (age_of a) realm link ∙ earlier-parted realm (link + 1) 0 links sorted i j d least within (sym (up_to-is (realm_of b) (link_of b) (age_of b) realm link) ∙ is)
 
+  -- one that is before all of this realm and this link is up to them
+  pub up_to-earlier : (realm link key : ℕ) → is_earlier realm link 0 (get slots key) ≡ true → is_up_to realm link (get slots key) ≡ true
+  up_to-earlier realm link key is = up_to-is (realm_of key) (link_of key) (age_of key) realm link ∙ so-comes (realm_of key) (link_of key) (age_of key) realm (link + 1) 0 (wider (comes-so (realm_of key) (link_of key) (age_of key) realm link 0 is)) where
+    wider : {r l m : ℕ} → Comes r l m realm link 0 → Comes r l m realm (link + 1) 0
+    wider (inl less) = inl less
+    wider (inr (inl both)) = let less = both.1 in inr (inl (both.0, omega (arith, less)))
+    wider (inr (inr all)) = let less = all.2 in absurd (omega (arith, less))
+
+  -- HOW MANY are up to a realm and a link, once so many are known to be and those behind them are walked
+  module _ (realm link : ℕ) (links : List ℕ) (known : ℕ) where
+    abbrev up : ℕ → Bool
+    up key = is_up_to realm link (get slots key)
+
+    pub up_to-walked : AreLinks slots links → known ≤ length links → ((i : ℕ) → i < known → up (get_or links i 0) ≡ true) → (len : ℕ) → len ≡ prefix_len up (take (length links - known) (drop known links)) →
+        (known + len ≤ length links)
+        × ((i : ℕ) → i < known + len → up (get_or links i 0) ≡ true)
+        × ((i : ℕ) → known + len ≤ i → i < length links → up (get_or links i 0) ≡ false)
+    up_to-walked are within front len walked = (
+      omega (arith, fits, within, size),
+      (λ i less. elim (cases_Bool (nat_lt i known)) [
+        | inl early ↦ front i (grind (arith, nat_tests, early))
+        | inr late ↦ (
+            let least : known ≤ i = grind (arith, nat_tests, late) in
+            let at : i - known < prefix_len up rest = rw (← is) (omega (arith, less, least)) in
+            let same : known + (i - known) ≡ i = omega (arith, least) in
+            let here : get_or rest (i - known) 0 ≡ get_or links i 0 = get_or-drop known links (i - known) 0 ∙ ap (λ n. get_or links n 0) same in
+            rw (← here) (prefix_len_passes up rest (i - known) 0 at))
+      ]),
+      (λ i least less. elim (cases_Bool (up (get_or links i 0))) [
+        | inr not ↦ not
+        | inl listed ↦ absurd (
+            let short : prefix_len up rest < length rest = rw (← is) (omega (arith, least, less, size)) in
+            let stops : up (get_or rest len 0) ≡ false = rw is (prefix_len_stops up rest 0 short) in
+            let here : get_or rest len 0 ≡ get_or links (known + len) 0 = get_or-drop known links len 0 in
+            let wrong : true ≡ false = sym (up_to-parted realm link links are.sorted (known + len) i 0 least less listed) ∙ (rw (← here) stops) in
+            cc)
+      ]),
+    ) where
+      rest : List ℕ
+      rest = drop known links
+
+      is : len ≡ prefix_len up rest
+      is = walked ∙ ap (prefix_len up) (take_rest links known)
+
+      size : length rest ≡ length links - known
+      size = length-drop known links
+
+      fits : len ≤ length rest
+      fits = rw is (prefix_len-le-length up rest)
+
   -- A RANGE of one realm and one link
   module _ (realm link : ℕ) where
     abbrev its : ℕ → Bool
@@ -213,17 +266,11 @@ module _ {T : Type 0} (slots : Slab (Entry T)) where
         | inl is ↦ grind (arith, nat_tests, is)
         | inr not ↦ absurd (
             let less : end < start = grind (arith, nat_tests, not) in
-            let key = get_or links end 0 in
-            let early = before end less in
+            let early = up_to-earlier realm link (get_or links end 0) (before end less) in
             let late = back end (omega arith) (omega (arith, less, within)) in
-            let up = so-comes (realm_of key) (link_of key) (age_of key) realm (link + 1) 0 (wider (comes-so (realm_of key) (link_of key) (age_of key) realm link 0 early)) in
-            let is : true ≡ false = sym (up_to-is (realm_of key) (link_of key) (age_of key) realm link ∙ up) ∙ late in
+            let is : true ≡ false = sym early ∙ late in
             cc)
-      ] where
-        wider : {r l m : ℕ} → Comes r l m realm link 0 → Comes r l m realm (link + 1) 0
-        wider (inl less) = inl less
-        wider (inr (inl both)) = let less = both.1 in inr (inl (both.0, omega (arith, less)))
-        wider (inr (inr all)) = let less = all.2 in absurd (omega (arith, less))
+      ]
 
   -- ONE THAT IS LISTED stands where its realm, link and age say
   pub stands_there : (links : List ℕ) (key at : ℕ) → Pairwise (Stands slots) links → is_among links key ≡ true → ((i : ℕ) → i < at → is_earlier (realm_of key) (link_of key) (age_of key) (get slots (get_or links i 0)) ≡ true) → ((i : ℕ) → at ≤ i → i < length links → is_earlier (realm_of key) (link_of key) (age_of key) (get slots (get_or links i 0)) ≡ false) → (at < length links) × (get_or links at 0 ≡ key)

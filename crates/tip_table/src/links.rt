@@ -1,5 +1,6 @@
 //! The keys of the slots whose items are listed by their links: by realm, by link, and as made.
 ghost use Rattle.std.specs.Prelude.{◌≡◌, ◌⊎◌, ℕ, ◌<◌, ◌≤◌, false, true, length, slice_index_or, vec_capacity, filter, unwrap_or, ◌+◌, IfSome, IsOk, None, OnOk, Some};
+ghost use Rattle.std.specs.List.{prefix_len};
 ghost use Rattle.slab.specs.Slab.{get};
 ghost use Rattle.tip_table.specs.Entries.{AreByRealm, AreThere, IsOrder, items_at, own_keys, placed_at, realm_in, visited_at};
 ghost use Rattle.tip_table.specs.Visits.{MayVisit, notes_of};
@@ -41,21 +42,40 @@ fn rank<T, A: Allocator>(
     links.partition_point(|key| is_earlier(slots, *key, realm, link, made))
 }
 
-/// How many of those that are listed are of an earlier realm, or of this one and of no later link.
+/// How many of those that are listed are of an earlier realm, or of this one and of no later link: so many are known to be. Those
+/// behind them are looked at one by one, since few are listed under one link.
 fn rank_past<T, A: Allocator>(
     slots: &Slab<Entry<T>, A>,
     links: &[usize],
     realm: usize,
     link: u128,
+    known: usize,
 ) -> usize
-    requires { AreLinks slots.now links.now }
+    requires links { AreLinks slots.now links.now }
+    requires within { known ≤ length links.now }
+    requires before { (at : ℕ) → at < known →
+        is_up_to realm link (get slots.now (slice_index_or links.now at 0)) ≡ true }
     ensures within { result ≤ length links.now }
     ensures before { (at : ℕ) → at < result →
         is_up_to realm link (get slots.now (slice_index_or links.now at 0)) ≡ true }
     ensures behind { (at : ℕ) → result ≤ at → at < length links.now →
         is_up_to realm link (get slots.now (slice_index_or links.now at 0)) ≡ false }
 {
-    links.partition_point(|key| is_up_to(slots, *key, realm, link))
+    known + len_up_to(slots, &links[known..], realm, link)
+}
+
+/// How many of these keys, from the first one on, are of an earlier realm, or of this one and of no later link.
+fn len_up_to<T, A: Allocator>(
+    slots: &Slab<Entry<T>, A>,
+    keys: &[usize],
+    realm: usize,
+    link: u128,
+) -> usize
+    ensures { result ≡ prefix_len (λ key. is_up_to realm link (get slots.now key)) keys.now }
+{
+    keys.iter()
+        .take_while(|key| is_up_to(slots, **key, realm, link))
+        .count()
 }
 
 /// Whether the entry under a key stands before one of this realm, link and age.
@@ -124,7 +144,8 @@ fn listed<'a, T, A: Allocator>(
     requires { AreLinks slots.now links.now }
     ensures { result.now ≡ filter (λ key. is_listed realm link (get slots.now key)) links.now }
 {
-    &links[rank(slots, links, realm, link, 0)..rank_past(slots, links, realm, link)]
+    let start = rank(slots, links, realm, link, 0);
+    &links[start..rank_past(slots, links, realm, link, start)]
 }
 
 /// The key is listed no more.

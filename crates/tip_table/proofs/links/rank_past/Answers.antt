@@ -1,16 +1,17 @@
-use Rattle.std.proofs.Common.{arith, rules}
-use Rattle.std.proofs.lemmas.List.Sorted.{IsPartitionPoint-from_clause}
-use Rattle.slab.specs.Slab.{get}
-use Rattle.tip_table.specs.Links.{is_up_to}
-use Rattle.tip_table.proofs.Linking.{up_to-parted}
+use Rattle.std.proofs.Common.{arith}
+use Rattle.tip_table.proofs.Linking.{up_to-walked}
 use Rattle.tip_table.proofs.links.rank_past.Goals as goal
 
+pub returns-clause-within : goal.returns-clause-within
+returns-clause-within g c = (up_to-walked c.args.slots.now c.args.realm c.args.link c.args.links.now c.args.known c.requires.links c.requires.within c.requires.before c.len_up_to.result c.len_up_to.ensures).0
+
 pub returns-clause-before : goal.returns-clause-before
-returns-clause-before g c =
-    let point = IsPartitionPoint-from_clause (λ key. is_up_to c.args.realm c.args.link (get c.args.slots.now key)) _ _ c.partition_point.ensures.partitioned (up_to-parted c.args.slots.now c.args.realm c.args.link c.args.links.now c.requires.sorted) (λ a r q k. search rules) in
-    λ at less. point.0 at 0 (omega arith) less
+returns-clause-before g c = (up_to-walked c.args.slots.now c.args.realm c.args.link c.args.links.now c.args.known c.requires.links c.requires.within c.requires.before c.len_up_to.result c.len_up_to.ensures).1
 
 pub returns-clause-behind : goal.returns-clause-behind
-returns-clause-behind g c =
-    let point = IsPartitionPoint-from_clause (λ key. is_up_to c.args.realm c.args.link (get c.args.slots.now key)) _ _ c.partition_point.ensures.partitioned (up_to-parted c.args.slots.now c.args.realm c.args.link c.args.links.now c.requires.sorted) (λ a r q k. search rules) in
-    λ at least within. point.1 at 0 least within
+returns-clause-behind g c = (up_to-walked c.args.slots.now c.args.realm c.args.link c.args.links.now c.args.known c.requires.links c.requires.within c.requires.before c.len_up_to.result c.len_up_to.ensures).2
+
+pub overflow_add-result : goal.overflow_add-result
+overflow_add-result g c =
+    let within = (up_to-walked c.args.slots.now c.args.realm c.args.link c.args.links.now c.args.known c.requires.links c.requires.within c.requires.before c.len_up_to.result c.len_up_to.ensures).0 in
+    omega (arith, within)
