@@ -6,7 +6,7 @@ ghost use Rattle.tip_machine.specs.Order.{in_turn};
 ghost use Rattle.tip_machine.specs.Steps.{returned};
 ghost use Rattle.tip_outlook.specs.Turns.{turn_in};
 
-use crate::transaction_room::TransactionRoom;
+use crate::transaction_room::{HeldRoom, TransactionRoom};
 use std::alloc::{AllocError, Global};
 use std::marker::Model;
 use tip_branch::{HeldFresh, HeldParty};
@@ -35,7 +35,7 @@ pub struct Making {
     spent: Option<HeldParty>,
     unused: Option<HeldFresh>,
     entry: Option<u32>,
-    room: Option<TransactionRoom>,
+    room: Option<HeldRoom>,
     peer: Option<Address>,
     ours: Option<Address>,
     word: Option<Id>,
@@ -90,7 +90,7 @@ impl Making {
     pub fn new(
         alloc: Global,
         lines: usize,
-        room: Option<TransactionRoom>,
+        room: Option<HeldRoom>,
         words: Words,
     ) -> Result<Making, AllocError>
         ensures answer { IfOk result (λ making. making.answer ≡ silence) }
@@ -138,7 +138,7 @@ impl Making {
         ensures left { self.new ≡ record self.old { room = None } }
     {
         match self.room.take() {
-            Some(room) => room,
+            Some(room) => room.into_inner(),
             None => unreachable!(),
         }
     }

@@ -18,7 +18,7 @@ ghost use Rattle.tip_rules.specs.Works.{lines_as, lines_asked, lines_for, lines_
 use crate::making::{Making, Words};
 use crate::reaching::subordinate_of;
 use crate::room::Room;
-use crate::transaction_room::TransactionRoom;
+use crate::transaction_room::HeldRoom;
 use crate::work::Work;
 use std::alloc::{AllocError, Global};
 use tip_branch::HeldParty;
@@ -159,7 +159,7 @@ impl Work<Connection, Transaction, Making> {
         alloc: Global,
         event: &Event,
         own: Option<&Connection>,
-    ) -> Result<Option<TransactionRoom>, AllocError>
+    ) -> Result<Option<HeldRoom>, AllocError>
         requires here { self.now.realm < length self.now.heads.items }
         requires counts { HasCounts (work_of self.now).state }
         requires own { option_copied own ≡ own_of event.now (work_of self.now).state }

@@ -4,7 +4,7 @@ ghost use Rattle.std.specs.Option.{option_copied};
 ghost use Rattle.tip_branch.specs.Always.{Always};
 
 use crate::making::{Making, Words};
-use crate::transaction_room::TransactionRoom;
+use crate::transaction_room::HeldRoom;
 use std::alloc::{AllocError, Global};
 use std::marker::Model;
 use tip_machine::Change;
@@ -46,7 +46,7 @@ impl Room {
     pub fn new(
         alloc: Global,
         lines: usize,
-        transaction: Option<TransactionRoom>,
+        transaction: Option<HeldRoom>,
         words: Words,
         next: Next,
     ) -> Result<Room, AllocError>
