@@ -1,6 +1,6 @@
 -- The realms of a scene, and the code's values that stand for them.
-use Rattle.std.proofs.Common.{◌≡◌, ◌≢◌, ◌+◌, ◌++◌, ◌∷◌, [], ℕ, suc, zero, List, Bool, true, false, not, ◌==◌, Option, Some, None, length, arith, refl, sym, ap, ◌∙◌, subst}
-use Rattle.std.specs.Prelude.{slice_get, slice_set, if◌then◌else◌, Ok, Err, Result}
+use Rattle.std.proofs.Common.{◌≡◌, ◌≢◌, ◌<◌, ◌+◌, ◌++◌, ◌∷◌, [], ℕ, suc, zero, List, Bool, true, false, not, ◌==◌, Option, Some, None, length, arith, refl, sym, ap, ◌∙◌, subst}
+use Rattle.std.specs.Prelude.{option_map, slice_get, slice_set, if◌then◌else◌, Ok, Err, Result}
 use Rattle.std.specs.List.{position_or_len}
 use Rattle.std.specs.Str.{bytes_eq}
 use Rattle.std.specs.Cmp.{unsigned_Decides}
@@ -16,6 +16,7 @@ use Rattle.tip_core.specs.Hosted.{HaveNames, realm}
 use Rattle.tip_rows.specs.Logs.{Keeping, Log}
 use Rattle.tip_script.specs.Scripts.{Move}
 use Rattle.tip_scene.specs.Scenes.{Scene, does, elsewhere, is_named, moved_at, moved_in, place_of, with_done, with_text}
+use Rattle.tip_scene.proofs.Places.{first_passes}
 use Rattle.tip_scene.proofs.Renewed.{acts_still}
 use Rattle.tip_scene.specs.Stages.{APlaying, Prints, Serves}
 use Rattle.tip_scene.specs.Standing.{IsScene, IsMoved, has_name}
@@ -46,6 +47,30 @@ no_partner (x ∷ xs) (y ∷ ys) (suc i) count none = no_partner xs ys i (omega 
 module _ {S : Type 0} (kept : Keeping S) where
   pub named : (stored_core : StoredCore S) (actors : List Actor) (scene : Scene) (name : List ℕ) → IsScene kept stored_core actors scene → position_or_len (has_name name) actors ≡ place_of name scene
   named stored_core actors scene name is = named_at name actors scene is.count (λ place actor acting a b. (is.each place actor acting a b).own.name)
+
+  -- no two realms have one name
+  only_one : (stored_core : StoredCore S) (actors : List Actor) (scene : Scene) (name : List ℕ) (place other : ℕ) (x y : Actor) → IsScene kept stored_core actors scene → slice_get actors place ≡ Some x → slice_get actors other ≡ Some y → has_name name x ≡ true → has_name name y ≡ true → place ≡ other
+  only_one stored_core actors scene name place other x y is a b here there =
+      let s = partner actors scene place x is.count a in
+      let t = partner actors scene other y is.count b in
+      let this = is.each place x s.0 a s.1 in
+      let that = is.each other y t.0 b t.1 in
+      let names : x.name ≡ y.name = (bytes_eq-Decides x.name name).0 here ∙ sym ((bytes_eq-Decides y.name name).0 there) in
+      this.served.names place other s.0.world.state t.0.world.state this.served.state_is that.served.state_is (this.named ∙ sym this.own.name ∙ names ∙ that.own.name ∙ sym that.named)
+
+  not_earlier : (stored_core : StoredCore S) (actors : List Actor) (scene : Scene) (name : List ℕ) (place other : ℕ) (x y : Actor) → IsScene kept stored_core actors scene → slice_get actors place ≡ Some x → has_name name x ≡ true → slice_get actors other ≡ Some y → other < place → (passes : Bool) → has_name name y ≡ passes → passes ≡ false
+  not_earlier stored_core actors scene name place other x y is a here b earlier true there = absurd (let same = only_one stored_core actors scene name place other x y is a b here there in omega (arith, same, earlier))
+  not_earlier stored_core actors scene name place other x y is a here b earlier false there = refl
+
+  first_with : (stored_core : StoredCore S) (actors : List Actor) (scene : Scene) (name : List ℕ) (place : ℕ) (found : Option Actor) → IsScene kept stored_core actors scene → slice_get actors place ≡ found → option_map (has_name name) found ≡ Some true → place ≡ position_or_len (has_name name) actors
+  first_with stored_core actors scene name place None is a there = absurd (none-some true there)
+  first_with stored_core actors scene name place (Some x) is a there =
+      let here = same_Some (has_name name x) true there in
+      first_passes (has_name name) actors place x a here (λ other y b earlier. not_earlier stored_core actors scene name place other x y is a here b earlier (has_name name y) refl)
+
+  -- so wherever one stands that has the name, it is the first
+  pub first_there : (stored_core : StoredCore S) (actors : List Actor) (scene : Scene) (name : List ℕ) (place : ℕ) → IsScene kept stored_core actors scene → option_map (has_name name) (slice_get actors place) ≡ Some true → place ≡ position_or_len (has_name name) actors
+  first_there stored_core actors scene name place is there = first_with stored_core actors scene name place (slice_get actors place) is refl there
 
   -- One realm has done something, and the others stay
 

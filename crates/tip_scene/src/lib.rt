@@ -3,6 +3,7 @@
 
 mod boxes;
 mod branches;
+mod by_name;
 mod counting;
 mod declared;
 mod fault;
@@ -14,6 +15,7 @@ mod rising;
 mod stage;
 
 pub use boxes::{Wanted, add_box};
+pub use by_name::ByName;
 pub use declared::Declared;
 pub use fault::LineFault;
 pub use playing::Playing;

@@ -20,6 +20,7 @@ ghost use Rattle.tip_scene.specs.Stages.{ComeWith, Moves, Prints, Serves, Trusts
 ghost use Rattle.tip_scene.specs.Wanting.{wanted_again};
 
 use crate::boxes::fresh;
+use crate::by_name::{ByName, first_of};
 use crate::counting::count_acting;
 use crate::fault::LineFault;
 use crate::renewing::renew;
@@ -39,6 +40,7 @@ use tip_transcript::{print_idle, print_nowhere};
 pub struct Playing<H, A = Actor> {
     pub stored_core: H,
     pub actors: Vec<A>,
+    pub by_name: ByName,
 }
 
 impl<S: RowLog + Drop> Playing<StoredCore<S>, Actor> {
@@ -362,14 +364,14 @@ impl<S: RowLog + Drop> Playing<StoredCore<S>, Actor> {
 
     /// The place of a realm; one behind all realms where it is not declared.
     fn place_of(&self, name: &str) -> usize
-        ensures { result ≡ position_or_len (has_name name.now) self.now.actors.items }
+        ensures { (scene : Scene) → IsScene S.keeping
+            self.now.stored_core self.now.actors.items scene →
+            result ≡ position_or_len (has_name name.now) self.now.actors.items }
     {
-        for (place, actor) in self.actors.iter().enumerate() {
-            if actor.name.as_str() == name {
-                return place;
-            }
+        match self.by_name.find(&self.actors, name) {
+            Some(place) => place,
+            None => first_of(&self.actors, name),
         }
-        self.actors.len()
     }
 }
 

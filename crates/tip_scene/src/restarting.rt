@@ -60,7 +60,9 @@ pub(crate) fn restart<S: RowLog + Drop>(
     let Playing {
         stored_core,
         actors,
+        by_name,
     } = playing;
+    drop(by_name);
     if is_any_at_end(stored_core.core.heads()) {
         return Err((LineFault::NotUnderstood, stored_core.shut()));
     }

@@ -13,6 +13,7 @@ ghost use Rattle.tip_scene.specs.Scenes.{Scene, openings_text};
 ghost use Rattle.tip_scene.specs.Standing.{IsScene};
 
 use crate::boxes::dealt_to_all;
+use crate::by_name::ByName;
 use crate::playing::Playing;
 use std::alloc::{AllocError, Global};
 use tip_actor::{ActFault, Actor};
@@ -56,7 +57,7 @@ pub(crate) fn rise<S: RowLog + Drop>(
     if !recovering.adopt_all(lots) {
         return Err((ActFault::Store, recovering.into_store()));
     }
-    match begin(recovering, actors, printed) {
+    match begin(alloc, recovering, actors, printed) {
         Ok(playing) => Ok(playing),
         Err(store) => Err((ActFault::Memory, store)),
     }
@@ -64,6 +65,7 @@ pub(crate) fn rise<S: RowLog + Drop>(
 
 /// Realms that have started say so, and are at work. The store comes back where memory ends.
 fn begin<S: RowLog + Drop>(
+    alloc: Global,
     recovering: Recovering<S>,
     actors: Vec<Actor>,
     printed: &mut String,
@@ -81,6 +83,9 @@ fn begin<S: RowLog + Drop>(
         IfOk result (λ playing. IsScene S.keeping playing.stored_core
         playing.actors.items scene) }
 {
+    let Ok(by_name) = ByName::new(alloc, &actors) else {
+        return Err(recovering.into_store());
+    };
     if print_openings(printed, &recovering, &actors).is_err() {
         return Err(recovering.into_store());
     }
@@ -88,6 +93,7 @@ fn begin<S: RowLog + Drop>(
         Ok(stored_core) => Ok(Playing {
             stored_core,
             actors,
+            by_name,
         }),
         Err(_) => unreachable!(),
     }

@@ -12,7 +12,7 @@ use Rattle.tip_scene.proofs.playing.Playing+StoredCore+S+Actor.act_in.Goals as g
 pub returns-in_default-clause-serves : goal.returns-in_default-clause-serves
 returns-in_default-clause-serves g c = λ scene is may boxes.
     moved_elsewhere g.S.RowLog.keeping c.args.self.now scene (move_by c.args.instruction) c.args.realm.now c.place_of-place.result (string_bytes c.args.printed.now) (string_bytes c.print_elsewhere.new.printed) c.print_elsewhere.result is
-    c.place_of-place.ensures (none_at c.args.self.now.actors.items c.place_of-place.result c.in_default.ensures.item.3) c.print_elsewhere.ensures
+    (c.place_of-place.ensures scene is) (none_at c.args.self.now.actors.items c.place_of-place.result c.in_default.ensures.item.3) c.print_elsewhere.ensures
 
 pub returns-then-not-branch-clause-serves : goal.returns-then-not-branch-clause-serves
 returns-then-not-branch-clause-serves g c = λ scene is may boxes.
@@ -20,7 +20,7 @@ returns-then-not-branch-clause-serves g c = λ scene is may boxes.
     let place = c.place_of-place.result in
     let actor = c.in-Some.actor.now in
     has_not_moved g.S.RowLog.keeping c.args.self.now.stored_core c.obey.new.stored_core c.args.self.now actors scene (move_by c.args.instruction) c.args.realm.now place actor c.obey.new.actor (string_bytes c.args.printed.now) (string_bytes c.obey.new.printed) is
-    c.place_of-place.ensures (some_at actors place actor c.in-Some.ensures.item.3.0 c.in-Some.ensures.item.3.1)
+    (c.place_of-place.ensures scene is) (some_at actors place actor c.in-Some.ensures.item.3.0 c.in-Some.ensures.item.3.1)
     (λ acting acts. subst (λ told. Tells g.S.RowLog.keeping c.args.self.now.stored_core c.obey.new.stored_core place actor c.obey.new.actor (string_bytes c.args.printed.now) (string_bytes c.obey.new.printed) told (does (move_by c.args.instruction) acting)) c.if-not-branch.true (c.in_ok-obey.ensures.tells acting acts may boxes))
 
 pub returns-clause-truth : goal.returns-clause-truth
@@ -32,7 +32,7 @@ returns-clause-serves g c = λ scene is may boxes.
     let place = c.place_of-place.result in
     let actor = c.in-Some.actor.now in
     has_moved g.S.RowLog.keeping c.args.self.now.stored_core c.obey.new.stored_core c.settle.new.stored_core actors scene (move_by c.args.instruction) c.args.realm.now place actor c.obey.new.actor c.settle.new.self (string_bytes c.args.printed.now) (string_bytes c.obey.new.printed) (string_bytes c.settle.new.printed) is
-    c.place_of-place.ensures (some_at actors place actor c.in-Some.ensures.item.3.0 c.in-Some.ensures.item.3.1)
+    (c.place_of-place.ensures scene is) (some_at actors place actor c.in-Some.ensures.item.3.0 c.in-Some.ensures.item.3.1)
     (λ acting acts. subst (λ told. Tells g.S.RowLog.keeping c.args.self.now.stored_core c.obey.new.stored_core place actor c.obey.new.actor (string_bytes c.args.printed.now) (string_bytes c.obey.new.printed) told (does (move_by c.args.instruction) acting)) c.if-not-branch.false (c.in_ok-obey.ensures.tells acting acts may boxes))
     c.in_ok-settle.ensures.acts
 
@@ -59,21 +59,21 @@ returns-in_err-obey-clause-halts g c = λ scene is may boxes.
     let actors = c.args.self.now.actors.items in
     let place = c.place_of-place.result in
     let actor = c.in-Some.actor.now in
-    halts_doing g.S.RowLog.keeping c.args.self.now.stored_core c.obey.new.stored_core.store actors scene (move_by c.args.instruction) c.args.realm.now place actor is c.place_of-place.ensures (some_at actors place actor c.in-Some.ensures.item.3.0 c.in-Some.ensures.item.3.1) (λ acting acts. c.obey.ensures.halts acting acts may boxes)
+    halts_doing g.S.RowLog.keeping c.args.self.now.stored_core c.obey.new.stored_core.store actors scene (move_by c.args.instruction) c.args.realm.now place actor is (c.place_of-place.ensures scene is) (some_at actors place actor c.in-Some.ensures.item.3.0 c.in-Some.ensures.item.3.1) (λ acting acts. c.obey.ensures.halts acting acts may boxes)
 
 pub returns-then-not-branch-clause-halts : goal.returns-then-not-branch-clause-halts
 returns-then-not-branch-clause-halts g c = λ scene is may boxes.
     let actors = c.args.self.now.actors.items in
     let place = c.place_of-place.result in
     let actor = c.in-Some.actor.now in
-    halts_doing g.S.RowLog.keeping c.args.self.now.stored_core c.obey.new.stored_core.store actors scene (move_by c.args.instruction) c.args.realm.now place actor is c.place_of-place.ensures (some_at actors place actor c.in-Some.ensures.item.3.0 c.in-Some.ensures.item.3.1) (λ acting acts. c.obey.ensures.halts acting acts may boxes)
+    halts_doing g.S.RowLog.keeping c.args.self.now.stored_core c.obey.new.stored_core.store actors scene (move_by c.args.instruction) c.args.realm.now place actor is (c.place_of-place.ensures scene is) (some_at actors place actor c.in-Some.ensures.item.3.0 c.in-Some.ensures.item.3.1) (λ acting acts. c.obey.ensures.halts acting acts may boxes)
 
 pub returns-in_err-settle-clause-halts : goal.returns-in_err-settle-clause-halts
 returns-in_err-settle-clause-halts g c = λ scene is may boxes.
     let actors = c.args.self.now.actors.items in
     let place = c.place_of-place.result in
     let actor = c.in-Some.actor.now in
-    halts_taking g.S.RowLog.keeping c.args.self.now.stored_core c.settle.new.stored_core.store actors scene (move_by c.args.instruction) c.args.realm.now place actor is c.place_of-place.ensures (some_at actors place actor c.in-Some.ensures.item.3.0 c.in-Some.ensures.item.3.1) c.obey.new.stored_core c.obey.new.actor (string_bytes c.args.printed.now) (string_bytes c.obey.new.printed)
+    halts_taking g.S.RowLog.keeping c.args.self.now.stored_core c.settle.new.stored_core.store actors scene (move_by c.args.instruction) c.args.realm.now place actor is (c.place_of-place.ensures scene is) (some_at actors place actor c.in-Some.ensures.item.3.0 c.in-Some.ensures.item.3.1) c.obey.new.stored_core c.obey.new.actor (string_bytes c.args.printed.now) (string_bytes c.obey.new.printed)
     (λ acting acts. subst (λ told. Tells g.S.RowLog.keeping c.args.self.now.stored_core c.obey.new.stored_core place actor c.obey.new.actor (string_bytes c.args.printed.now) (string_bytes c.obey.new.printed) told (does (move_by c.args.instruction) acting)) c.if-not-branch.false (c.in_ok-obey.ensures.tells acting acts may boxes))
     c.settle.ensures.halts
 
@@ -82,6 +82,6 @@ returns-clause-halts g c = λ scene is may boxes.
     let actors = c.args.self.now.actors.items in
     let place = c.place_of-place.result in
     let actor = c.in-Some.actor.now in
-    halts_taking g.S.RowLog.keeping c.args.self.now.stored_core c.settle.new.stored_core.store actors scene (move_by c.args.instruction) c.args.realm.now place actor is c.place_of-place.ensures (some_at actors place actor c.in-Some.ensures.item.3.0 c.in-Some.ensures.item.3.1) c.obey.new.stored_core c.obey.new.actor (string_bytes c.args.printed.now) (string_bytes c.obey.new.printed)
+    halts_taking g.S.RowLog.keeping c.args.self.now.stored_core c.settle.new.stored_core.store actors scene (move_by c.args.instruction) c.args.realm.now place actor is (c.place_of-place.ensures scene is) (some_at actors place actor c.in-Some.ensures.item.3.0 c.in-Some.ensures.item.3.1) c.obey.new.stored_core c.obey.new.actor (string_bytes c.args.printed.now) (string_bytes c.obey.new.printed)
     (λ acting acts. subst (λ told. Tells g.S.RowLog.keeping c.args.self.now.stored_core c.obey.new.stored_core place actor c.obey.new.actor (string_bytes c.args.printed.now) (string_bytes c.obey.new.printed) told (does (move_by c.args.instruction) acting)) c.if-not-branch.false (c.in_ok-obey.ensures.tells acting acts may boxes))
     c.settle.ensures.halts

@@ -1,31 +1,11 @@
--- The place of the first realm of that name, or the one behind all.
-use Rattle.std.proofs.Common.{◌≡◌, ◌∙◌, Some, false, true, sym, ap}
-use Rattle.std.specs.List.{position_or_len}
-use Rattle.std.specs.Str.{bytes_eq}
-use Rattle.std.proofs.lemmas.Option.{slice_get-get_or}
+-- A realm that has the name is the first that has it.
+use Rattle.std.proofs.Common.{ap, sym, ◌∙◌}
+use Rattle.std.specs.Prelude.{option_map, slice_get}
 use Rattle.tip_scene.specs.Standing.{has_name}
-use Rattle.tip_scene.proofs.Places.{first_passes, none_passes, none_yet, one_more_fails}
+use Rattle.tip_scene.proofs.Scening.{first_there}
 use Rattle.tip_scene.proofs.playing.Playing+StoredCore+S+Actor.place_of.Goals as goal
 
-pub loop-place-init : goal.loop-place-init
-loop-place-init g c = none_yet (has_name c.args.name.now) c.deref-actor-items.result.now
-
-pub returns-then-eq : goal.returns-then-eq
-returns-then-eq g c =
-    let actors = c.deref-actor-items.result.now in
-    let item = c.actor-item.result in
-    let passes : has_name c.args.name.now item ≡ true = ap (λ n. bytes_eq n c.args.name.now) (sym c.as_str.ensures.same) ∙ sym c.eq.ensures ∙ c.if-eq.true in
-    first_passes (has_name c.args.name.now) actors c.loop-place.place item (slice_get-get_or actors c.loop-place.place item c.loop-place-test.true ∙ ap Some (sym c.actor-item.is)) passes c.loop-place.invariant
-    ∙ ap (position_or_len (has_name c.args.name.now)) c.deref-actor-items.ensures.value
-
-pub loop-place-preserved : goal.loop-place-preserved
-loop-place-preserved g c =
-    let actors = c.deref-actor-items.result.now in
-    let item = c.actor-item.result in
-    let fails : has_name c.args.name.now item ≡ false = ap (λ n. bytes_eq n c.args.name.now) (sym c.as_str.ensures.same) ∙ sym c.eq.ensures ∙ c.if-eq.false in
-    one_more_fails (has_name c.args.name.now) actors c.loop-place.place item c.loop-place.invariant (slice_get-get_or actors c.loop-place.place item c.loop-place-test.true ∙ ap Some (sym c.actor-item.is)) fails
-
-pub returns : goal.returns
-returns g c =
-    let p = has_name c.args.name.now in
-    c.len.ensures ∙ sym c.deref-actor-items.ensures.len ∙ none_passes p c.deref-actor-items.result.now c.loop-place.place c.loop-place-test.false c.loop-place.invariant ∙ ap (position_or_len p) c.deref-actor-items.ensures.value
+pub returns-in-Some : goal.returns-in-Some
+returns-in-Some g c = λ scene is.
+    let found = sym (ap (λ actors. option_map (has_name c.args.name.now) (slice_get actors c.in-Some.place)) c.deref.ensures.value) ∙ c.in-Some.ensures in
+    first_there g.S.RowLog.keeping c.args.self.now.stored_core c.args.self.now.actors.items scene c.args.name.now c.in-Some.place is found

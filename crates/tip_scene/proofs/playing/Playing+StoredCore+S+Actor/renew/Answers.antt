@@ -24,7 +24,7 @@ use Rattle.tip_scene.proofs.playing.Playing+StoredCore+S+Actor.renew.Goals as go
 pub returns-in_default-clause-serves : goal.returns-in_default-clause-serves
 returns-in_default-clause-serves g c = λ scene is truth.
     moved_elsewhere g.S.RowLog.keeping c.args.self.now scene (Renew c.args.name.now) c.args.name.now c.place_of-place.result (string_bytes c.args.printed.now) (string_bytes c.print_nowhere.new.printed) (Ok tt) is
-    c.place_of-place.ensures (none_at c.args.self.now.actors.items c.place_of-place.result c.in_default.ensures.item.3) (nowhere_text c.args.name.now, refl, c.in_ok-print_nowhere.ensures)
+    (c.place_of-place.ensures scene is) (none_at c.args.self.now.actors.items c.place_of-place.result c.in_default.ensures.item.3) (nowhere_text c.args.name.now, refl, c.in_ok-print_nowhere.ensures)
 
 pub returns-clause-truth : goal.returns-clause-truth
 returns-clause-truth g c = λ truth. c.renew.ensures.truth (c.settle-end.ensures.truth truth)
@@ -34,18 +34,18 @@ returns-clause-serves g c = λ scene is truth.
     let actors = c.args.self.now.actors.items in
     let place = c.place_of-place.result in
     let actor = c.in-Some.actor.now in
-    let playing : APlaying g.row.S.Denot = record { stored_core = c.settle-end.new.stored_core; actors = with_item c.args.self.now.actors place c.settle-end.new.actor } in
+    let playing : APlaying g.row.S.Denot = record { stored_core = c.settle-end.new.stored_core; actors = with_item c.args.self.now.actors place c.settle-end.new.actor; by_name = c.args.self.now.by_name } in
     let moved = moved_in (Renew c.args.name.now) (Some c.args.name.now) scene in
     subst (Serves g.S.RowLog.keeping (string_bytes c.args.printed.now) (string_bytes c.settle-end.new.printed) moved playing) (sym c.judge.ensures)
     (serves_judged g.S.RowLog.keeping _ _ moved playing _ _ c.settle-end.result (serves_when g.S.RowLog.keeping _ _ moved playing c.settle-end.result c.settle-end.ensures.understood c.settle-end.ensures.acts (λ settles.
     has_moved g.S.RowLog.keeping c.args.self.now.stored_core c.renew.new.stored_core c.settle-end.new.stored_core actors scene (Renew c.args.name.now) c.args.name.now place actor c.renew.new.actor c.settle-end.new.actor (string_bytes c.args.printed.now) (string_bytes c.renew.new.printed) (string_bytes c.settle-end.new.printed) is
-    c.place_of-place.ensures (some_at actors place actor c.in-Some.ensures.item.3.0 c.in-Some.ensures.item.3.1)
+    (c.place_of-place.ensures scene is) (some_at actors place actor c.in-Some.ensures.item.3.0 c.in-Some.ensures.item.3.1)
     (c.in-Ok.ensures.acts (c.settle-end.ensures.truth truth))
     settles)))
 
 pub returns-in-Err-clause-serves : goal.returns-in-Err-clause-serves
 returns-in-Err-clause-serves g c = λ scene is truth.
-    let playing : APlaying g.row.S.Denot = record { stored_core = c.renew.new.stored_core; actors = with_item c.args.self.now.actors c.place_of-place.result c.renew.new.actor } in
+    let playing : APlaying g.row.S.Denot = record { stored_core = c.renew.new.stored_core; actors = with_item c.args.self.now.actors c.place_of-place.result c.renew.new.actor; by_name = c.args.self.now.by_name } in
     serves_not g.S.RowLog.keeping (string_bytes c.args.printed.now) (string_bytes c.renew.new.printed) (moved_in (Renew c.args.name.now) (Some c.args.name.now) scene) playing c.blamed.result (λ bad. act_known c.in-Err.fault (sym c.from.ensures ∙ blamed_not _ _ c.from.result (sym c.blamed.ensures ∙ bad)))
 
 pub returns-in-Err-clause-blames : goal.returns-in-Err-clause-blames
@@ -57,7 +57,7 @@ returns-in-Err-clause-blames g c = λ may scene is enough truth bad.
     let here = some_at actors place actor c.in-Some.ensures.item.3.0 c.in-Some.ensures.item.3.1 in
     let mate = partner actors scene place actor is.count here in
     let acts = is.each place actor mate.0 here mate.1 in
-    let named = subst (λ n. bytes_eq n c.args.name.now ≡ true) acts.own.name (passes_at (has_name c.args.name.now) actors place actor c.place_of-place.ensures here) in
+    let named = subst (λ n. bytes_eq n c.args.name.now ≡ true) acts.own.name (passes_at (has_name c.args.name.now) actors place actor (c.place_of-place.ensures scene is) here) in
     let one = enough_for_one c.args.name.now scene place mate.0 mate.1 named in
     let old = c.args.self.now.stored_core.store in
     let new = c.renew.new.stored_core.store in
@@ -87,7 +87,7 @@ returns-clause-leaves g c = λ scene is truth.
     let actors = c.args.self.now.actors.items in
     let place = c.place_of-place.result in
     let actor = c.in-Some.actor.now in
-    let playing : APlaying g.row.S.Denot = record { stored_core = c.settle-end.new.stored_core; actors = with_item c.args.self.now.actors place c.settle-end.new.actor } in
+    let playing : APlaying g.row.S.Denot = record { stored_core = c.settle-end.new.stored_core; actors = with_item c.args.self.now.actors place c.settle-end.new.actor; by_name = c.args.self.now.by_name } in
     subst (λ r. OnOk r (LeavesRest kept c.args.self.now playing)) (sym c.judge.ensures) (judged_on kept _ _ _ c.settle-end.result (on_ok_weaker c.settle-end.result (λ settles.
     rest_done kept c.args.self.now playing c.renew.new.stored_core scene place actor c.renew.new.actor c.settle-end.new.actor (string_bytes c.args.printed.now) (string_bytes c.renew.new.printed) (string_bytes c.settle-end.new.printed) (λ acting. Some (renews acting)) is
     (some_at actors place actor c.in-Some.ensures.item.3.0 c.in-Some.ensures.item.3.1) refl
@@ -114,13 +114,13 @@ returns-in-Err-clause-halts g c = λ scene is truth.
     let actors = c.args.self.now.actors.items in
     let place = c.place_of-place.result in
     let actor = c.in-Some.actor.now in
-    halts_doing g.S.RowLog.keeping c.args.self.now.stored_core c.renew.new.stored_core.store actors scene (Renew c.args.name.now) c.args.name.now place actor is c.place_of-place.ensures (some_at actors place actor c.in-Some.ensures.item.3.0 c.in-Some.ensures.item.3.1) c.renew.ensures.halts
+    halts_doing g.S.RowLog.keeping c.args.self.now.stored_core c.renew.new.stored_core.store actors scene (Renew c.args.name.now) c.args.name.now place actor is (c.place_of-place.ensures scene is) (some_at actors place actor c.in-Some.ensures.item.3.0 c.in-Some.ensures.item.3.1) c.renew.ensures.halts
 
 pub returns-clause-halts : goal.returns-clause-halts
 returns-clause-halts g c = λ scene is truth.
     let actors = c.args.self.now.actors.items in
     let place = c.place_of-place.result in
     let actor = c.in-Some.actor.now in
-    halts_taking g.S.RowLog.keeping c.args.self.now.stored_core c.settle-end.new.stored_core.store actors scene (Renew c.args.name.now) c.args.name.now place actor is c.place_of-place.ensures (some_at actors place actor c.in-Some.ensures.item.3.0 c.in-Some.ensures.item.3.1) c.renew.new.stored_core c.renew.new.actor (string_bytes c.args.printed.now) (string_bytes c.renew.new.printed)
+    halts_taking g.S.RowLog.keeping c.args.self.now.stored_core c.settle-end.new.stored_core.store actors scene (Renew c.args.name.now) c.args.name.now place actor is (c.place_of-place.ensures scene is) (some_at actors place actor c.in-Some.ensures.item.3.0 c.in-Some.ensures.item.3.1) c.renew.new.stored_core c.renew.new.actor (string_bytes c.args.printed.now) (string_bytes c.renew.new.printed)
     (c.in-Ok.ensures.acts (c.settle-end.ensures.truth truth))
     c.settle-end.ensures.halts
