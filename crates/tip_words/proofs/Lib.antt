@@ -1,2 +1,3 @@
 pub mod Naming
 mod Joining
+mod Chains

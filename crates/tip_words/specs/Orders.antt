@@ -30,6 +30,14 @@ IsNumberIn rows = IsNumberOf (one_of (codes "sessions") rows)
 abbrev pub is_command : Text → Bool
 is_command name = list_any (bytes_eq name) (codes "play" ∷ codes "serve" ∷ codes "rows" ∷ codes "check" ∷ codes "ping" ∷ codes "query" ∷ codes "settle" ∷ codes "send" ∷ codes "ask" ∷ [])
 
+-- one that is done here
+abbrev pub does : Text → Bool
+does name = list_any (bytes_eq name) (codes "play" ∷ codes "serve" ∷ codes "rows" ∷ codes "check" ∷ [])
+
+-- one that asks a manager, or a server
+abbrev pub asks : Text → Bool
+asks name = list_any (bytes_eq name) (codes "ping" ∷ codes "query" ∷ codes "settle" ∷ codes "send" ∷ codes "ask" ∷ [])
+
 -- the order that a subcommand is, with its values
 abbrev pub Says : Text × List Row → Order → Type 0
 Says found (Play store) = (found.0 ≡ codes "play") × (option_map (λ s. s.now) store ≡ first_of (codes "store") found.1)

@@ -1,9 +1,9 @@
 //! Reading the words of the command line.
-ghost use Rattle.std.specs.Prelude.{◌≡◌, true, IfErr, IfOk, IsSomeAnd, map, string_bytes};
+ghost use Rattle.std.specs.Prelude.{◌≡◌, codes, false, true, IfErr, IfOk, IfSome, IsSomeAnd, None, map, string_bytes};
 ghost use Rattle.clap.specs.Words.{found_of, kind_of, rows_of, subcommand_rows_of, takes};
 ghost use Rattle.clap.specs.declared.error.kind.ErrorKind.TheVariants.{OutOfMemory};
 ghost use Rattle.tip_words.specs.Commands.{tipd};
-ghost use Rattle.tip_words.specs.Orders.{IsAsked, IsNumberIn, Says, is_command, text_in};
+ghost use Rattle.tip_words.specs.Orders.{IsAsked, IsNumberIn, Says, asks, does, is_command, text_in};
 
 use crate::commands::tipd;
 use crate::order::Order;
@@ -36,6 +36,64 @@ fn order_of<'a>(name: &str, found: &ArgMatches<'a>) -> Order<'a>
     requires { is_command name.now ≡ true }
     ensures { Says (name.now, rows_of (found_of found.now)) result }
 {
+    match order_to_ask(name, found) {
+        Some(order) => order,
+        None => order_to_do(name, found),
+    }
+}
+
+/// The order of a subcommand that asks a manager, or a server at its control port.
+fn order_to_ask<'a>(name: &str, found: &ArgMatches<'a>) -> Option<Order<'a>>
+    ensures some { IfSome result (Says (name.now, rows_of (found_of found.now))) }
+    ensures none { result ≡ None → asks name.now ≡ false }
+{
+    if name == "ping" {
+        return Some(Order::Ping {
+            address: text_in(found, "address"),
+        });
+    }
+    if name == "query" {
+        return Some(Order::Query {
+            address: text_in(found, "address"),
+            id: text_in(found, "id"),
+        });
+    }
+    if name == "settle" {
+        return Some(Order::Settle {
+            address: text_in(found, "address"),
+            id: text_in(found, "id"),
+            decision: text_in(found, "decision"),
+        });
+    }
+    if name == "send" {
+        return Some(Order::Send {
+            address: text_in(found, "address"),
+        });
+    }
+    if name == "ask" {
+        return Some(order_to_operate(found));
+    }
+    None
+}
+
+/// What an operator asks of a server, with these matches.
+fn order_to_operate<'a>(found: &ArgMatches<'a>) -> Order<'a>
+    ensures { Says (codes "ask", rows_of (found_of found.now)) result }
+{
+    Order::Ask {
+        control: text_in(found, "control"),
+        request: text_in(found, "request"),
+        first: found.get_str("first"),
+        second: found.get_str("second"),
+        third: found.get_str("third"),
+    }
+}
+
+/// The order of a subcommand that is done here, with these matches.
+fn order_to_do<'a>(name: &str, found: &ArgMatches<'a>) -> Order<'a>
+    requires { does name.now ≡ true }
+    ensures { Says (name.now, rows_of (found_of found.now)) result }
+{
     if name == "serve" {
         return Order::Serve {
             config: text_in(found, "config"),
@@ -51,38 +109,6 @@ fn order_of<'a>(name: &str, found: &ArgMatches<'a>) -> Order<'a>
         return Order::Check {
             config: found.get_str("config"),
             store: found.get_str("store"),
-        };
-    }
-    if name == "ping" {
-        return Order::Ping {
-            address: text_in(found, "address"),
-        };
-    }
-    if name == "query" {
-        return Order::Query {
-            address: text_in(found, "address"),
-            id: text_in(found, "id"),
-        };
-    }
-    if name == "settle" {
-        return Order::Settle {
-            address: text_in(found, "address"),
-            id: text_in(found, "id"),
-            decision: text_in(found, "decision"),
-        };
-    }
-    if name == "send" {
-        return Order::Send {
-            address: text_in(found, "address"),
-        };
-    }
-    if name == "ask" {
-        return Order::Ask {
-            control: text_in(found, "control"),
-            request: text_in(found, "request"),
-            first: found.get_str("first"),
-            second: found.get_str("second"),
-            third: found.get_str("third"),
         };
     }
     Order::Play {
