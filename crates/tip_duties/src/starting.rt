@@ -1,8 +1,8 @@
 //! Whether the realms of a store may start.
-ghost use Rattle.std.specs.Prelude.{◌≡◌, ◌↔◌, true, false, ℕ, List, IfOk, IsTrue, is_some};
+ghost use Rattle.std.specs.Prelude.{◌≡◌, ◌↔◌, ◌⊎◌, true, false, ℕ, List, Err, IfOk, IsTrue, is_some};
 ghost use Rattle.std.specs.List.{All};
 ghost use Rattle.tip_duties.specs.Starting.{IsAhead, are_ahead};
-ghost use Rattle.tip_rows.specs.Logs.{Log, counted, is_refused_load};
+ghost use Rattle.tip_rows.specs.Logs.{HasBadName, IsSpoiled, Log, counted, is_refused_load};
 
 use tip_line::Realm;
 use tip_rows::{Key, LoadFault, Row, RowLog};
@@ -17,6 +17,9 @@ pub fn has_row_ahead<S: RowLog>(store: &mut S, hosted: &[Realm]) -> Result<bool,
         is_some (log.epochs realm) ≡ true → ¬ IsAhead log realm) }
     ensures hosted { (log : Log) → S.keeping.stands store.old log → S.keeping.is_true store.new →
         IfOk result (λ ahead. ahead ≡ false → All (λ realm. ¬ IsAhead log realm) hosted.now) }
+    ensures bad { (log : Log) → S.keeping.stands store.old log → S.keeping.is_true store.new →
+        result ≡ Err LoadFault.BadRow →
+        HasBadName log ⊎ ((realm : List ℕ) × IsSpoiled log realm) }
     ensures stands { (log : Log) → S.keeping.stands store.old log →
         S.keeping.stands store.new log }
     ensures truth { S.keeping.is_true store.new → S.keeping.is_true store.old }
@@ -36,6 +39,8 @@ fn any_is_ahead<S: RowLog>(store: &mut S, realms: &[Realm]) -> Result<bool, Load
         IfOk result (λ ahead. ahead ≡ true → (realm : List ℕ) × IsAhead log realm) }
     ensures no { (log : Log) → S.keeping.stands store.old log → S.keeping.is_true store.new →
         IfOk result (λ ahead. ahead ≡ false → All (λ realm. ¬ IsAhead log realm) realms.now) }
+    ensures bad { (log : Log) → S.keeping.stands store.old log → S.keeping.is_true store.new →
+        result ≡ Err LoadFault.BadRow → (realm : List ℕ) × IsSpoiled log realm }
     ensures stands { (log : Log) → S.keeping.stands store.old log →
         S.keeping.stands store.new log }
     ensures truth { S.keeping.is_true store.new → S.keeping.is_true store.old }
@@ -54,6 +59,8 @@ fn any_is_ahead<S: RowLog>(store: &mut S, realms: &[Realm]) -> Result<bool, Load
 fn is_ahead<S: RowLog>(store: &mut S, realm: &Realm) -> Result<bool, LoadFault>
     ensures ahead { (log : Log) → S.keeping.stands store.old log → S.keeping.is_true store.new →
         IfOk result (λ ahead. IsTrue ahead ↔ IsAhead log realm.now) }
+    ensures bad { (log : Log) → S.keeping.stands store.old log → S.keeping.is_true store.new →
+        result ≡ Err LoadFault.BadRow → IsSpoiled log realm.now }
     ensures stands { (log : Log) → S.keeping.stands store.old log →
         S.keeping.stands store.new log }
     ensures truth { S.keeping.is_true store.new → S.keeping.is_true store.old }
