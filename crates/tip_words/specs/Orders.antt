@@ -1,5 +1,5 @@
 -- What words ask for, by what `clap` finds in them.
-use Rattle.std.specs.Prelude.{◌≡◌, ℕ, ◌^◌, ◌<◌, List, [], ◌∷◌, Bool, Option, Some, None, option_map, unwrap_or, codes}
+use Rattle.std.specs.Prelude.{◌≡◌, ℕ, ◌^◌, ◌<◌, ◌||◌, List, [], ◌∷◌, Bool, Option, Some, None, option_map, unwrap_or, codes}
 use Rattle.std.specs.List.{list_any}
 use Rattle.std.specs.Str.{bytes_eq}
 use Rattle.std.specs.Str.Parse.{IsNumeral, digits_value, without_leading_plus}
@@ -26,17 +26,17 @@ IsNumberOf (Some text) (Some number) = is_number text × (number ≡ digits_valu
 abbrev pub IsNumberIn : List Row → Option ℕ → Type 0
 IsNumberIn rows = IsNumberOf (one_of (codes "sessions") rows)
 
--- a subcommand that is an order
-abbrev pub is_command : Text → Bool
-is_command name = list_any (bytes_eq name) (codes "play" ∷ codes "serve" ∷ codes "rows" ∷ codes "check" ∷ codes "ping" ∷ codes "query" ∷ codes "settle" ∷ codes "send" ∷ codes "ask" ∷ [])
-
--- one that is done here
+-- a subcommand that is done here
 abbrev pub does : Text → Bool
 does name = list_any (bytes_eq name) (codes "play" ∷ codes "serve" ∷ codes "rows" ∷ codes "check" ∷ [])
 
 -- one that asks a manager, or a server
 abbrev pub asks : Text → Bool
 asks name = list_any (bytes_eq name) (codes "ping" ∷ codes "query" ∷ codes "settle" ∷ codes "send" ∷ codes "ask" ∷ [])
+
+-- each of these is an order
+abbrev pub is_command : Text → Bool
+is_command name = does name || asks name
 
 -- the order that a subcommand is, with its values
 abbrev pub Says : Text × List Row → Order → Type 0
