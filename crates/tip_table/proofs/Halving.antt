@@ -110,18 +110,44 @@ module _ {T : Type 0} (slots : Slab (Entry T)) where
       ]
     ]
 
+    -- so does one that stands before it
+    ranks_before : (e f : Entry T) → e.realm ≤ f.realm → (e.realm ≡ realm → f.realm ≡ realm → rank e.item < rank f.item) → is_ranked rank realm wanted (Some f) ≡ true → comes_before rank realm wanted (Some e) ≡ true
+    ranks_before e f least rises is =
+        let parts = and_parts (f.realm == realm) (rank f.item == wanted) is in
+        let own : f.realm ≡ realm = (let x = parts.0 in grind (arith, nat_tests, x)) in
+        let named : rank f.item ≡ wanted = (let x = parts.1 in grind (arith, nat_tests, x)) in
+        elim (cases_Bool (nat_lt e.realm realm)) [
+          | inl earlier ↦ simp earlier refl
+          | inr not ↦
+              let same : e.realm ≡ realm = (let x = least in grind (arith, nat_tests, not, x, own)) in
+              let more = rises same own in
+              let is_own : (e.realm == realm) ≡ true = grind (arith, nat_tests, same) in
+              let less : nat_lt (rank e.item) wanted ≡ true = grind (arith, nat_tests, more, named) in
+              simp (not, is_own, less) refl
+        ]
+
+    -- what of two entries says that the first comes before says so of all that stand before one
+    all_before : (test : Option (Entry T) → Bool) → test None ≡ false → ((e f : Entry T) → e.realm ≤ f.realm → (e.realm ≡ realm → f.realm ≡ realm → rank e.item < rank f.item) → test (Some f) ≡ true → comes_before rank realm wanted (Some e) ≡ true) → (keys : List ℕ) → AreThere slots keys → AreByRealm (placed_at slots keys) → are_rising (ranks_of keys) ≡ true → (i j d : ℕ) → i < j → j < length keys → test (get slots (get_or keys j d)) ≡ true → is_before (get_or keys i d) ≡ true
+    all_before test nobody both [] there by rising i j d less within is = absurd (omega (arith, within))
+    all_before test nobody both (key ∷ keys) there by rising i zero d less within is = absurd (omega (arith, less))
+    all_before test nobody both (key ∷ keys) there by rising zero (suc j) d less within is = step (get slots key) refl (get slots (get_or keys j d)) refl there.0 by is where
+      step : (o : Option (Entry T)) → get slots key ≡ o → (p : Option (Entry T)) → get slots (get_or keys j d) ≡ p → IsSome o → AreByRealm (placed_before key o (placed_at slots keys)) → test p ≡ true → comes_before rank realm wanted o ≡ true
+      step None at p there_j some by is = absurd (cc)
+      step (Some e) at None there_j some by is = absurd (let clash : true ≡ false = sym is ∙ nobody in cc)
+      step (Some e) at (Some f) there_j some by is =
+          both e f (from_at keys e.realm j d f there.1 by.0 (omega (arith, within)) there_j)
+          (λ same own. own_above keys (rank e.item) j d f (rising_head key keys e at same rising) there.1 (omega (arith, within)) there_j own) is
+    all_before test nobody both (key ∷ keys) there by rising (suc i) (suc j) d less within is = all_before test nobody both keys there.1 (by_tail key keys there by) (rising_tail key keys there rising) i j d (omega (arith, less)) (omega (arith, within)) is
+
     pub parted : (keys : List ℕ) → AreThere slots keys → AreByRealm (placed_at slots keys) → are_rising (ranks_of keys) ≡ true → (i j d : ℕ) → i ≤ j → j < length keys → is_before (get_or keys j d) ≡ true → is_before (get_or keys i d) ≡ true
-    parted [] there by rising i j d le within before = absurd (omega (arith, within))
-    parted (key ∷ keys) there by rising zero zero d le within before = before
-    parted (key ∷ keys) there by rising zero (suc j) d le within before = step (get slots key) refl (get slots (get_or keys j d)) refl there.0 by before where
-      step : (o : Option (Entry T)) → get slots key ≡ o → (p : Option (Entry T)) → get slots (get_or keys j d) ≡ p → IsSome o → AreByRealm (placed_before key o (placed_at slots keys)) → comes_before rank realm wanted p ≡ true → comes_before rank realm wanted o ≡ true
-      step None at p is some by before = absurd (cc)
-      step (Some e) at None is some by before = absurd (cc)
-      step (Some e) at (Some f) is some by before =
-          before_one e f (from_at keys e.realm j d f there.1 by.0 (omega (arith, within)) is)
-          (λ same own. own_above keys (rank e.item) j d f (rising_head key keys e at same rising) there.1 (omega (arith, within)) is own) before
-    parted (key ∷ keys) there by rising (suc i) zero d le within before = absurd (omega (arith, le))
-    parted (key ∷ keys) there by rising (suc i) (suc j) d le within before = parted keys there.1 (by_tail key keys there by) (rising_tail key keys there rising) i j d (omega (arith, le)) (omega (arith, within)) before
+    parted keys there by rising i j d le within before = elim (cases_Bool (nat_lt i j)) [
+      | inl sooner ↦ all_before (comes_before rank realm wanted) refl before_one keys there by rising i j d (grind (arith, nat_tests, sooner)) within before
+      | inr not ↦ let same : j ≡ i = (let x = le in grind (arith, nat_tests, not, x)) in subst (λ k. is_before (get_or keys k d) ≡ true) same before
+    ]
+
+    -- all before one of this rank come before
+    in_front : (keys : List ℕ) → AreThere slots keys → AreByRealm (placed_at slots keys) → are_rising (ranks_of keys) ≡ true → (i j d : ℕ) → i < j → j < length keys → is_there (get_or keys j d) ≡ true → is_before (get_or keys i d) ≡ true
+    in_front = all_before (is_ranked rank realm wanted) refl ranks_before
 
     -- WHERE THEY END
 
@@ -134,7 +160,7 @@ module _ {T : Type 0} (slots : Slab (Entry T)) where
         grind (arith, nat_tests, less)
 
     -- it is there, and is the first
-    pub found : (keys : List ℕ) (at d : ℕ) → ((k : ℕ) → k < at → is_before (get_or keys k d) ≡ true) → at < length keys → is_there (get_or keys at d) ≡ true → IsFirstAt slots (has rank wanted) (own_keys slots keys realm) (get_or keys at d)
+    found : (keys : List ℕ) (at d : ℕ) → ((k : ℕ) → k < at → is_before (get_or keys k d) ≡ true) → at < length keys → is_there (get_or keys at d) ≡ true → IsFirstAt slots (has rank wanted) (own_keys slots keys realm) (get_or keys at d)
     found [] at d front within is = absurd (omega (arith, within))
     found (key ∷ keys) zero d front within is = step (get slots key) refl is where
       step : (o : Option (Entry T)) → get slots key ≡ o → is_ranked rank realm wanted o ≡ true → IsFirstAt slots (has rank wanted) (cond (realm_in o == realm) (key ∷ own_keys slots keys realm) (own_keys slots keys realm)) key
@@ -150,6 +176,12 @@ module _ {T : Type 0} (slots : Slab (Entry T)) where
         | inl own ↦ simp own (record { at = suc rest.at; here = rest.here; first = subst (λ o. IsFirst (has rank wanted) (item_before o (items_at slots (own_keys slots keys realm))) (suc rest.at)) (sym is) (other_rank e own before, rest.first) })
         | inr other ↦ simp other rest
       ]
+
+    -- so is each that is there, as all before it come before
+    pub first_there : (keys : List ℕ) → AreThere slots keys → AreByRealm (placed_at slots keys) → are_rising (ranks_of keys) ≡ true → (at key : ℕ) → at < length keys → key ≡ get_or keys at key → is_there key ≡ true → IsFirstAt slots (has rank wanted) (own_keys slots keys realm) key
+    first_there keys there by rising at key within here is =
+        let is_at : is_there (get_or keys at key) ≡ true = subst (λ k. is_there k ≡ true) here is in
+        subst (IsFirstAt slots (has rank wanted) (own_keys slots keys realm)) (sym here) (found keys at key (λ k before. in_front keys there by rising k at key before within is_at) within is_at)
 
     -- or none is
     none_from : (key : ℕ) (keys : List ℕ) (e : Entry T) → get slots key ≡ Some e → has rank wanted e.item ≡ false → find (has rank wanted) (items_at slots (own_keys slots keys realm)) ≡ None → find (has rank wanted) (item_before (get slots key) (items_at slots (own_keys slots keys realm))) ≡ None

@@ -135,8 +135,8 @@ fn passes_at<T: Linked, A: Allocator, Q: Test<T>>(
     }
 }
 
-/// The key of the first of a realm's items of this rank, in one search by halves: entries stand by realm, and those of this realm by
-/// rank.
+/// The key of the first of a realm's items of this rank: where it stands if none has left, or else by halves, since entries stand by
+/// realm, and those of this realm by rank.
 pub(crate) fn key_ranked<T, A: Allocator, R: Rank<T>>(
     slots: &Slab<Entry<T>, A>,
     keys: &[usize],
@@ -153,10 +153,32 @@ pub(crate) fn key_ranked<T, A: Allocator, R: Rank<T>>(
     ensures none { result ≡ None → find (λ item. R.rank ranks.now item == rank)
         (items_at slots.now (own_keys slots.now keys.now realm)) ≡ None }
 {
+    if let Some(guess) = keys.get(in_line(slots, keys, ranks, rank)) {
+        if is_ranked(slots, *guess, realm, ranks, rank) {
+            return Some(*guess);
+        }
+    }
     let at = keys.partition_point(|key| comes_before(slots, *key, realm, ranks, rank));
     match keys.get(at) {
         Some(key) if is_ranked(slots, *key, realm, ranks, rank) => Some(*key),
         _ => None,
+    }
+}
+
+/// Where an item of this rank stands if ranks are given one by one and none has left: as far behind the first as its rank is above
+/// that one's. Nothing rests on it, since whoever asks looks at what stands there.
+fn in_line<T, A: Allocator, R: Rank<T>>(
+    slots: &Slab<Entry<T>, A>,
+    keys: &[usize],
+    ranks: &R,
+    rank: u64,
+) -> usize {
+    let Some(first) = keys.first() else {
+        return 0;
+    };
+    match slots.get(*first) {
+        Some(entry) => rank.saturating_sub(ranks.rank(&entry.item)) as usize,
+        None => 0,
     }
 }
 
