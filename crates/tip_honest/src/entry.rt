@@ -36,7 +36,7 @@ impl PlainEvent {
         })
     }
 
-    /// The same, with an owner more. It takes no memory.
+    /// This event, with an owner more. It takes no memory.
     pub fn share(&self) -> Result<PlainEvent, AllocError>
         ensures { IfOk result (λ kept. kept ≡ self.now) }
     {

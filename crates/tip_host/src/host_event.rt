@@ -162,7 +162,7 @@ impl HostEvent {
         (realm, event)
     }
 
-    /// The same again, where nothing has happened.
+    /// The event of a realm that was taken apart, where nothing has happened.
     pub(crate) fn of_parts(realm: usize, event: Event) -> HostEvent
         requires { brings_no_party event ≡ true }
         ensures realm { result.realm ≡ realm }

@@ -116,7 +116,7 @@ impl Returned {
         (event, sent)
     }
 
-    /// The same again, where nothing has happened.
+    /// Who was taken apart comes back still, where nothing has happened.
     pub(crate) fn of_parts(realm: usize, event: Event, sent: PartyNote) -> Returned
         requires { ComesFrom sent event }
         ensures realm { result.realm ≡ realm }

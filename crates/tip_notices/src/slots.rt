@@ -123,7 +123,7 @@ pub struct Asker {
 }
 
 impl Asker {
-    /// The same again, for one of two that may answer.
+    /// Who waits at this place, for one of two that may answer.
     pub fn copy(&self) -> Result<Asker, AllocError> {
         Ok(Asker {
             slots: Arc::try_clone(&self.slots)?,

@@ -18,7 +18,7 @@ pub enum Ending {
     Abort,
     /// Parts that are reached again are told to commit.
     Remind,
-    /// The same, and it is forgotten.
+    /// Parts that are reached again are told to commit, and it is forgotten.
     Finish,
 }
 

@@ -23,7 +23,7 @@ pub struct TransactionRoom<P = PartyRoom> {
     pub txn: Txn,
 }
 
-/// The same on the heap, since few events have one: so what it would be moved with is small.
+/// Room for a new transaction on the heap, since few events have one: so what it would be moved with is small.
 #[derive(Drop)]
 pub struct HeldRoom {
     room: Box<TransactionRoom>,

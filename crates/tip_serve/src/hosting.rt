@@ -37,7 +37,7 @@ where
     host_watched(rt, alloc, store, config, sessions, shelves, out)
 }
 
-/// The same over a store that tells the shelves what becomes of its rows.
+/// Serves the realms over a store that tells the shelves what becomes of its rows.
 fn host_watched<R, S, W>(
     rt: &R,
     alloc: Global,
