@@ -1,5 +1,5 @@
 //! An answer in the making.
-ghost use Rattle.std.specs.Prelude.{◌≡◌, ◌+◌, ◌<◌, ◌≤◌, [], ◌∷◌, ◌++◌, None, Some, IfOk, IsSome};
+ghost use Rattle.std.specs.Prelude.{◌≡◌, ◌+◌, ◌-◌, ◌<◌, [], ◌∷◌, ◌++◌, None, Some, IsSome, vec_capacity, vec_len};
 ghost use Rattle.tip_branch.specs.Always.{Always};
 ghost use Rattle.tip_machine.specs.Answers.{silence};
 ghost use Rattle.tip_machine.specs.Order.{in_turn};
@@ -7,7 +7,7 @@ ghost use Rattle.tip_machine.specs.Steps.{returned};
 ghost use Rattle.tip_outlook.specs.Turns.{turn_in};
 
 use crate::transaction_room::{HeldRoom, TransactionRoom};
-use std::alloc::{AllocError, Global};
+use std::alloc::Global;
 use std::marker::Model;
 use tip_branch::{HeldFresh, HeldParty};
 use tip_line::{Address, Id, Refusal};
@@ -85,23 +85,18 @@ impl Making {
         }
     }
 
-    /// An answer with nothing in it, which has room for so many lines and closings, and for a transaction if it is given. The
-    /// other side of the event's connection is there, if it said where.
-    pub fn new(
-        alloc: Global,
-        lines: usize,
-        room: Option<HeldRoom>,
-        words: Words,
-    ) -> Result<Making, AllocError>
-        ensures answer { IfOk result (λ making. making.answer ≡ silence) }
-        ensures lines { IfOk result (λ making. lines ≤ making.free) }
-        ensures room { IfOk result (λ making. making.room ≡ room) }
-        ensures peer { IfOk result (λ making. making.peer ≡ words.peer) }
-        ensures ours { IfOk result (λ making. making.ours ≡ words.ours) }
-        ensures word { IfOk result (λ making. making.word ≡ words.word) }
+    /// An answer with nothing in it, whose lines and closings will stand here, with room for a transaction if it is given. The
+    /// other side of the event's connection is there, if it said where. It takes no memory.
+    pub fn new(sent: Vec<Sent>, room: Option<HeldRoom>, words: Words) -> Making
+        requires { sent.items ≡ [] }
+        ensures answer { result.answer ≡ silence }
+        ensures free { result.free ≡ vec_capacity sent - vec_len sent }
+        ensures room { result.room ≡ room }
+        ensures peer { result.peer ≡ words.peer }
+        ensures ours { result.ours ≡ words.ours }
+        ensures word { result.word ≡ words.word }
     {
-        let sent = Vec::with_capacity(alloc, lines)?;
-        Ok(Making {
+        Making {
             refusal: None,
             opened: None,
             sent,
@@ -113,7 +108,7 @@ impl Making {
             peer: words.peer,
             ours: words.ours,
             word: words.word,
-        })
+        }
     }
 
     pub fn tell(&mut self, connection: u32, item: Item)

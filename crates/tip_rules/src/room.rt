@@ -7,35 +7,37 @@ use crate::making::{Making, Words};
 use crate::transaction_room::HeldRoom;
 use std::alloc::{AllocError, Global};
 use std::marker::Model;
-use tip_machine::Change;
+use tip_machine::{Change, Sent};
 use tip_outlook::{Ending, Next};
 
 /// All the memory that one event needs, the change of its row that it wants, and how its transaction goes on by what becomes of
 /// that. It belongs to the state and the event that it was made for.
 #[derive(Drop)]
 pub struct Room {
-    making: Making,
+    /// Where the lines and closings of the answer will stand.
+    sent: Vec<Sent>,
+    transaction: Option<HeldRoom>,
+    words: Words,
     next: Next,
 }
 
 impl Model for Room {
-    ghost use Rattle.std.specs.Prelude.{◌≡◌};
-    ghost use Rattle.tip_machine.specs.Answers.{silence};
+    ghost use Rattle.std.specs.Prelude.{◌≡◌, ◌-◌, [], vec_len, vec_capacity};
     ghost use Rattle.tip_rules.specs.Needs.{Granted};
 
     ghost Value = { Granted };
 
     ghost view = { λ r. record {
-      lines = r.making.free;
-      transaction = r.making.room;
-      peer = r.making.peer;
-      ours = r.making.ours;
-      word = r.making.word;
+      lines = vec_capacity r.sent - vec_len r.sent;
+      transaction = r.transaction;
+      peer = r.words.peer;
+      ours = r.words.ours;
+      word = r.words.word;
       change = r.next.change;
       endings = r.next.endings;
     } };
 
-    ghost invariant = { λ r. r.making.answer ≡ silence };
+    ghost invariant = { λ r. r.sent.items ≡ [] };
 }
 
 impl Room {
@@ -59,7 +61,9 @@ impl Room {
         ensures endings { IfOk result (λ room. room.endings ≡ next.endings) }
     {
         Ok(Room {
-            making: Making::new(alloc, lines, transaction, words)?,
+            sent: Vec::with_capacity(alloc, lines)?,
+            transaction,
+            words,
             next,
         })
     }
@@ -96,7 +100,12 @@ impl Room {
         ensures change { result.1.change ≡ self.change }
         ensures endings { result.1.endings ≡ self.endings }
     {
-        let Room { making, next } = self;
-        (making, next)
+        let Room {
+            sent,
+            transaction,
+            words,
+            next,
+        } = self;
+        (Making::new(sent, transaction, words), next)
     }
 }
