@@ -74,7 +74,7 @@ impl Realms<Connection, Transaction> {
         let idle = Making::idle(self.alloc);
         let mut work = self.lend(realm, Outcome::NoChange, Endings::none(), idle);
         let room = work.prepare(alloc, event);
-        let _idle = self.take_back(work);
+        self.take_back(&mut work);
         room
     }
 
@@ -102,7 +102,8 @@ impl Realms<Connection, Transaction> {
     {
         let mut work = self.lend(realm, outcome, endings, making);
         work.step(event);
-        self.take_back(work)
+        self.take_back(&mut work);
+        work.making
     }
 
     /// Whether a line of this seat may be taken.
@@ -293,30 +294,22 @@ impl Realms<Connection, Transaction> {
         }
     }
 
-    /// Takes the tables back from the work of an event, and hands its answer on.
-    fn take_back(&mut self, work: Work<Connection, Transaction, Making>) -> Making
-        requires { work.realm < length self.old.tables.items }
-        ensures taken { working work.realm work.outcome work.endings result self.new ≡ work }
-        ensures others { (other : ℕ) → other ≢ work.realm →
+    /// Takes the tables back from the work of an event, which keeps its answer.
+    fn take_back(&mut self, work: &mut Work<Connection, Transaction, Making>)
+        requires { work.old.realm < length self.old.tables.items }
+        ensures taken { working work.old.realm work.old.outcome work.old.endings work.old.making
+            self.new ≡ work.old }
+        ensures answer { work.new.making ≡ work.old.making }
+        ensures others { (other : ℕ) → other ≢ work.old.realm →
             tables_in other self.new ≡ tables_in other self.old }
         ensures count { length self.new.tables.items ≡ length self.old.tables.items }
     {
-        let Work {
-            heads,
-            mut connections,
-            mut transactions,
-            realm,
-            making,
-            ..
-        } = work;
-        connections.relink();
-        transactions.relink();
-        self.heads = heads;
-        self.tables[realm] = Tables {
-            connections,
-            transactions,
-        };
-        making
+        work.connections.relink();
+        work.transactions.relink();
+        mem::swap(&mut self.heads, &mut work.heads);
+        let tables = &mut self.tables[work.realm];
+        mem::swap(&mut tables.connections, &mut work.connections);
+        mem::swap(&mut tables.transactions, &mut work.transactions);
     }
 }
 
