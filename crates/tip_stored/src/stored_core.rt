@@ -71,7 +71,9 @@ impl<S: RowLog> StoredCore<S, Core> {
         if self.is_stopped {
             return Err(StepFault::Stopped);
         }
-        Ok(self.core.room(alloc, realm, event)?)
+        self.core
+            .room(alloc, realm, event)
+            .map_err(|_| StepFault::Memory)
     }
 
     /// One event of one realm, in the room that was made for it: the change that it wants is asked of the store, at most one;
