@@ -15,6 +15,15 @@ use tip_machine::Heard;
 use tip_rows::RowLog;
 use tip_session::DeskFault;
 
+/// What a session goes on by once an event has its entry. What else the event's reply has is let go of before, where the lock is
+/// free: it is large, and would be moved at each step up.
+#[derive(Drop)]
+pub(crate) struct Sequel {
+    pub(crate) is_refused: bool,
+    /// The errand that comes of it. Without memory it waits at the host.
+    pub(crate) work: Result<Option<Work>, AllocError>,
+}
+
 /// An event of a connection.
 pub(crate) fn enter<R: Wait, S: RowLog + Drop>(
     rt: &R,
@@ -22,7 +31,7 @@ pub(crate) fn enter<R: Wait, S: RowLog + Drop>(
     shared: &Shared<S>,
     pass: &mut Pass<Entry>,
     event: HostEvent,
-) -> Result<Stepped, DeskFault>
+) -> Result<Sequel, DeskFault>
     requires { Always }
     ensures took { OnOk result
         (steps_in pass.new.noted ≡ steps_in pass.old.noted ++ step_of event.event) }
@@ -42,7 +51,7 @@ pub(crate) fn enter_line<R: Wait, S: RowLog + Drop>(
     pass: &mut Pass<Entry>,
     seat: Seat,
     heard: Heard,
-) -> Result<Option<Stepped>, DeskFault>
+) -> Result<Option<Sequel>, DeskFault>
     requires { Always }
     ensures took { IfOk result (λ taken. IfSome taken (λ _.
         steps_in pass.new.noted ≡ steps_in pass.old.noted ++ Line heard ∷ [])) }
@@ -63,7 +72,7 @@ pub(crate) fn bring_back<R: Wait, S: RowLog + Drop>(
     shared: &Shared<S>,
     pass: &mut Pass<Entry>,
     work: Work,
-) -> Result<Stepped, DeskFault>
+) -> Result<Sequel, DeskFault>
     requires { Always }
     ensures took { OnOk result
         (steps_in pass.new.noted ≡ steps_in pass.old.noted ++ Back (name_of work.sent) ∷ []) }
@@ -79,7 +88,7 @@ fn come_back<R: Wait, S: RowLog + Drop>(
     shared: &Shared<S>,
     pass: &mut Pass<Entry>,
     returned: Returned,
-) -> Result<Stepped, DeskFault>
+) -> Result<Sequel, DeskFault>
     requires { Always }
     ensures took { OnOk result
         (steps_in pass.new.noted ≡ steps_in pass.old.noted ++ step_of returned.event) }
@@ -92,17 +101,20 @@ fn come_back<R: Wait, S: RowLog + Drop>(
 }
 
 /// What an event came to, where it has an entry; else its realm takes none, or is not there, and nothing has happened.
-fn entered(stepped: Stepped) -> Result<Stepped, DeskFault>
+fn entered(stepped: Stepped) -> Result<Sequel, DeskFault>
     requires { Always }
-    ensures same { IfOk result (λ entered. entered ≡ stepped) }
+    ensures refused { IfOk result
+        (λ sequel. sequel.is_refused ≡ is_some stepped.reply.refusal) }
+    ensures work { IfOk result (λ sequel. sequel.work ≡ stepped.work) }
     ensures entry { OnOk result (is_some stepped.reply.entry ≡ true) }
     ensures none { OnErr result (is_some stepped.reply.entry ≡ false) }
 {
-    if stepped.reply.entry.is_some() {
-        Ok(stepped)
-    } else {
-        Err(DeskFault::Frozen)
+    if stepped.reply.entry.is_none() {
+        return Err(DeskFault::Frozen);
     }
+    let is_refused = stepped.reply.refusal.is_some();
+    let Stepped { work, .. } = stepped;
+    Ok(Sequel { is_refused, work })
 }
 
 /// Why an event did not happen, as a session is told it.
@@ -134,7 +146,7 @@ pub fn run_errand<R: Wait, S: RowLog + Drop>(
         let Some(work) = next else {
             return Ok(());
         };
-        let Stepped { work, .. } = bring_back(rt, alloc, shared, pass, work)?;
+        let Sequel { work, .. } = bring_back(rt, alloc, shared, pass, work)?;
         match work {
             Ok(more) => next = more,
             Err(AllocError) => return Err(DeskFault::Memory),

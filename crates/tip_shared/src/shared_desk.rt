@@ -4,13 +4,13 @@ ghost use Rattle.tip_branch.specs.Always.{Always};
 ghost use Rattle.tip_session.specs.Desks.{Back, Line, nothing, noting};
 ghost use Rattle.tip_shared.specs.Sessions.{name_of, name_owed, seen_in, step_of, steps_in};
 
-use crate::entering::{bring_back, enter, enter_line};
+use crate::entering::{Sequel, bring_back, enter, enter_line};
 use crate::shared::Shared;
 use std::alloc::{AllocError, Global};
 use std::sync::Wait;
 use tip_branch::Errand;
 use tip_honest::Entry;
-use tip_host::{HostEvent, Seat, Stepped, Work};
+use tip_host::{HostEvent, Seat, Work};
 use tip_journal::Pass;
 use tip_line::Id;
 use tip_machine::Heard;
@@ -128,7 +128,7 @@ impl<'a, R: Wait, S: RowLog + Drop> SharedDesk<'a, R, S> {
     }
 
     /// A line of the connection, in its turn; None where the connection is gone. Where it has no entry, nothing has happened.
-    fn take(&mut self, heard: Heard) -> Result<Option<Stepped>, DeskFault>
+    fn take(&mut self, heard: Heard) -> Result<Option<Sequel>, DeskFault>
         requires { Always }
         ensures took { IfOk result (λ taken. IfSome taken (λ _. steps_in self.new.pass.noted
             ≡ steps_in self.old.pass.noted ++ Line heard ∷ [])) }
@@ -152,7 +152,7 @@ impl<'a, R: Wait, S: RowLog + Drop> SharedDesk<'a, R, S> {
     }
 
     /// One event of the connection. Where it has no entry, since its realm takes none or is not there, nothing has happened.
-    fn step(&mut self, event: HostEvent) -> Result<Stepped, DeskFault>
+    fn step(&mut self, event: HostEvent) -> Result<Sequel, DeskFault>
         requires { Always }
         ensures took { OnOk result (steps_in self.new.pass.noted
             ≡ steps_in self.old.pass.noted ++ step_of event.event) }
@@ -162,13 +162,13 @@ impl<'a, R: Wait, S: RowLog + Drop> SharedDesk<'a, R, S> {
         ensures owed { self.new.owed ≡ self.old.owed }
     {
         match enter(self.rt, self.alloc, self.shared, &mut self.pass, event) {
-            Ok(stepped) => Ok(stepped),
+            Ok(sequel) => Ok(sequel),
             Err(fault) => Err(self.noted(fault)),
         }
     }
 
     /// An errand is done, and its party comes back. Where that has no entry nothing has happened.
-    fn bring_back(&mut self, work: Work) -> Result<Stepped, DeskFault>
+    fn bring_back(&mut self, work: Work) -> Result<Sequel, DeskFault>
         requires { Always }
         ensures took { OnOk result (steps_in self.new.pass.noted
             ≡ steps_in self.old.pass.noted ++ Back (name_of work.sent) ∷ []) }
@@ -178,7 +178,7 @@ impl<'a, R: Wait, S: RowLog + Drop> SharedDesk<'a, R, S> {
         ensures owed { self.new.owed ≡ self.old.owed }
     {
         match bring_back(self.rt, self.alloc, self.shared, &mut self.pass, work) {
-            Ok(stepped) => Ok(stepped),
+            Ok(sequel) => Ok(sequel),
             Err(fault) => Err(self.noted(fault)),
         }
     }
@@ -219,11 +219,11 @@ impl<'a, R: Wait, S: RowLog + Drop> Desk for SharedDesk<'a, R, S> {
     }
 
     fn line(&mut self, heard: Heard) -> Result<Came<Work>, DeskFault> {
-        let Some(Stepped { reply, work }) = self.take(heard)? else {
+        let Some(Sequel { is_refused, work }) = self.take(heard)? else {
             self.given.gone = true;
             return Ok(Came::Gone);
         };
-        if reply.refusal.is_some() {
+        if is_refused {
             self.given.refused = true;
             return Ok(Came::Refused);
         }
@@ -235,13 +235,13 @@ impl<'a, R: Wait, S: RowLog + Drop> Desk for SharedDesk<'a, R, S> {
 
     fn done(&mut self, work: Work) -> Result<Option<Work>, DeskFault> {
         self.owed = None;
-        let Stepped { work, .. } = self.bring_back(work)?;
+        let Sequel { work, .. } = self.bring_back(work)?;
         Ok(self.note(work))
     }
 
     fn lost(&mut self) -> Result<Option<Work>, DeskFault> {
         self.given.lost = true;
-        let Stepped { work, .. } = self.step(HostEvent::lost(self.seat))?;
+        let Sequel { work, .. } = self.step(HostEvent::lost(self.seat))?;
         Ok(self.note(work))
     }
 
