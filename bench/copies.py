@@ -1,5 +1,6 @@
 """Copies of the repository in which a script may change files, or add a crate that the gate leaves out."""
 import contextlib
+import os
 import pathlib
 import shutil
 import tempfile
@@ -7,15 +8,25 @@ import tempfile
 TOP = pathlib.Path(__file__).resolve().parent.parent
 
 
+def linked(one, other):
+    """A second name for a file of a library, or for what was proved, where one can be given: `rt` puts a new file in the place of
+    such a one, and writes into none. Into others it writes."""
+    path = pathlib.Path(one)
+    if path.suffix == ".oantt" or any(folder.suffix == ".rlib" for folder in path.parents):
+        with contextlib.suppress(OSError):
+            return os.link(one, other)
+    return shutil.copy2(one, other)
+
+
 @contextlib.contextmanager
 def copied(prefix):
-    """A copy of what `rt` reads, over the libraries that it has built of the repository's crates, for as long as the
-    caller needs it."""
+    """A copy of what `rt` reads, over the libraries that it has built of the repository's crates and what it has kept of their
+    checks, for as long as the caller needs it."""
     with tempfile.TemporaryDirectory(prefix=prefix) as place:
         copy = pathlib.Path(place)
         shutil.copytree(TOP / "crates", copy / "crates", ignore=shutil.ignore_patterns("out"))
-        for made in (TOP / "crates").glob("*/out"):
-            (copy / "crates" / made.parent.name / "out").symlink_to(made)
+        for made in [*(TOP / "crates").glob("*/out/rlib"), *(TOP / "crates").glob("*/out/incremental")]:
+            shutil.copytree(made, copy / made.relative_to(TOP), symlinks=True, copy_function=linked)
         for name in ("crates.txt", "HANDLES"):
             shutil.copy(TOP / name, copy / name)
         yield copy
