@@ -9,7 +9,7 @@ ghost use Rattle.tip_stored.specs.Keeping.{Happens, Keeps};
 ghost use Rattle.tip_stored.specs.declared.stored_core.StepFault.TheVariants.{Stopped};
 
 use crate::keeping::keep;
-use std::alloc::{AllocError, Global};
+use std::alloc::Global;
 use thiserror::Error;
 use tip_core::{Core, Happened, Room};
 use tip_machine::{Event, Outcome};
@@ -22,16 +22,6 @@ pub enum StepFault {
     Stopped,
     #[error("out of memory")]
     Memory,
-}
-
-impl From<AllocError> for StepFault {
-    ghost use Rattle.tip_stored.specs.declared.stored_core.StepFault.TheVariants.{Memory};
-
-    ghost from_gives = { λ _ fault. fault ≡ Memory };
-
-    fn from(_: AllocError) -> StepFault {
-        StepFault::Memory
-    }
 }
 
 /// All realms, each by its place in the order of declaration, and the store of their rows.
