@@ -101,6 +101,7 @@ where
                 self.make_room(rt, realm);
             }
             Err(NotOpened::Refused(Refusal::Frozen)) if !is_second => {
+                let _is_news = self.note_frozen(rt, arrival.realm);
                 self.full = Some(arrival.realm);
                 if arrival.dial.is_none() || arrival.ask.is_some() {
                     self.held = Some(arrival);
@@ -126,6 +127,9 @@ where
         arrival: &Arrival,
         boxes: Vec<Box<dyn Branch + Send>>,
     ) -> Result<(Seat, Option<Asker>), NotOpened> {
+        if arrival.dial.is_none() && self.is_crowded(arrival.realm) {
+            return Err(NotOpened::Refused(Refusal::Full));
+        }
         self.reserve(rt, arrival.realm)?;
         let asker = asker_of(arrival)?;
         let boxes = fresh(self.alloc, boxes)?;
@@ -135,6 +139,14 @@ where
             (Some(seat), _) => Ok((seat, asker)),
             (None, Some(refusal)) => Err(NotOpened::Refused(refusal)),
             (None, None) => Err(NotOpened::Memory),
+        }
+    }
+
+    /// Whether so many peers of a realm take nothing that no further one may have threads of this process.
+    fn is_crowded(&self, realm: usize) -> bool {
+        match self.realms.get(realm) {
+            Some(served) => served.is_crowded(),
+            None => false,
         }
     }
 

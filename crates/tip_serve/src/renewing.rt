@@ -68,6 +68,8 @@ where
             Err((fault, _)) => return Err(fault),
         }
         self.turn_over(rt, realm, epoch);
+        // they end by themselves, but where a thread writes to a peer that takes nothing
+        self.connections.shut_of(realm);
         if let Some(served) = self.realms.get(realm) {
             let name = &served.config.name;
             self.log

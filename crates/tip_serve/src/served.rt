@@ -8,6 +8,9 @@ use tip_journal::Pass;
 use tip_notices::{Ask, Slots};
 use tip_settings::RealmConfig;
 
+/// How many connections a realm is taken to have at least, where those are counted that take some time to end.
+const FEW_CONNECTIONS: usize = 64;
+
 /// A realm that is served.
 #[derive(Drop)]
 pub struct Served<'a> {
@@ -20,8 +23,8 @@ pub struct Served<'a> {
     pub passes: Vec<Pass<Entry>>,
     /// The starts whose journals are kept, the oldest first; the last one is the present one.
     pub starts: Vec<Start>,
-    /// The epoch in which its journal was full and it was not renewed, though a session had asked.
-    pub stuck: Option<u32>,
+    /// The epoch of which the operator was told that its journal is full.
+    pub frozen: Option<u32>,
     /// Who is connected to its control port.
     pub slots: Arc<Slots>,
     /// How many connections are kept for its operator.
@@ -51,7 +54,7 @@ impl<'a> Served<'a> {
             own: Pass::new(alloc),
             passes: Vec::new(alloc),
             starts,
-            stuck: None,
+            frozen: None,
             slots: Arc::new(alloc, Slots::new(alloc)?)?,
             kept: 0,
         })
@@ -68,14 +71,37 @@ impl Served<'_> {
         self.config.limits.boxes as usize / boxes
     }
 
-    /// Makes room for one start more, and for the passes of all sessions that have not ended, of one more, and of the top body.
-    pub fn reserve(&mut self) -> Result<(), AllocError> {
+    /// How many sessions have not ended, of all starts.
+    fn sessions(&self) -> usize {
         let mut sessions = 0usize;
         for start in self.starts.iter() {
             sessions = sessions.saturating_add(start.sessions);
         }
+        sessions
+    }
+
+    /// Whether twice as many sessions have not ended as there may be connections: those of many have, and their peers do not take what
+    /// still goes out to them.
+    pub fn is_crowded(&self) -> bool {
+        let connections = self.config.limits.connections as usize;
+        self.sessions() / 2 >= connections.max(FEW_CONNECTIONS)
+    }
+
+    /// Makes room for one start more, and for the passes of all sessions that have not ended, of one more, and of the top body.
+    pub fn reserve(&mut self) -> Result<(), AllocError> {
+        let sessions = self.sessions();
         self.starts.reserve(1)?;
         self.passes.reserve(sessions.saturating_add(2))
+    }
+
+    /// Its journal is full in its present epoch, which the operator is to be told; None where he was.
+    pub fn freeze(&mut self) -> Option<u32> {
+        let epoch = self.starts.last()?.epoch;
+        if self.frozen == Some(epoch) {
+            return None;
+        }
+        self.frozen = Some(epoch);
+        Some(epoch)
     }
 
     /// A session of the start of an epoch begins.

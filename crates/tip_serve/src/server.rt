@@ -195,25 +195,23 @@ where
 
     /// A session has found a realm full: it is renewed once in that epoch.
     pub fn note_full<R: Wait + Eprint>(&mut self, rt: &R, realm: usize, epoch: u32) {
-        if !self.shared.is_frozen(rt, realm, epoch) {
-            return;
+        if self.shared.is_frozen(rt, realm, epoch) && self.note_frozen(rt, realm) {
+            self.full = Some(realm);
         }
+    }
+
+    /// A realm's journal is full. The operator is told so once in an epoch; whether he is now.
+    pub fn note_frozen<R: Wait + Eprint>(&mut self, rt: &R, realm: usize) -> bool {
         let Some(served) = self.realms.get_mut(realm) else {
-            return;
+            return false;
         };
-        if served.stuck == Some(epoch) {
-            return;
-        }
-        served.stuck = Some(epoch);
-        self.log.note(
-            rt,
-            self.alloc,
-            Note::Frozen {
-                realm: &served.config.name,
-                epoch,
-            },
-        );
-        self.full = Some(realm);
+        let Some(epoch) = served.freeze() else {
+            return false;
+        };
+        let name = &served.config.name;
+        self.log
+            .note(rt, self.alloc, Note::Frozen { realm: name, epoch });
+        true
     }
 
     /// A realm did not start again. Where its operator has asked for that he is told, and it goes on.

@@ -13,9 +13,12 @@ use tip_journal::Pass;
 use tip_line::{Address, Lines, Realm};
 use tip_notices::{Inbox, Kept, LOOK_SECONDS, Log};
 use tip_rows::RowLog;
-use tip_session::SessionEnd;
+use tip_session::{Outgoing, SessionEnd};
 use tip_shared::{Session, Shared, serve_shared, write_shared};
 use tip_sockets::{EVENT_STACK, SMALL_STACK};
+
+/// How long the other side of a connection may take nothing of what goes out to it.
+const TAKE_SECONDS: u64 = 300;
 
 /// What the threads of a connection share.
 #[derive(Drop)]
@@ -93,6 +96,18 @@ impl<S> Link<S> {
     }
 }
 
+impl<S: RowLog + Drop> Link<S> {
+    /// Lets go of all that goes out, until nothing more does.
+    fn drop_waiting<R: Wait>(&self, rt: &R) {
+        for _ in rt.forever() {
+            match self.shared.next_out(rt, self.seat) {
+                Outgoing::Next(_) => {}
+                Outgoing::Gone | Outgoing::Stopped => return,
+            }
+        }
+    }
+}
+
 /// Starts the threads of a connection. Nothing has begun where memory, or a thread, is wanting.
 pub fn start_session<R, S>(
     rt: &R,
@@ -119,24 +134,24 @@ where
     S: RowLog + Drop + Send + 'static,
     S::Medium: Send,
 {
-    let session = match start_writer(&rt, alloc, &link) {
+    let (session, written) = match start_writer(&rt, alloc, &link) {
         Some(writer) => {
             let hanging = start_hanging_up(&rt, &link);
             let session = read(&rt, alloc, &link, pass);
             end_kept(&rt, &link);
-            writer.join(&rt);
+            let written = writer.join(&rt);
             if let Some(thread) = hanging {
                 thread.join(&rt);
             }
-            session
+            (session, written)
         }
         None => {
             let session = read_nothing(&rt, alloc, &link, pass);
             end_kept(&rt, &link);
-            session
+            (session, SessionEnd::PeerClosed)
         }
     };
-    link.note_ended(&rt, alloc, why_ended(&session));
+    link.note_ended(&rt, alloc, why_ended(&session, written));
     link.inbox.end(&rt, link.place);
     session
 }
@@ -229,7 +244,7 @@ fn read_nothing<R: Wait, S: RowLog + Drop>(
 }
 
 /// Starts the thread that writes; None where it can't be made.
-fn start_writer<R, S>(rt: &R, alloc: Global, link: &Arc<Link<S>>) -> Option<JoinHandle<()>>
+fn start_writer<R, S>(rt: &R, alloc: Global, link: &Arc<Link<S>>) -> Option<JoinHandle<SessionEnd>>
 where
     R: Wait + Threads + Copy + Send + Drop + 'static,
     S: RowLog + Drop + Send + 'static,
@@ -243,9 +258,12 @@ where
         .ok()
 }
 
-/// Writes until the connection is closed, which the other side and the reader see then.
-fn write<R: Wait + Drop, S: RowLog + Drop>(rt: R, alloc: Global, link: Arc<Link<S>>) {
-    let _end = write_shared(
+/// Writes until the connection is closed, or the other side is gone or takes nothing for long; that and the reader see it then. What
+/// still goes out is let go: the reader may wait until less does.
+fn write<R: Wait + Drop, S: RowLog + Drop>(rt: R, alloc: Global, link: Arc<Link<S>>) -> SessionEnd {
+    let patience = Some(Duration::from_secs(TAKE_SECONDS));
+    let _bounded = link.socket.set_write_timeout(patience);
+    let end = write_shared(
         &rt,
         alloc,
         &link.shared,
@@ -254,6 +272,8 @@ fn write<R: Wait + Drop, S: RowLog + Drop>(rt: R, alloc: Global, link: Arc<Link<
         &mut &link.socket,
     );
     link.shut();
+    link.drop_waiting(&rt);
+    end
 }
 
 /// Starts the thread that hangs up, on a connection that we opened; None where it can't be made.
@@ -305,12 +325,13 @@ pub fn peer_of(alloc: Global, socket: &TcpStream) -> Result<String, AllocError> 
     }
 }
 
-/// How a session has ended, in a word.
-fn why_ended(session: &Session) -> &'static str {
+/// How a session has ended whose writer has ended so, in a word.
+fn why_ended(session: &Session, written: SessionEnd) -> &'static str {
     if session.given.frozen {
         return "frozen";
     }
     match session.end {
+        SessionEnd::PeerClosed if written == SessionEnd::WriteFault => "write-fault",
         SessionEnd::PeerClosed if session.given.lost => "hung-up",
         SessionEnd::PeerClosed => "closed",
         SessionEnd::ReadFault => "read-fault",
