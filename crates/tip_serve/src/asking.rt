@@ -4,7 +4,7 @@ ghost use Rattle.tip_branch.specs.Always.{Always};
 use crate::server::{Server, Task};
 use std::alloc::AllocError;
 use std::slice;
-use std::sync::Wait;
+use std::sync::{Arc, Wait};
 use tip_control::{Answer, Request};
 use tip_duties::{Dial, Duties};
 use tip_host::{HostEvent, Seat};
@@ -126,10 +126,18 @@ where
         if !self.has_branches(&ask) {
             return ask.asker.answer(rt, Answer::Refused(Refusal::WrongCount));
         }
-        match self.connections.idle_for(rt, &ask) {
+        match self.idle_for(rt, &ask) {
             Some(link) => self.ask_on(rt, &link, ask),
             None => self.open_for(rt, ask),
         }
+    }
+
+    /// A connection of the realm that is idle, and fit for this: it is taken.
+    fn idle_for<R: Wait>(&self, rt: &R, ask: &Ask) -> Option<Arc<Link<S>>>
+        requires { Always }
+    {
+        let served = self.realms.get(ask.realm)?;
+        self.connections.idle_for(rt, &served.kept, ask)
     }
 
     /// Whether what is to be pulled has a box for each of the realm's branches.
@@ -217,7 +225,7 @@ where
         let Some(served) = self.realms.get(realm) else {
             return;
         };
-        if served.kept == 0 {
+        if served.kept.is_empty() {
             return;
         }
         let most = served.config.limits.connections as usize;
@@ -225,7 +233,7 @@ where
             Some(usage) if usage.connections >= most => {}
             _ => return,
         }
-        self.connections.shut_idle(rt, realm);
+        self.connections.shut_idle(rt, &served.kept);
     }
 }
 

@@ -5,14 +5,13 @@ use std::alloc::{AllocError, Global};
 use std::sync::{Arc, Wait};
 use std::thread::JoinHandle;
 use tip_notices::Ask;
-use tip_shared::Session;
-use tip_threads::Link;
+use tip_threads::{Link, LinkEnd};
 
 /// A connection whose threads run.
 #[derive(Drop)]
 pub struct Live<S> {
     pub link: Arc<Link<S>>,
-    pub thread: JoinHandle<Session>,
+    pub thread: JoinHandle<LinkEnd>,
 }
 
 /// The connections whose threads run, each at a place that its threads know.
@@ -83,14 +82,13 @@ impl<S: Drop> Connections<S> {
         }
     }
 
-    /// A connection of the realm that is idle, and fit for this: it is taken.
-    pub fn idle_for<R: Wait>(&self, rt: &R, ask: &Ask) -> Option<Arc<Link<S>>>
+    /// A connection at one of these places that is idle, and fit for this: it is taken.
+    pub fn idle_for<R: Wait>(&self, rt: &R, places: &[usize], ask: &Ask) -> Option<Arc<Link<S>>>
         requires { Always }
     {
         let address = ask.address()?;
-        for live in self.live.iter() {
-            if let Some(live) = live
-                && live.link.seat.realm == ask.realm
+        for place in places {
+            if let Some(Some(live)) = self.live.get(*place)
                 && let Some(kept) = &live.link.kept
                 && live.link.is_to(address)
                 && let Ok(link) = Arc::try_clone(&live.link)
@@ -102,16 +100,16 @@ impl<S: Drop> Connections<S> {
         None
     }
 
-    /// Those of a realm end that are kept and idle.
-    pub fn shut_idle<R: Wait>(&self, rt: &R, realm: usize)
+    /// Those at these places end that are kept and idle.
+    pub fn shut_idle<R: Wait>(&self, rt: &R, places: &[usize])
         requires { Always }
     {
-        for live in self.live.iter() {
-            if let Some(live) = live
-                && live.link.seat.realm == realm
+        for place in places {
+            if let Some(Some(live)) = self.live.get(*place)
                 && let Some(kept) = &live.link.kept
                 && kept.take(rt)
             {
+                kept.end(rt);
                 live.link.shut();
             }
         }

@@ -8,6 +8,7 @@ use tip_notices::Maker;
 use tip_rows::RowLog;
 use tip_session::SessionEnd;
 use tip_shared::Session;
+use tip_threads::LinkEnd;
 
 impl<'a, S: RowLog + Drop + Send + 'static> Server<'a, S>
 where
@@ -19,21 +20,16 @@ where
         let Some(Live { link, thread }) = self.connections.take(place) else {
             return;
         };
-        let Session {
-            end,
-            is_short,
-            pass,
-            ..
-        } = thread.join(rt);
+        let LinkEnd { session, hung_up } = thread.join(rt);
+        self.keep_pass(link.seat.realm, session);
+        if let Some(session) = hung_up {
+            self.keep_pass(link.seat.realm, session);
+        }
         if let Some(served) = self.realms.get_mut(link.seat.realm) {
-            let _kept = served.passes.push(pass);
-            served.unkeep(link.kept.is_some());
+            served.unkeep(place);
         }
         if link.dial.is_none() {
             self.ended = self.ended.saturating_add(1);
-        }
-        if is_short || end == SessionEnd::Memory {
-            self.is_short = true;
         }
         let Seat {
             realm,
@@ -46,5 +42,21 @@ where
         };
         self.say_doubts(rt, realm, Some(maker));
         self.end_session(rt, link.seat);
+    }
+
+    /// What a session of a realm has left: its pass is kept, for which there is room. Where memory was wanting the server is to end.
+    fn keep_pass(&mut self, realm: usize, session: Session) {
+        let Session {
+            end,
+            is_short,
+            pass,
+            ..
+        } = session;
+        if let Some(served) = self.realms.get_mut(realm) {
+            let _kept = served.passes.push(pass);
+        }
+        if is_short || end == SessionEnd::Memory {
+            self.is_short = true;
+        }
     }
 }

@@ -197,8 +197,10 @@ where
         link.note_opened(rt, self.alloc);
         let pass = self.shared.pass(self.alloc);
         let thread = start_session(rt, self.alloc, theirs, pass).map_err(|_| "no-thread")?;
-        if let Some(served) = self.realms.get_mut(seat.realm) {
-            served.keep(link.kept.is_some());
+        if link.kept.is_some()
+            && let Some(served) = self.realms.get_mut(seat.realm)
+        {
+            served.keep(place);
         }
         self.connections.put(place, Live { link, thread });
         Ok(())

@@ -27,8 +27,8 @@ pub struct Served<'a> {
     pub frozen: Option<u32>,
     /// Who is connected to its control port.
     pub slots: Arc<Slots>,
-    /// How many connections are kept for its operator.
-    pub kept: usize,
+    /// The places of the connections that are kept for its operator.
+    pub kept: Vec<usize>,
 }
 
 /// A start of a realm.
@@ -56,7 +56,7 @@ impl<'a> Served<'a> {
             starts,
             frozen: None,
             slots: Arc::new(alloc, Slots::new(alloc)?)?,
-            kept: 0,
+            kept: Vec::new(alloc),
         })
     }
 }
@@ -87,11 +87,14 @@ impl Served<'_> {
         self.sessions() / 2 >= connections.max(FEW_CONNECTIONS)
     }
 
-    /// Makes room for one start more, and for the passes of all sessions that have not ended, of one more, and of the top body.
+    /// Makes room for one start more, for one connection more that is kept, and for the passes of all sessions that have not ended and
+    /// of one more, two of each, and of the top body.
     pub fn reserve(&mut self) -> Result<(), AllocError> {
-        let sessions = self.sessions();
+        let sessions = self.sessions().saturating_add(1);
         self.starts.reserve(1)?;
-        self.passes.reserve(sessions.saturating_add(2))
+        self.kept.reserve(1)?;
+        self.passes
+            .reserve(sessions.saturating_mul(2).saturating_add(1))
     }
 
     /// Its journal is full in its present epoch, which the operator is to be told; None where he was.
@@ -118,18 +121,14 @@ impl Served<'_> {
         }
     }
 
-    /// A connection begins that is kept for the operator, if it is one.
-    pub fn keep(&mut self, is_kept: bool) {
-        if is_kept {
-            self.kept = self.kept.saturating_add(1);
-        }
+    /// A connection begins at a place that is kept for the operator, for which there is room.
+    pub fn keep(&mut self, place: usize) {
+        let _kept = self.kept.push(place);
     }
 
-    /// A connection has ended that was kept for the operator, if it was one.
-    pub fn unkeep(&mut self, is_kept: bool) {
-        if is_kept {
-            self.kept = self.kept.saturating_sub(1);
-        }
+    /// The connection at a place has ended, whether or not it was kept.
+    pub fn unkeep(&mut self, place: usize) {
+        self.kept.retain(|kept| *kept != place);
     }
 
     /// The realm has started again in this epoch, for which there is room.

@@ -11,4 +11,4 @@ mod running;
 
 pub use answering::ControlPort;
 pub use controlling::start_controls;
-pub use running::{Link, peer_of, start_session};
+pub use running::{Link, LinkEnd, peer_of, start_session};

@@ -4,6 +4,7 @@ use crate::heeding::Heeded;
 use std::alloc::{AllocError, Global};
 use std::net::{Shutdown, TcpStream};
 use std::sync::{Arc, Wait};
+use std::thread;
 use std::thread::{Builder, JoinHandle, Threads};
 use std::time::{Clock, Duration};
 use tip_duties::{Connection, Dial, Note};
@@ -17,8 +18,13 @@ use tip_session::{Outgoing, SessionEnd};
 use tip_shared::{Session, Shared, serve_shared, write_shared};
 use tip_sockets::{EVENT_STACK, SMALL_STACK};
 
-/// How long the other side of a connection may take nothing of what goes out to it.
-const TAKE_SECONDS: u64 = 300;
+/// How long the other side of a connection may take nothing of what goes out to it, or say nothing where we have called it for a row.
+const PATIENCE_SECONDS: u64 = 300;
+
+/// How often it is looked whether a reader has seen that its connection was hung up, and how long is waited between.
+const UNSEEN_LOOKS: u32 = 100;
+
+const UNSEEN_MILLIS: u64 = 10;
 
 /// What the threads of a connection share.
 #[derive(Drop)]
@@ -108,13 +114,21 @@ impl<S: RowLog + Drop> Link<S> {
     }
 }
 
+/// What the threads of a connection leave.
+#[derive(Drop)]
+pub struct LinkEnd {
+    pub session: Session,
+    /// Where the connection was hung up and its reader did not see that: another session, which said that it was lost.
+    pub hung_up: Option<Session>,
+}
+
 /// Starts the threads of a connection. Nothing has begun where memory, or a thread, is wanting.
 pub fn start_session<R, S>(
     rt: &R,
     alloc: Global,
     link: Arc<Link<S>>,
     pass: Pass<Entry>,
-) -> Result<JoinHandle<Session>, AllocError>
+) -> Result<JoinHandle<LinkEnd>, AllocError>
 where
     R: Wait + Threads + Clock + Eprint + Copy + Send + Drop + 'static,
     S: RowLog + Drop + Send + 'static,
@@ -128,32 +142,33 @@ where
 }
 
 /// Reads, while other threads write, and hang up in time. Its last act is to say that the session has ended.
-fn run_session<R, S>(rt: R, alloc: Global, link: Arc<Link<S>>, pass: Pass<Entry>) -> Session
+fn run_session<R, S>(rt: R, alloc: Global, link: Arc<Link<S>>, pass: Pass<Entry>) -> LinkEnd
 where
     R: Wait + Threads + Clock + Eprint + Copy + Send + Drop + 'static,
     S: RowLog + Drop + Send + 'static,
     S::Medium: Send,
 {
-    let (session, written) = match start_writer(&rt, alloc, &link) {
+    let (session, written, hung_up) = match start_writer(&rt, alloc, &link) {
         Some(writer) => {
-            let hanging = start_hanging_up(&rt, &link);
+            let hanging = start_hanging_up(&rt, alloc, &link);
             let session = read(&rt, alloc, &link, pass);
             end_kept(&rt, &link);
             let written = writer.join(&rt);
-            if let Some(thread) = hanging {
-                thread.join(&rt);
-            }
-            (session, written)
+            let hung_up = match hanging {
+                Some(thread) => thread.join(&rt),
+                None => None,
+            };
+            (session, written, hung_up)
         }
         None => {
             let session = read_nothing(&rt, alloc, &link, pass);
             end_kept(&rt, &link);
-            (session, SessionEnd::PeerClosed)
+            (session, SessionEnd::PeerClosed, None)
         }
     };
     link.note_ended(&rt, alloc, why_ended(&session, written));
     link.inbox.end(&rt, link.place);
-    session
+    LinkEnd { session, hung_up }
 }
 
 /// Whoever waits for a word on the connection is told that it has ended.
@@ -188,6 +203,10 @@ fn overhear<R: Wait + Eprint, S: RowLog + Drop>(
     link: &Link<S>,
     pass: Pass<Entry>,
 ) -> Session {
+    if link.dial.is_some() {
+        let patience = Some(Duration::from_secs(PATIENCE_SECONDS));
+        let _bounded = link.socket.set_read_timeout(patience);
+    }
     let mut reader = Overheard {
         rt,
         alloc,
@@ -261,7 +280,7 @@ where
 /// Writes until the connection is closed, or the other side is gone or takes nothing for long; that and the reader see it then. What
 /// still goes out is let go: the reader may wait until less does.
 fn write<R: Wait + Drop, S: RowLog + Drop>(rt: R, alloc: Global, link: Arc<Link<S>>) -> SessionEnd {
-    let patience = Some(Duration::from_secs(TAKE_SECONDS));
+    let patience = Some(Duration::from_secs(PATIENCE_SECONDS));
     let _bounded = link.socket.set_write_timeout(patience);
     let end = write_shared(
         &rt,
@@ -277,7 +296,11 @@ fn write<R: Wait + Drop, S: RowLog + Drop>(rt: R, alloc: Global, link: Arc<Link<
 }
 
 /// Starts the thread that hangs up, on a connection that we opened; None where it can't be made.
-fn start_hanging_up<R, S>(rt: &R, link: &Arc<Link<S>>) -> Option<JoinHandle<()>>
+fn start_hanging_up<R, S>(
+    rt: &R,
+    alloc: Global,
+    link: &Arc<Link<S>>,
+) -> Option<JoinHandle<Option<Session>>>
 where
     R: Wait + Threads + Clock + Copy + Send + Drop + 'static,
     S: RowLog + Drop + Send + 'static,
@@ -289,22 +312,45 @@ where
     let own = *rt;
     let theirs = Arc::try_clone(link).ok()?;
     Builder::new()
-        .stack_size(SMALL_STACK)
-        .spawn(rt, move || hang_up(own, theirs))
+        .stack_size(EVENT_STACK)
+        .spawn(rt, move || hang_up(own, alloc, theirs))
         .ok()
 }
 
 /// Ends a connection that we opened once nothing is under way on it, so that it doesn't count against its realm's limit; one that
 /// is kept for an operator only once nothing was asked on it for long.
-fn hang_up<R: Wait + Clock + Drop, S: RowLog + Drop>(rt: R, link: Arc<Link<S>>) {
+fn hang_up<R: Wait + Clock + Drop, S: RowLog + Drop>(
+    rt: R,
+    alloc: Global,
+    link: Arc<Link<S>>,
+) -> Option<Session> {
     for _ in rt.forever() {
         if !link.shared.wait_free(&rt, link.seat) {
-            return;
+            return None;
         }
         if !is_used_again(&rt, &link) {
-            return link.shut();
+            link.shut();
+            return lose_unseen(&rt, alloc, &link);
         }
     }
+    unreachable!()
+}
+
+/// A connection on which nothing was under way has ended, and its reader says that it is lost. It does not where it holds a line whose
+/// turn will not come, since it is not at the socket then: so that is said here.
+fn lose_unseen<R: Wait + Clock, S: RowLog + Drop>(
+    rt: &R,
+    alloc: Global,
+    link: &Link<S>,
+) -> Option<Session> {
+    for _ in 0..UNSEEN_LOOKS {
+        thread::sleep(rt, Duration::from_millis(UNSEEN_MILLIS));
+        if !link.shared.wait_free(rt, link.seat) {
+            return None;
+        }
+    }
+    let pass = link.shared.pass(alloc);
+    Some(read_nothing(rt, alloc, link, pass))
 }
 
 /// Offers a connection on which nothing is under way to the top body; false where it is not kept, or nothing was asked for long.
